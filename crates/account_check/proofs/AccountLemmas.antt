@@ -1,5 +1,6 @@
 -- Accounts record by record: their circuits stay, and they stand where their records lead.
-use Rattle.std.proofs.Common.{◌≡◌, Bool, true, false, List, [], ◌∷◌, ◌++◌, fold, Option, None, Some, if◌then◌else◌, refl, sym, ap, ◌∙◌}
+use Rattle.std.proofs.Common.{◌≡◌, ◌≤◌, ℕ, zero, suc, Bool, true, false, List, [], ◌∷◌, ◌++◌, length, take, get_or, fold, Option, None, Some, if◌then◌else◌, refl, sym, ap, subst, ◌∙◌, arith}
+use Rattle.std.proofs.Math.Seq.{take-suc, take-length}
 use Rattle.std.specs.Prelude.{unwrap_or}
 use Rattle.std.proofs.lemmas.List.Sums.{fold_push}
 use Rattle.cnf_core.specs.declared.log.LogLine.{LogLine}
@@ -13,11 +14,21 @@ use Rattle.account_file.specs.declared.record.Record.TheVariants as record_of
 use Rattle.account_file.specs.Order.{place_after, place_after_one, next_place}
 use Rattle.account_file.proofs.OrderLemmas.{none_stays}
 use Rattle.account_check.specs.Logs.{OpenFact}
-use Rattle.account_check.specs.Accounts.{Account, account_after, after, rest_after_line, empty_account}
+use Rattle.account_check.specs.Accounts.{Account, AreValid, HasFault, account_after, after, rest_after_line, empty_account}
 
 -- one record more
 pub account_after-push : (graphs : Graphs) (records : List Record) (entry : Record) → account_after graphs (records ++ entry ∷ []) ≡ after (account_after graphs records) entry
 account_after-push graphs records entry = fold_push after (empty_account graphs) records entry
+
+-- what is so before the first record, and with each valid record more, is so after valid records
+pub valid_records : (graphs : Graphs) (P : List Record → Type 0) → P [] → ((before : List Record) (entry : Record) → P before → HasFault (account_after graphs before) entry None → P (before ++ entry ∷ [])) → (records : List Record) → AreValid graphs records → P records
+valid_records graphs P first more records valid = subst P (take-length records) (up_to (length records) (omega arith))
+  where
+    up_to : (n : ℕ) → n ≤ length records → P (take n records)
+    up_to zero within = first
+    up_to (suc n) within =
+        let entry = get_or records n record_of.Header in
+        subst P (sym (take-suc records n record_of.Header within)) (more (take n records) entry (up_to n (omega (arith, within))) (valid n record_of.Header within))
 
 -- the circuits stay
 if_graphs : (b : Bool) (x y : Account) (graphs : Graphs) → x.graphs ≡ graphs → y.graphs ≡ graphs → (if b then x else y).graphs ≡ graphs

@@ -14,8 +14,8 @@ use Rattle.account_file.specs.declared.fault.FileStop.TheVariants as file
 use Rattle.account_file.specs.declared.place.Place.TheVariants as place
 use Rattle.account_file.specs.Lines.{whole_lines}
 use Rattle.account_file.specs.Order.{next_place}
-use Rattle.account_file.specs.Accounts.{AreRecords, IsNextRecord, SaysNext}
-use Rattle.account_file.specs.Reading.{Reading, HasRead, given_by}
+use Rattle.account_file.specs.Accounts.{AreRecords, HasFormFault, IsNextRecord, SaysNext}
+use Rattle.account_file.specs.Reading.{Reading, HasRead}
 use Rattle.account_file.specs.Texts.{Says}
 use Rattle.account_file.proofs.LawLemmas.{as_many}
 use Rattle.account_file.proofs.LineLemmas.{lines_stay}
@@ -26,12 +26,11 @@ use Rattle.account_check.specs.declared.reject.RecordStop.{RecordStop}
 use Rattle.account_check.specs.declared.reject.RecordStop.TheVariants as stop
 use Rattle.account_check.specs.declared.verdict.Verdict.{Verdict}
 use Rattle.account_check.specs.declared.verdict.Verdict.TheVariants as verdict
-use Rattle.account_check.specs.declared.verdict.Why.TheVariants as why
 use Rattle.account_check.specs.declared.verdict.CheckStop.{CheckStop}
-use Rattle.account_check.specs.declared.verdict.CheckStop.TheVariants.{Rejected, Memory}
-use Rattle.account_check.specs.Accounts.{Account, account_after, after, empty_account, verdict_of, HasFault}
+use Rattle.account_check.specs.declared.verdict.CheckStop.TheVariants.{Memory}
+use Rattle.account_check.specs.Accounts.{Account, after, empty_account, verdict_of, HasFault}
 use Rattle.account_check.specs.Verdicts.{IsVerdict}
-use Rattle.account_check.specs.Checking.{refused, unread, AreTaken, Goes, IsBadLine, IsChecking, IsDone, IsThrough, TakesAll}
+use Rattle.account_check.specs.Checking.{refused, unread, AreTaken, Goes, IsChecking, IsDone, IsThrough, TellsStop, Told}
 use Rattle.account_check.proofs.AccountLemmas.{account_after-push, account_graphs, account_place}
 use Rattle.account_check.proofs.VerdictLemmas.{valid_more}
 
@@ -78,9 +77,20 @@ through false graphs bytes old new account so_far says read stays no_fault = rec
   lines = subst (λ b. SaysNext bytes b so_far.records (Ok None)) so_far.finished_is says;
 }
 
+-- what is said of a text is said as something else
+told_as : {P Q : List ℕ → Type 0} (finished : Bool) (bytes : List ℕ) → ((text : List ℕ) → P text → Q text) → Told finished bytes P → Told finished bytes Q
+told_as {P} {Q} true bytes as_other told = as_other bytes told
+told_as {P} {Q} false bytes as_other told = λ more. as_other (bytes ++ more) (told more)
+
+-- where memory runs out, nothing is told
+pub memory_told : (finished : Bool) (graphs : Graphs) (bytes : List ℕ) → TellsStop finished graphs bytes Memory
+memory_told true graphs bytes = tt
+memory_told false graphs bytes = λ more. tt
+
 -- the next record of a text stays where the text goes on
-next_stays : (bytes more : List ℕ) (before : List Record) (entry : Record) → IsNextRecord bytes before entry → IsNextRecord (bytes ++ more) before entry
-next_stays bytes more before entry next =
+next_stays : (finished : Bool) (bytes : List ℕ) (before : List Record) (entry : Record) → IsNextRecord bytes before entry → Told finished bytes (λ text. IsNextRecord text before entry)
+next_stays true bytes before entry next = next
+next_stays false bytes before entry next = λ more.
     let n = length before + 1 in
     let lines = whole_lines bytes in
     let longer = lines_stay bytes more in
@@ -89,37 +99,26 @@ next_stays bytes more before entry next =
     let same : take n (whole_lines (bytes ++ more)) ≡ take n lines = ap (take n) longer.1 ∙ take-append-le n lines longer.0 within in
     subst (λ l. AreRecords l (before ++ entry ∷ [])) (sym same) next
 
+-- and so does its fault
+form_fault_stays : (finished : Bool) (bytes : List ℕ) (before : List Record) (fault : RecordFault) → SaysNext bytes finished before (Err fault) → Told finished bytes (λ text. HasFormFault text before fault)
+form_fault_stays true bytes before fault bad = bad
+form_fault_stays false bytes before fault bad = λ more. (fault_stays bytes more before fault bad).0
+
 -- a line isn't read
 pub unread_goes : (finished : Bool) (graphs : Graphs) (bytes : List ℕ) (old new : Reading) (account then : Account) (file_stop : FileStop) → (so_far : IsChecking finished graphs bytes old account) → Says {X = Option Record} (Err file_stop) (SaysNext bytes old.finished so_far.records) → HasRead new bytes (so_far.records ++ []) → ((fault : RecordFault) → file_stop ≡ file.Fault fault → new.fault ≡ Some fault) → Goes finished graphs bytes new then (Err (unread new.line file_stop))
-unread_goes finished graphs bytes old new account then file.Memory so_far says read told = tt
+unread_goes finished graphs bytes old new account then file.Memory so_far says read told = memory_told finished graphs bytes
 unread_goes finished graphs bytes old new account then (file.Fault fault) so_far says read told =
     let line = next_line so_far.records new bytes (length so_far.records + 1) (subst (HasRead new bytes) (append-nil so_far.records) read) (Some fault) (told fault refl) refl in
-    by finished line (subst (λ b. SaysNext bytes b so_far.records (Err fault)) so_far.finished_is says)
-  where
-    by : (f : Bool) → new.line ≡ length so_far.records + 1 → SaysNext bytes f so_far.records (Err fault) → IsBadLine f graphs bytes new.line (why.Form fault)
-    by true line bad = record { before = so_far.records; valid = so_far.valid; line_is = line; bad = bad }
-    by false line bad = λ more. record {
-      before = so_far.records;
-      valid = so_far.valid;
-      line_is = line;
-      bad = (fault_stays bytes more so_far.records fault bad).0;
-    }
+    told_as finished bytes (λ text bad. record { before = so_far.records; valid = so_far.valid; line_is = line; bad = bad })
+    (form_fault_stays finished bytes so_far.records fault (subst (λ b. SaysNext bytes b so_far.records (Err fault)) so_far.finished_is says))
 
 -- a record isn't taken
 pub refused_goes : (finished : Bool) (graphs : Graphs) (bytes : List ℕ) (old new : Reading) (account then : Account) (entry : Record) (record_stop : RecordStop) → (so_far : IsChecking finished graphs bytes old account) → IsNextRecord bytes so_far.records entry → HasRead new bytes (so_far.records ++ entry ∷ []) → new.fault ≡ None → ((reject : Reject) → record_stop ≡ stop.Reject reject → HasFault account entry (Some reject)) → Goes finished graphs bytes new then (Err (refused new.line record_stop))
-refused_goes finished graphs bytes old new account then entry stop.Memory so_far next read no_fault has = tt
+refused_goes finished graphs bytes old new account then entry stop.Memory so_far next read no_fault has = memory_told finished graphs bytes
 refused_goes finished graphs bytes old new account then entry (stop.Reject reject) so_far next read no_fault has =
     let line = next_line (so_far.records ++ entry ∷ []) new bytes (length so_far.records + 1) read None no_fault (omega (arith, length-append so_far.records (entry ∷ []))) in
-    by finished line (subst (λ a. HasFault a entry (Some reject)) so_far.account_is (has reject refl))
-  where
-    by : (f : Bool) → new.line ≡ length so_far.records + 1 → HasFault (account_after graphs so_far.records) entry (Some reject) → IsBadLine f graphs bytes new.line (why.Record reject)
-    by true line fault = record { before = so_far.records; valid = so_far.valid; line_is = line; bad = (entry, next, fault) }
-    by false line fault = λ more. record {
-      before = so_far.records;
-      valid = so_far.valid;
-      line_is = line;
-      bad = (entry, next_stays bytes more so_far.records entry next, fault);
-    }
+    let fault = subst (λ a. HasFault a entry (Some reject)) so_far.account_is (has reject refl) in
+    told_as finished bytes (λ text next. record { before = so_far.records; valid = so_far.valid; line_is = line; bad = (entry, next, fault) }) (next_stays finished bytes so_far.records entry next)
 
 -- where all records were taken, the account has ended
 pub ended_place : (graphs : Graphs) (bytes : List ℕ) (account : Account) → IsDone graphs bytes account → account.place ≡ place.Ended
@@ -144,13 +143,6 @@ pub match_there : (graphs : Graphs) (bytes : List ℕ) (account : Account) (told
 match_there graphs bytes account told matching is so e proved =
     let same : told ≡ verdict.Match matching = cc in
     subst (λ g. IsMatchOfFunctions g.first g.second matching.inputs matching.outputs) (done_graphs graphs bytes account is) (proved matching (sym so ∙ ap (λ (v : Verdict). Some v) same))
-
--- what was read, a record or none, and how far
-pub says_given : (bytes : List ℕ) (finished : Bool) (records : List Record) (given known : Option Record) → given ≡ known → Says {X = Option Record} (Ok given) (SaysNext bytes finished records) → SaysNext bytes finished records (Ok known)
-says_given bytes finished records given known is says = subst (λ o. SaysNext bytes finished records (Ok o)) is says
-
-pub read_given : (new : Reading) (bytes : List ℕ) (records : List Record) (given known : Option Record) → given ≡ known → HasRead new bytes (records ++ given_by {E = FileStop} (Ok given)) → HasRead new bytes (records ++ given_by {E = FileStop} (Ok known))
-read_given new bytes records given known is read = subst (λ o. HasRead new bytes (records ++ given_by {E = FileStop} (Ok o))) is read
 
 -- Whatever the text and the circuits are, an account that was under check still is.
 pub record StaysUnderCheck (reading : Reading) (account : Account) (now : Reading) (account_now : Account) : Type 0 where
@@ -190,33 +182,5 @@ whole graphs bytes old new account reads is so_far =
     read_on true graphs bytes bytes old new account (reads bytes) (ap (λ (r : Reading). r.finished) is) (ap (λ (r : Reading). r.fault) is) so_far
 
 -- what is so of the stop that `?` hands on
-handed : {X : Type 0} (P : Result X CheckStop → Type 0) (check_stop : CheckStop) (result : Result X CheckStop) → P (Err check_stop) → IsErrAnd result (λ handed. handed ≡ check_stop) → P result
+pub handed : {X : Type 0} (P : Result X CheckStop → Type 0) (check_stop : CheckStop) (result : Result X CheckStop) → P (Err check_stop) → IsErrAnd result (λ handed. handed ≡ check_stop) → P result
 handed {X} P check_stop result so same = let err = err_from_is_err_and result same in subst P (sym (err.1 ∙ ap Err err.2)) so
-
--- where memory runs out, nothing is told
-pub out_of_memory : (finished : Bool) (graphs : Graphs) (bytes : List ℕ) (reading : Reading) (account : Account) (result : Result (Unit {0}) CheckStop) → IsErrAnd result (λ handed. handed ≡ Memory) → TakesAll finished graphs bytes reading account result
-out_of_memory finished graphs bytes reading account result is = handed (TakesAll finished graphs bytes reading account) Memory result tt is
-
--- a bad line is told
-pub stopped : (finished : Bool) (graphs : Graphs) (bytes : List ℕ) (reading : Reading) (account : Account) (check_stop : CheckStop) (result : Result (Unit {0}) CheckStop) → Goes finished graphs bytes reading account (Err check_stop) → IsErrAnd result (λ handed. handed ≡ check_stop) → TakesAll finished graphs bytes reading account result
-stopped finished graphs bytes reading account check_stop result goes = handed (TakesAll finished graphs bytes reading account) check_stop result (told check_stop goes)
-  where
-    told : (s : CheckStop) → Goes finished graphs bytes reading account (Err s) → TakesAll finished graphs bytes reading account (Err s)
-    told (Rejected line reason) rejected = rejected
-    told Memory none = tt
-
--- and its verdict
-pub stopped_whole : (graphs : Graphs) (bytes : List ℕ) (reading : Reading) (account : Account) (check_stop : CheckStop) (result : Result Verdict CheckStop) → TakesAll true graphs bytes reading account (Err check_stop) → IsErrAnd result (λ handed. handed ≡ check_stop) → IsVerdict graphs bytes result
-stopped_whole graphs bytes reading account check_stop result goes = handed (IsVerdict graphs bytes) check_stop result (told check_stop goes)
-  where
-    told : (s : CheckStop) → TakesAll true graphs bytes reading account (Err s) → IsVerdict graphs bytes (Err s)
-    told (Rejected line reason) rejected = rejected
-    told Memory none = tt
-
--- a bad line of a whole text
-pub stopped_fed : (graphs : Graphs) (bytes : List ℕ) (reading : Reading) (account : Account) (check_stop : CheckStop) (result : Result Verdict CheckStop) → TakesAll false graphs bytes reading account (Err check_stop) → IsErrAnd result (λ handed. handed ≡ check_stop) → IsVerdict graphs bytes result
-stopped_fed graphs bytes reading account check_stop result goes = handed (IsVerdict graphs bytes) check_stop result (told check_stop goes)
-  where
-    told : (s : CheckStop) → TakesAll false graphs bytes reading account (Err s) → IsVerdict graphs bytes (Err s)
-    told (Rejected line reason) rejected = subst (λ b. IsVerdict graphs b (Err (Rejected line reason))) (append-nil bytes) (rejected [])
-    told Memory none = tt

@@ -1,6 +1,5 @@
 -- An account that is accepted as a match is one: its records lead from the conclusion through all logs of the match to the end.
-use Rattle.std.proofs.Common.{◌≡◌, ℕ, zero, suc, ◌+◌, ◌-◌, ◌/◌, ◌%◌, ◌==◌, ◌<◌, ◌≤◌, Bool, true, false, List, [], ◌∷◌, ◌++◌, length, take, get_or, Option, None, Some, refl, sym, ap, subst, ◌∙◌, arith, eqb-true, if◌then◌else◌}
-use Rattle.std.proofs.Math.Seq.{take-suc, take-length}
+use Rattle.std.proofs.Common.{◌≡◌, ℕ, zero, suc, ◌+◌, ◌-◌, ◌/◌, ◌%◌, ◌==◌, ◌<◌, Bool, true, false, List, [], ◌∷◌, ◌++◌, Option, None, Some, refl, sym, ap, subst, ◌∙◌, arith, eqb-true, if◌then◌else◌}
 use Rattle.std.proofs.lemmas.List.Sums.{fold_push}
 use Rattle.circuits.specs.declared.port.Pair.{Pair}
 use Rattle.circuits.specs.Matches.{HavePorts, IsMatchOfFunctions}
@@ -28,7 +27,7 @@ use Rattle.account_check.specs.Conclusions.{AreWhole, ConclusionTests, matching_
 use Rattle.account_check.specs.Logs.{OpenFact, Proof, line_reject, log_count, with_fact, log_query, match_reject, unproved, with_line}
 use Rattle.account_check.specs.Proofs.{AreRefuted, IsLogSoFar}
 use Rattle.account_check.specs.Verdicts.{IsAccepted}
-use Rattle.account_check.proofs.AccountLemmas.{account_after-push, account_graphs, some_place, no_place}
+use Rattle.account_check.proofs.AccountLemmas.{account_after-push, account_graphs, some_place, no_place, valid_records}
 use Rattle.account_check.proofs.LogLemmas.{log_begun, log_more, proved, refuted_by, refuted_more}
 use Rattle.account_check.proofs.PairLemmas.{outputs_counted}
 use Rattle.account_check.proofs.RefusalLemmas.{concluded_so}
@@ -215,33 +214,26 @@ placed place.Ended account elsewhere known = record { same = known.same; logs = 
 placed at account elsewhere known = known
 
 -- an account after valid records, where it stands
-known_first : (graphs : Graphs) (records : List Record) (n : ℕ) (at : Place) → AreValid graphs records → n ≤ length records → place_after (take n records) ≡ Some at → IsKnownAt at (account_after graphs (take n records))
-known_first graphs records zero at valid within e = known_there place.Start at (empty_account graphs) e refl
-known_first graphs records (suc n) at valid within e =
-    by (place_after before) refl (λ here is. known_first graphs records n here valid (omega arith) is)
+abbrev KnownWhere : Graphs → List Record → Type 0
+KnownWhere graphs records = (at : Place) → place_after records ≡ Some at → IsKnownAt at (account_after graphs records)
+
+known_more : (graphs : Graphs) (before : List Record) (entry : Record) → KnownWhere graphs before → HasFault (account_after graphs before) entry None → KnownWhere graphs (before ++ entry ∷ [])
+known_more graphs before entry known fine at e = by (place_after before) refl
   where
-    before : List Record
-    before = take n records
-
-    entry : Record
-    entry = get_or records n entry_of.Header
-
     account : Account
     account = account_after graphs before
 
-    longer : take (suc n) records ≡ before ++ entry ∷ []
-    longer = take-suc records n entry_of.Header within
-
     leads : place_after_one (place_after before) entry ≡ Some at
-    leads = sym (fold_push place_after_one (Some place.Start) before entry) ∙ (ap place_after (sym longer) ∙ e)
+    leads = sym (fold_push place_after_one (Some place.Start) before entry) ∙ e
 
-    there : IsKnownAt at (with_record account entry) → IsKnownAt at (account_after graphs (take (suc n) records))
-    there known = subst (IsKnownAt at) (sym (ap (account_after graphs) longer ∙ account_after-push graphs before entry)) (placed at (with_record account entry) _ known)
+    by : (found : Option Place) → place_after before ≡ found → IsKnownAt at (account_after graphs (before ++ entry ∷ []))
+    by None is = absurd (no_place at (subst (λ o. place_after_one o entry ≡ Some at) is leads))
+    by (Some here) is =
+        let now = known_after here account entry at (known here is) fine (subst (λ o. place_after_one o entry ≡ Some at) is leads) in
+        subst (IsKnownAt at) (sym (account_after-push graphs before entry)) (placed at (with_record account entry) _ now)
 
-    by : (found : Option Place) → place_after before ≡ found → ((here : Place) → place_after before ≡ Some here → IsKnownAt here account) → IsKnownAt at (account_after graphs (take (suc n) records))
-    by None is known = absurd (no_place at (subst (λ o. place_after_one o entry ≡ Some at) is leads))
-    by (Some here) is known =
-        there (known_after here account entry at (known here is) (valid n entry_of.Header within) (subst (λ o. place_after_one o entry ≡ Some at) is leads))
+known_records : (graphs : Graphs) (records : List Record) → AreValid graphs records → KnownWhere graphs records
+known_records graphs = valid_records graphs (KnownWhere graphs) (λ at e. known_there place.Start at (empty_account graphs) e refl) (known_more graphs)
 
 -- an account that has ended
 matched : (account : Account) (matching : Matching) → IsGraph account.graphs.first → IsGraph account.graphs.second → IsMatchSoFar account 0 → account.concluded ≡ Some (verdict.Match matching) → IsMatchOfFunctions account.graphs.first account.graphs.second matching.inputs matching.outputs
@@ -256,9 +248,7 @@ right_match graphs bytes matching first second accepted =
     let records = accepted.records in
     let account = account_after graphs records in
     let same : account.graphs ≡ graphs = account_graphs graphs records in
-    let whole : take (length records) records ≡ records = take-length records in
-    let ended = ap place_after whole ∙ accepted.account.ended in
-    let so_far : IsMatchSoFar account 0 = subst (λ l. IsMatchSoFar (account_after graphs l) 0) whole (known_first graphs records (length records) place.Ended accepted.valid (omega arith) ended) in
+    let so_far = known_records graphs records accepted.valid place.Ended accepted.account.ended in
     let concluded = concluded_so account.place account.concluded (verdict.Match matching) accepted.verdict_is in
     let first_there = subst (λ (g : Graphs). IsGraph g.first) (sym same) first in
     let second_there = subst (λ (g : Graphs). IsGraph g.second) (sym same) second in

@@ -1,9 +1,8 @@
 -- Valid records keep an account right: facts are true, bans exclude, and a refusal that it concludes in is one.
-use Rattle.std.proofs.Common.{◌≡◌, ℕ, zero, suc, ◌≤◌, ◌++◌, ◌||◌, Bool, true, false, List, [], ◌∷◌, length, take, get_or, Option, None, Some, refl, sym, ap, subst, ◌∙◌, arith, if◌then◌else◌}
+use Rattle.std.proofs.Common.{◌≡◌, ℕ, ◌++◌, ◌||◌, Bool, true, false, List, [], ◌∷◌, Option, None, Some, refl, sym, ap, subst, ◌∙◌, arith, if◌then◌else◌}
 use Rattle.std.specs.List.{list_any}
 use Rattle.std.proofs.lemmas.List.Elements.{All-nil, All-push}
 use Rattle.std.proofs.lemmas.List.Folds.{list_any-append}
-use Rattle.std.proofs.Math.Seq.{take-suc, take-length}
 use Rattle.circuits.specs.declared.port.Pair.{Pair}
 use Rattle.cnf_core.specs.declared.fault.LineFault.{LineFault}
 use Rattle.cnf_core.specs.declared.literal.SatLit.{SatLit}
@@ -47,7 +46,7 @@ use Rattle.account_check.specs.Tests.{Passed, Unless}
 use Rattle.account_check.specs.Accounts.{AreValid}
 use Rattle.account_check.proofs.LogLemmas.{log_begun, log_more, refuted_by}
 use Rattle.account_check.proofs.TestLemmas.{through}
-use Rattle.account_check.proofs.AccountLemmas.{account_after-push, account_graphs}
+use Rattle.account_check.proofs.AccountLemmas.{account_after-push, account_graphs, valid_records}
 
 -- a claim whose ports are there, a swap's lesser input first, is one
 placed : (n : ℕ) (shape : Shape) → AreInputs n shape → IsLesserFirst shape → IsPlaced n shape
@@ -227,19 +226,15 @@ right_at_first graphs = record {
     no_verdict e = cc
 
 -- an account after valid records
-first_right : (graphs : Graphs) (records : List Record) (n : ℕ) → IsGraph graphs.first → IsGraph graphs.second → AreValid graphs records → n ≤ length records → IsRight (account_after graphs (take n records))
-first_right graphs records zero first second valid within = right_at_first graphs
-first_right graphs records (suc n) first second valid within =
-    let before = first_right graphs records n first second valid (omega arith) in
-    let account = account_after graphs (take n records) in
-    let entry = get_or records n entry_of.Header in
-    let same : account.graphs ≡ graphs = account_graphs graphs (take n records) in
-    let step = right_after account entry (subst (λ (g : Graphs). IsGraph g.first) (sym same) first) (subst (λ (g : Graphs). IsGraph g.second) (sym same) second) before (valid n entry_of.Header within) in
-    subst IsRight (sym (ap (account_after graphs) (take-suc records n entry_of.Header within) ∙ account_after-push graphs (take n records) entry)) step
-
 pub right_records : (graphs : Graphs) (records : List Record) → IsGraph graphs.first → IsGraph graphs.second → AreValid graphs records → IsRight (account_after graphs records)
-right_records graphs records first second valid =
-    subst (λ l. IsRight (account_after graphs l)) (take-length records) (first_right graphs records (length records) first second valid (omega arith))
+right_records graphs records first second =
+    valid_records graphs (λ before. IsRight (account_after graphs before)) (right_at_first graphs) more records
+  where
+    more : (before : List Record) (entry : Record) → IsRight (account_after graphs before) → HasFault (account_after graphs before) entry None → IsRight (account_after graphs (before ++ entry ∷ []))
+    more before entry right fine =
+        let same = sym (account_graphs graphs before) in
+        subst IsRight (sym (account_after-push graphs before entry))
+        (right_after (account_after graphs before) entry (subst (λ (g : Graphs). IsGraph g.first) same first) (subst (λ (g : Graphs). IsGraph g.second) same second) right fine)
 
 -- the facts and bans of valid records
 pub right_prefix : (graphs : Graphs) (records : List Record) → IsGraph graphs.first → IsGraph graphs.second → AreValid graphs records → AreRight graphs (account_after graphs records).given

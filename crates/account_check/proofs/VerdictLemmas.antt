@@ -1,6 +1,5 @@
 -- The verdict of an account's bytes is one, and each step of the check tells it.
-use Rattle.std.proofs.Common.{◌≡◌, ◌≢◌, ℕ, suc, ◌+◌, ◌<◌, ◌≤◌, true, List, [], ◌∷◌, ◌++◌, length, get_or, take, slice_index_or, Option, None, Some, Result, Ok, Err, refl, sym, ap, subst, ◌∙◌, arith, inl, inr, length-append, length-take, take-suc, take-take, take_all}
-use Rattle.std.specs.List.{AllZip}
+use Rattle.std.proofs.Common.{◌≡◌, ◌≢◌, ℕ, ◌+◌, ◌<◌, true, List, [], ◌∷◌, ◌++◌, length, get_or, take, slice_index_or, Option, None, Some, Result, Ok, Err, refl, sym, ap, subst, ◌∙◌, arith, inl, inr, length-append}
 use Rattle.std.proofs.lemmas.Bool.{cases_lt}
 use Rattle.std.proofs.lemmas.List.{get_or_append_left, get_or-append-add, take-append-le}
 use Rattle.std.proofs.Math.Seq.{take-length}
@@ -9,9 +8,8 @@ use Rattle.account_file.specs.declared.record.Record.{Record}
 use Rattle.account_file.specs.declared.record.Record.TheVariants as record_of
 use Rattle.account_file.specs.declared.fault.RecordFault.{RecordFault}
 use Rattle.account_file.specs.Lines.{whole_lines}
-use Rattle.account_file.specs.Accounts.{AreRecords, HasForm, IsAccountOf, IsNextRecord}
-use Rattle.account_file.proofs.LawLemmas.{as_many, one_answer, same_records, forms_of_front}
-use Rattle.account_file.proofs.OrderLemmas.{take_in_order}
+use Rattle.account_file.specs.Accounts.{AreRecords, IsAccountOf, IsNextRecord}
+use Rattle.account_file.proofs.LawLemmas.{at_all, front_records, further, one_answer, one_place, same_records}
 use Rattle.account_check.specs.declared.reject.Reject.{Reject}
 use Rattle.account_check.specs.declared.verdict.Verdict.{Verdict}
 use Rattle.account_check.specs.declared.verdict.Why.{Why}
@@ -39,12 +37,6 @@ valid_more graphs records entry valid fine k d below =
           subst (λ e. HasFault (account_after graphs (take k (records ++ entry ∷ []))) e None) (sym here) (subst (λ rs. HasFault (account_after graphs rs) entry None) (sym prior) fine)
     ]
 
-pub front_records : (lines : List (List ℕ)) (records : List Record) (k n : ℕ) → AreRecords (take n lines) records → k ≤ n → AreRecords (take k lines) (take k records)
-front_records lines records k n are few = record {
-  form = subst (λ l. AllZip HasForm l (take k records)) (take-take k n lines few) (forms_of_front (take n lines) records k are.form);
-  order = take_in_order k records are.order;
-}
-
 -- the records before a bad line
 before_bad : (graphs : Graphs) (bytes : List ℕ) (before : List Record) (reason : Why) → IsBad graphs bytes before reason → AreRecords (take (length before) (whole_lines bytes)) before
 before_bad graphs bytes before (why.Form fault) bad = bad.records
@@ -67,20 +59,11 @@ bad_and_valid graphs bytes before entry (why.Record reject) bad next fine =
     cc
 
 -- more records, of which the first are these
-further : (graphs : Graphs) (bytes : List ℕ) (before more : List Record) (reason : Why) → IsBad graphs bytes before reason → AreRecords (take (length more) (whole_lines bytes)) more → AreValid graphs more → length before < length more → ⊥
-further graphs bytes before more reason bad many valid below =
-    let lines = whole_lines bytes in
-    let k = length before in
-    let few = before_bad graphs bytes before reason bad in
-    let front = front_records lines more k (length more) many (omega (arith, below)) in
-    let same : before ≡ take k more = same_records (take k lines) before (take k more) few.form front.form in
-    let entry = get_or more k record_of.End in
-    let next : AreRecords (take (suc k) lines) (take (suc k) more) = front_records lines more (suc k) (length more) many (omega (arith, below)) in
-    let split : take (suc k) more ≡ before ++ entry ∷ [] = take-suc more k record_of.End below ∙ ap (λ r. r ++ entry ∷ []) (sym same) in
-    let one : suc k ≡ k + 1 = omega arith in
-    let is_next : IsNextRecord bytes before entry = subst (λ n. AreRecords (take n lines) (before ++ entry ∷ [])) one (subst (AreRecords (take (suc k) lines)) split next) in
-    let fine = subst (λ rs. HasFault (account_after graphs rs) entry None) (sym same) (valid k record_of.End below) in
-    bad_and_valid graphs bytes before entry reason bad is_next fine
+bad_and_more : (graphs : Graphs) (bytes : List ℕ) (before more : List Record) (reason : Why) → IsBad graphs bytes before reason → AreRecords (take (length more) (whole_lines bytes)) more → AreValid graphs more → length before < length more → ⊥
+bad_and_more graphs bytes before more reason bad many valid below =
+    let entry = get_or more (length before) record_of.End in
+    let on = further (whole_lines bytes) before more (before_bad graphs bytes before reason bad) many below in
+    bad_and_valid graphs bytes before entry reason bad on.next (subst (λ rs. HasFault (account_after graphs rs) entry None) (sym on.same) (valid (length before) record_of.End below))
 
 -- a line is bad for one reason
 same_bad : (graphs : Graphs) (bytes : List ℕ) (before : List Record) (first second : Why) → IsBad graphs bytes before first → IsBad graphs bytes before second → first ≡ second
@@ -104,18 +87,11 @@ same_bad graphs bytes before (why.Record a) (why.Record b) one other =
 
 -- an account has one first bad line
 pub one_rejection : (graphs : Graphs) (bytes : List ℕ) (line other : ℕ) (first second : Why) → IsRejected graphs bytes line first → IsRejected graphs bytes other second → (line ≡ other) × (first ≡ second)
-one_rejection graphs bytes line other first second f s = elim (cases_lt (length f.before) (length s.before)) [
-  | inl less ↦ absurd (further graphs bytes f.before s.before first f.bad (before_bad graphs bytes s.before second s.bad) s.valid less)
-  | inr least ↦ elim (cases_lt (length s.before) (length f.before)) [
-    | inl less ↦ absurd (further graphs bytes s.before f.before second s.bad (before_bad graphs bytes f.before first f.bad) f.valid less)
-    | inr most ↦
-        let count : length s.before ≡ length f.before = omega (arith, least, most) in
-        let one = before_bad graphs bytes f.before first f.bad in
-        let two = before_bad graphs bytes s.before second s.bad in
-        let same : f.before ≡ s.before = same_records (take (length f.before) (whole_lines bytes)) f.before s.before one.form (subst (λ n. AllZip HasForm (take n (whole_lines bytes)) s.before) count two.form) in
-        (f.line_is ∙ (ap (λ n. n + 1) (sym count) ∙ sym s.line_is), same_bad graphs bytes s.before first second (subst (λ r. IsBad graphs bytes r first) same f.bad) s.bad)
-  ]
-]
+one_rejection graphs bytes line other first second f s =
+    let same = one_place (whole_lines bytes) (λ records. (reason : Why) × IsBad graphs bytes records reason × AreValid graphs records) (λ records bad. before_bad graphs bytes records bad.0 bad.1)
+    (λ records more bad others less. bad_and_more graphs bytes records more bad.0 bad.1 (before_bad graphs bytes more others.0 others.1) others.2 less)
+    f.before s.before (first, f.bad, f.valid) (second, s.bad, s.valid) in
+    (f.line_is ∙ (ap (λ records. length records + 1) same ∙ sym s.line_is), same_bad graphs bytes s.before first second (subst (λ r. IsBad graphs bytes r first) same f.bad) s.bad)
 
 -- and it proves one verdict
 pub one_proved : (graphs : Graphs) (bytes : List ℕ) (first second : Verdict) → IsAccepted graphs bytes first → IsAccepted graphs bytes second → first ≡ second
@@ -127,21 +103,10 @@ one_proved graphs bytes first second f s =
 -- what is accepted has no bad line
 pub never_both : (graphs : Graphs) (bytes : List ℕ) (told : Verdict) (line : ℕ) (reason : Why) → IsAccepted graphs bytes told → IsRejected graphs bytes line reason → ⊥
 never_both graphs bytes told line reason accepted rejected =
-    let lines = whole_lines bytes in
     let records = accepted.records in
-    let before = rejected.before in
-    let count : length lines ≡ length records = as_many lines records accepted.account.records_are.form in
-    let whole : take (length records) lines ≡ lines = take_all (length records) lines (omega (arith, count)) in
-    let are : AreRecords (take (length records) lines) records = subst (λ l. AreRecords l records) (sym whole) accepted.account.records_are in
-    let few = before_bad graphs bytes before reason rejected.bad in
-    let some = as_many (take (length before) lines) before few.form in
-    elim (cases_lt (length before) (length records)) [
-      | inl less ↦ further graphs bytes before records reason rejected.bad are accepted.valid less
-      | inr least ↦
-          let same_count : length before ≡ length records = omega (arith, least, some, count, length-take (length before) lines) in
-          let same : before ≡ records = same_records (take (length records) lines) before records (subst (λ n. AllZip HasForm (take n lines) before) same_count few.form) are.form in
-          ends records reason (subst (λ r. IsBad graphs bytes r reason) same rejected.bad) accepted.account
-    ]
+    let same = at_all (whole_lines bytes) records rejected.before accepted.account.records_are (before_bad graphs bytes rejected.before reason rejected.bad)
+    (λ are less. bad_and_more graphs bytes rejected.before records reason rejected.bad are accepted.valid less) in
+    ends records reason (subst (λ r. IsBad graphs bytes r reason) same rejected.bad) accepted.account
   where
     ends : (records : List Record) (reason : Why) → IsBad graphs bytes records reason → IsAccountOf bytes records → ⊥
     ends records (why.Form fault) bad account =

@@ -9,12 +9,11 @@ use Rattle.account_file.specs.Lines.{whole_lines}
 use Rattle.account_file.specs.Reading.{Reading, HasRead}
 use Rattle.account_check.specs.declared.reject.RecordStop.{RecordStop}
 use Rattle.account_check.specs.declared.reject.RecordStop.TheVariants as stop
-use Rattle.account_check.specs.declared.verdict.Why.{Why}
 use Rattle.account_check.specs.declared.verdict.Why.TheVariants as why
 use Rattle.account_check.specs.declared.verdict.CheckStop.{CheckStop}
 use Rattle.account_check.specs.declared.verdict.CheckStop.TheVariants.{Rejected, Memory}
 use Rattle.account_check.specs.Accounts.{Account, account_after, AreValid}
-use Rattle.account_check.specs.Verdicts.{IsRejected}
+use Rattle.account_check.specs.Verdicts.{IsVerdict}
 
 -- Some records of a text were read and taken, without a fault. More bytes may come, or none (`finished`).
 pub record IsChecking (finished : Bool) (graphs : Graphs) (bytes : List ℕ) (reading : Reading) (account : Account) : Type 0 where
@@ -46,23 +45,25 @@ abbrev pub IsThrough : Bool → Graphs → List ℕ → Reading → Account → 
 IsThrough true graphs bytes reading account = IsDone graphs bytes account
 IsThrough false graphs bytes reading account = AreTaken graphs bytes reading account
 
--- the first bad line of a text, whatever comes after it where more bytes may come
-abbrev pub IsBadLine : Bool → Graphs → List ℕ → ℕ → Why → Type 0
-IsBadLine true graphs bytes line reason = IsRejected graphs bytes line reason
-IsBadLine false graphs bytes line reason = (more : List ℕ) → IsRejected graphs (bytes ++ more) line reason
+-- what is said of a text; of whatever it goes on as, where more bytes may come
+abbrev pub Told : Bool → List ℕ → (List ℕ → Type 0) → Type 0
+Told true bytes P = P bytes
+Told false bytes P = (more : List ℕ) → P (bytes ++ more)
+
+-- what a stop tells: the first bad line of a text
+abbrev pub TellsStop : Bool → Graphs → List ℕ → CheckStop → Type 0
+TellsStop finished graphs bytes stop = Told finished bytes (λ text. IsVerdict graphs text (Err stop))
 
 -- what a step tells: one record more was taken, or all are, or the next line is bad
 abbrev pub Goes : Bool → Graphs → List ℕ → Reading → Account → Result Bool CheckStop → Type 0
 Goes finished graphs bytes reading account (Ok true) = IsChecking finished graphs bytes reading account
 Goes finished graphs bytes reading account (Ok false) = IsThrough finished graphs bytes reading account
-Goes finished graphs bytes reading account (Err (Rejected line reason)) = IsBadLine finished graphs bytes line reason
-Goes finished graphs bytes reading account (Err Memory) = Unit {0}
+Goes finished graphs bytes reading account (Err stop) = TellsStop finished graphs bytes stop
 
 -- what all steps tell: all records are taken, or a line is bad
 abbrev pub TakesAll : Bool → Graphs → List ℕ → Reading → Account → Result (Unit {0}) CheckStop → Type 0
 TakesAll finished graphs bytes reading account (Ok done) = IsThrough finished graphs bytes reading account
-TakesAll finished graphs bytes reading account (Err (Rejected line reason)) = IsBadLine finished graphs bytes line reason
-TakesAll finished graphs bytes reading account (Err Memory) = Unit {0}
+TakesAll finished graphs bytes reading account (Err stop) = TellsStop finished graphs bytes stop
 
 -- How far an account was read, and what its records came to.
 pub record Progress : Type 0 where

@@ -37,7 +37,7 @@ pub record HasNoSource (pairs : List Pair) (values : List Tri) (place : ℕ) : T
   pub none : (pair : Pair) → Contains pairs pair → pair.kind ≡ Input → pair.to ≢ place
   pub value : value_sent pairs values place ≡ X
 
-source : (pairs : List Pair) (values : List Tri) (place : ℕ) → ((pair : Pair) × IsSource pairs values place pair) ⊎ HasNoSource pairs values place
+pub source : (pairs : List Pair) (values : List Tri) (place : ℕ) → ((pair : Pair) × IsSource pairs values place pair) ⊎ HasNoSource pairs values place
 source [] values place = inr (record { none = λ pair held. absurd (omega (arith, held.1)); value = refl })
 source (one ∷ pairs) values place =
     elim (cases_Bool (goes_to place one)) [

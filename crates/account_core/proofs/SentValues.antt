@@ -1,6 +1,6 @@
 -- What the pairs make of values at the second circuit's inputs.
-use Rattle.std.proofs.Common.{◌≡◌, ◌≢◌, ℕ, zero, suc, ◌<◌, ◌≤◌, ◌&&◌, Bool, true, false, eqb, List, [], ◌∷◌, length, map, refl, sym, ap, subst, ◌∙◌, inl, inr, arith, eqb-true}
-use Rattle.std.proofs.lemmas.Bool.{cases_Bool, cases_lt, and_parts, cond-true, cond-false}
+use Rattle.std.proofs.Common.{◌≡◌, ◌≢◌, ℕ, zero, suc, ◌<◌, ◌≤◌, Bool, true, false, List, [], ◌∷◌, length, map, refl, sym, ap, subst, ◌∙◌, inl, inr, arith}
+use Rattle.std.proofs.lemmas.Bool.{cases_lt}
 use Rattle.std.proofs.lemmas.List.{length-map, get_or-map}
 use Rattle.std.proofs.lemmas.List.FromFn.{length-map-range_with_len, get_or-map-range_with_len}
 use Rattle.std.proofs.lemmas.List.Elements.{All-contains}
@@ -12,14 +12,15 @@ use Rattle.circuits.specs.Bijections.{IsSignedBijection, Moves, moved, place_of,
 use Rattle.circuits.proofs.Places.{moved-moves, length-moved}
 use Rattle.net_core.specs.Sides.{Graphs}
 use Rattle.net_core.specs.Graph.{IsGraph}
-use Rattle.query_core.specs.Images.{HasPair, Extends, same_kind}
+use Rattle.query_core.specs.Images.{HasPair, Extends}
 use Rattle.word_sim.specs.declared.tri.Tri.{Tri}
 use Rattle.word_sim.specs.declared.tri.Tri.TheVariants.{Zero, One, X}
 use Rattle.word_sim.specs.ThreeValues.{tri_outputs, IsBitOf, FillsIn}
 use Rattle.word_sim.proofs.Fillings.{FillsIn-outputs}
 use Rattle.account_core.specs.Vectors.{value_at, signed, value_sent, values_sent, ShowsDifference}
 use Rattle.account_core.specs.Exclusions.{Excludes}
-use Rattle.account_core.proofs.Matched.{kind_is, pair_goes, pair_of-held}
+use Rattle.account_core.proofs.Matched.{pair_goes, pair_of-held}
+use Rattle.account_core.proofs.SentOnly.{source}
 
 -- each X filled in by 0
 abbrev pub is_one : Tri → Bool
@@ -69,24 +70,15 @@ value_bit values x k fills =
 
 -- what a place gets is what the vector moved has there
 sent_bit : (p q : List (ℕ × Bool)) (pairs : List Pair) (values : List Tri) (x y : List Bool) (place : ℕ) → Moves p x y → FillsIn values x → Extends pairs p q → IsBitOf (value_sent pairs values place) (bit y place)
-sent_bit p q [] values x y place moves fills extends = tt
-sent_bit p q (pair ∷ pairs) values x y place moves fills extends =
-    elim (cases_Bool (same_kind pair.kind Input && eqb pair.to place)) [
-      | inl here ↦
-          let parts = and_parts (same_kind pair.kind Input) (eqb pair.to place) here in
-          subst (λ v. IsBitOf v (bit y place)) (sym (cond-true (same_kind pair.kind Input && eqb pair.to place) (signed pair.flip (value_at values pair.from)) (value_sent pairs values place) here)) (paired (kind_is pair.kind Input parts.0) (eqb-true pair.to place parts.1))
-      | inr other ↦
-          subst (λ v. IsBitOf v (bit y place)) (sym (cond-false (same_kind pair.kind Input && eqb pair.to place) (signed pair.flip (value_at values pair.from)) (value_sent pairs values place) other)) (sent_bit p q pairs values x y place moves fills (λ k d h. extends (suc k) d (omega arith)))
+sent_bit p q pairs values x y place moves fills extends =
+    elim (source pairs values place) [
+      | inl (pair, is) ↦
+          let found = pair_goes p q pair Input (All-contains (HasPair p q) pairs pair extends is.held) is.of_input in
+          let moved_bit : bit y place ≡ differ (bit x pair.from) pair.flip = ap (λ k. bit y k) (sym (found.1 ∙ is.goes)) ∙ (moves.bits pair.from found.0 ∙ ap (λ s. differ (bit x pair.from) s) found.2) in
+          subst (λ v. IsBitOf v (bit y place)) (sym is.value)
+          (subst (λ b. IsBitOf (signed pair.flip (value_at values pair.from)) b) (sym moved_bit) (signed_bit pair.flip (value_at values pair.from) (bit x pair.from) (value_bit values x pair.from fills)))
+      | inr none ↦ subst (λ v. IsBitOf v (bit y place)) (sym none.value) tt
     ]
-  where
-    has : HasPair p q pair
-    has = extends 0 pair (omega arith)
-
-    paired : pair.kind ≡ Input → pair.to ≡ place → IsBitOf (signed pair.flip (value_at values pair.from)) (bit y place)
-    paired kind to =
-        let found = pair_goes p q pair Input has kind in
-        let moved_bit : bit y place ≡ differ (bit x pair.from) pair.flip = ap (λ k. bit y k) (sym (found.1 ∙ to)) ∙ (moves.bits pair.from found.0 ∙ ap (λ s. differ (bit x pair.from) s) found.2) in
-        subst (λ b. IsBitOf (signed pair.flip (value_at values pair.from)) b) (sym moved_bit) (signed_bit pair.flip (value_at values pair.from) (bit x pair.from) (value_bit values x pair.from fills))
 
 sent_fills : (p q : List (ℕ × Bool)) (pairs : List Pair) (n : ℕ) (values : List Tri) (x y : List Bool) → Moves p x y → length y ≡ n → FillsIn values x → Extends pairs p q → FillsIn (values_sent pairs n values) y
 sent_fills p q pairs n values x y moves same fills extends = record {

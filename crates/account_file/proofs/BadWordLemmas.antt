@@ -16,7 +16,7 @@ use Rattle.account_file.proofs.RecordLemmas.{text_words, written_is_read, read_i
 -- words that are read begin a line
 begins : (front : List (List ℕ)) (word : List ℕ) → CanRead (λ after. record_in (front ++ word ∷ after)) → BeginsLine (front ++ word ∷ [])
 begins front word c =
-    let found = line_is_read.written (front ++ word ∷ c.words) c.entry c.read in
+    let found = (line_is_read.each (front ++ word ∷ c.words)).written c.entry c.read in
     record {
       line = line_text c.entry;
       entry = c.entry;
@@ -32,7 +32,7 @@ begun front word b =
 
 pub bad_number_found : (line : List ℕ) → record_in (words_of line) ≡ Err Number → HasBadNumber line
 bad_number_found line e =
-    let s = line_is_read.stuck (words_of line) e in
+    let s = (line_is_read.each (words_of line)).stuck e in
     record {
       before = s.front;
       word = s.word;
@@ -48,13 +48,13 @@ bad_number_read line bad =
     let zero = bad.number_fits 0 (omega arith) in
     let read : record_in (bad.before ++ codes "0" ∷ zero.after) ≡ Ok zero.entry =
     ap (λ w. record_in (bad.before ++ w ∷ zero.after)) (sym zero_decimal) ∙ begun bad.before (decimal 0) zero in
-    elim (line_is_read.zero bad.before zero.after bad.word zero.entry read bad.digits) [
+    elim ((line_is_read.each bad.before).zero zero.after bad.word zero.entry read bad.digits) [
       | inl stuck ↦ ap record_in bad.words_are ∙ stuck bad.after
       | inr c ↦ absurd (bad.begins_none (begins bad.before bad.word c))
     ]
 
 pub bad_words : (words : List (List ℕ)) (fault : RecordFault) → record_in words ≡ Err fault → IsWordOrNumber fault
-bad_words words fault e = line_is_read.faults words fault e
+bad_words words fault e = (line_is_read.each words).faults fault e
 
 pub bad_word_found : (line : List ℕ) → record_in (words_of line) ≡ Err Word → HasBadWord line
 bad_word_found line e = record {

@@ -1,5 +1,5 @@
 -- What a text says after records is one thing: one list of records, one answer, and an account or one first fault.
-use Rattle.std.proofs.Common.{◌≡◌, ◌≢◌, ◌⊎◌, append_assoc, append-nil, ℕ, zero, suc, ◌+◌, ◌<◌, Bool, true, false, cond, codes, List, [], ◌∷◌, ◌++◌, length, get_or, take, Option, Some, None, IsSome, Result, Ok, Err, refl, sym, ap, subst, ◌∙◌, arith, inl, inr, length-append, length-take, get_or-take, take-suc, take-take, take_all}
+use Rattle.std.proofs.Common.{◌≡◌, ◌≢◌, ◌⊎◌, append_assoc, append-nil, ℕ, zero, suc, ◌+◌, ◌<◌, ◌≤◌, Bool, true, false, cond, codes, List, [], ◌∷◌, ◌++◌, length, get_or, take, Option, Some, None, IsSome, Result, Ok, Err, refl, sym, ap, subst, ◌∙◌, arith, inl, inr, length-append, length-take, get_or-take, take-suc, take-take, take_all}
 use Rattle.std.specs.List.{AllZip}
 use Rattle.std.specs.Str.{bytes_eq}
 use Rattle.std.proofs.Math.Seq.{get_or-append_seam, take-append_seam}
@@ -152,31 +152,65 @@ next_record lines before entry are =
       may = are.order;
     }
 
--- more records, of which the first are these
-further : (lines : List (List ℕ)) (before more : List Record) → AreRecords (take (length before) lines) before → AreRecords (take (length more) lines) more → length before < length more
-    → (entry : Record) × IsNext lines before entry
+-- the first of records are those of the first lines
+pub front_records : (lines : List (List ℕ)) (records : List Record) (k n : ℕ) → AreRecords (take n lines) records → k ≤ n → AreRecords (take k lines) (take k records)
+front_records lines records k n are few = record {
+  form = subst (λ l. AllZip HasForm l (take k records)) (take-take k n lines few) (forms_of_front (take n lines) records k are.form);
+  order = take_in_order k records are.order;
+}
+
+-- More records, of which the first are these: the one after them is the next.
+pub record IsFurther (lines : List (List ℕ)) (before more : List Record) : Type 0 where
+  pub same : before ≡ take (length before) more
+  pub next : AreRecords (take (length before + 1) lines) (before ++ get_or more (length before) record_of.End ∷ [])
+
+pub further : (lines : List (List ℕ)) (before more : List Record) → AreRecords (take (length before) lines) before → AreRecords (take (length more) lines) more → length before < length more → IsFurther lines before more
 further lines before more few many below =
     let k = length before in
-    let m = length more in
-    let count : length (take m lines) ≡ length more = as_many (take m lines) more many.form in
-    let front : AllZip HasForm (take k (take m lines)) (take k more) = forms_of_front (take m lines) more k many.form in
-    let same : before ≡ take k more = same_records (take k lines) before (take k more) few.form (subst (λ l. AllZip HasForm l (take k more)) (take-take k m lines (omega (arith, below))) front) in
     let entry = get_or more k record_of.End in
-    let there : HasForm (get_or (take m lines) k []) entry = form_at (take m lines) more k many.form (omega (arith, count, below)) in
-    let line : get_or (take m lines) k [] ≡ get_or lines k [] = get_or-take m lines k [] below in
-    let order : AreInOrder (take (suc k) more) = take_in_order (suc k) more many.order in (
-      entry,
-      record {
-        below = omega (arith, count, below, length-take m lines);
-        form = subst (λ l. HasForm l entry) line there;
-        may = subst AreInOrder (take-suc more k record_of.End below ∙ ap (λ r. r ++ entry ∷ []) (sym same)) order;
-      },
-    )
+    let same = same_records (take k lines) before (take k more) few.form (front_records lines more k (length more) many (omega (arith, below))).form in
+    let split : take (suc k) more ≡ before ++ entry ∷ [] = take-suc more k record_of.End below ∙ ap (λ r. r ++ entry ∷ []) (sym same) in
+    let next = front_records lines more (suc k) (length more) many (omega (arith, below)) in
+    let one : suc k ≡ k + 1 = omega arith in
+    record { same = same; next = subst (λ n. AreRecords (take n lines) (before ++ entry ∷ [])) one (subst (AreRecords (take (suc k) lines)) split next) }
+
+-- what is said of a text where certain records end, and not where more follow, is said at one place
+pub one_place : (lines : List (List ℕ)) (Ends : List Record → Type 0) → ((records : List Record) → Ends records → AreRecords (take (length records) lines) records)
+    → ((records more : List Record) → Ends records → Ends more → length records < length more → ⊥) → (one other : List Record) → Ends one → Ends other → one ≡ other
+one_place lines Ends are no_more one other first second = elim (cases_lt (length one) (length other)) [
+  | inl less ↦ absurd (no_more one other first second less)
+  | inr least ↦ elim (cases_lt (length other) (length one)) [
+    | inl less ↦ absurd (no_more other one second first less)
+    | inr most ↦
+        let count : length other ≡ length one = omega (arith, least, most) in
+        same_records (take (length one) lines) one other (are one first).form (subst (λ n. AllZip HasForm (take n lines) other) count (are other second).form)
+  ]
+]
+
+-- and where it isn't said before the end of all records, it is said there
+pub at_all : (lines : List (List ℕ)) (records before : List Record) → AreRecords lines records → AreRecords (take (length before) lines) before
+    → (AreRecords (take (length records) lines) records → length before < length records → ⊥) → before ≡ records
+at_all lines records before all few no_more =
+    let count = as_many lines records all.form in
+    let some = as_many (take (length before) lines) before few.form in
+    let whole : take (length records) lines ≡ lines = take_all (length records) lines (omega (arith, count)) in
+    let are : AreRecords (take (length records) lines) records = subst (λ l. AreRecords l records) (sym whole) all in
+    elim (cases_lt (length before) (length records)) [
+      | inl less ↦ absurd (no_more are less)
+      | inr least ↦
+          let same_count : length before ≡ length records = omega (arith, least, some, count, length-take (length before) lines) in
+          same_records (take (length records) lines) before records (subst (λ n. AllZip HasForm (take n lines) before) same_count few.form) are.form
+    ]
 
 module _ (bytes : List ℕ) (before : List Record) where
   fault_and_next : (entry : Record) (fault : RecordFault) → HasFormFault bytes before fault → IsNext (whole_lines bytes) before entry → ⊥
   fault_and_next entry fault has next =
       no_fault before (get_or (whole_lines bytes) (length before) []) entry fault has.records.order next.form next.may (has.at_line next.below)
+
+  fault_and_more : (more : List Record) (fault : RecordFault) → HasFormFault bytes before fault → AreRecords (take (length more) (whole_lines bytes)) more → length before < length more → ⊥
+  fault_and_more more fault has many less =
+      let entry = get_or more (length before) record_of.End in
+      fault_and_next entry fault has (next_record (whole_lines bytes) before entry (further (whole_lines bytes) before more has.records many less).next)
 
   same_fault : (first second : RecordFault) → HasFormFault bytes before first → HasFormFault bytes before second → first ≡ second
   same_fault first second f s = elim (cases_lt (length before) (length (whole_lines bytes))) [
@@ -224,33 +258,16 @@ one_answer bytes false before (Err a) (Err b) f s = ap Err (same_fault bytes bef
 
 -- a text has one first fault
 pub one_fault : (bytes : List ℕ) (before other : List Record) (first second : RecordFault) → HasFormFault bytes before first → HasFormFault bytes other second → (before ≡ other) × (first ≡ second)
-one_fault bytes before other first second f s = elim (cases_lt (length before) (length other)) [
-  | inl less ↦ let next = further (whole_lines bytes) before other f.records s.records less in absurd (fault_and_next bytes before next.0 first f next.1)
-  | inr least ↦ elim (cases_lt (length other) (length before)) [
-    | inl less ↦ let next = further (whole_lines bytes) other before s.records f.records less in absurd (fault_and_next bytes other next.0 second s next.1)
-    | inr most ↦
-        let count : length other ≡ length before = omega (arith, least, most) in
-        let same : before ≡ other = same_records (take (length before) (whole_lines bytes)) before other f.records.form
-        (subst (λ n. AllZip HasForm (take n (whole_lines bytes)) other) count s.records.form) in
-        (same, same_fault bytes other first second (subst (λ r. HasFormFault bytes r first) same f) s)
-  ]
-]
+one_fault bytes before other first second f s =
+    let same = one_place (whole_lines bytes) (λ records. (fault : RecordFault) × HasFormFault bytes records fault) (λ records has. has.1.records)
+    (λ records more has others less. fault_and_more bytes records more has.0 has.1 others.1.records less) before other (first, f) (second, s) in
+    (same, same_fault bytes other first second (subst (λ r. HasFormFault bytes r first) same f) s)
 
 -- a text that is an account has no fault
 pub account_or_fault : (bytes : List ℕ) (records before : List Record) (fault : RecordFault) → IsAccountOf bytes records → HasFormFault bytes before fault → ⊥
 account_or_fault bytes records before fault account has =
-    let count = as_many (whole_lines bytes) records account.records_are.form in
-    let some = as_many (take (length before) (whole_lines bytes)) before has.records.form in
-    let whole : take (length records) (whole_lines bytes) ≡ whole_lines bytes = ap (λ n. take n (whole_lines bytes)) (sym count) ∙ take_all (length (whole_lines bytes)) (whole_lines bytes) (omega arith) in
-    let are : AreRecords (take (length records) (whole_lines bytes)) records = subst (λ l. AreRecords l records) (sym whole) account.records_are in
-    elim (cases_lt (length before) (length records)) [
-      | inl less ↦ let next = further (whole_lines bytes) before records has.records are less in fault_and_next bytes before next.0 fault has next.1
-      | inr least ↦
-          let same_count : length before ≡ length records = omega (arith, least, some, count, length-take (length before) (whole_lines bytes)) in
-          let same : before ≡ records = same_records (take (length records) (whole_lines bytes)) before records
-          (subst (λ n. AllZip HasForm (take n (whole_lines bytes)) before) same_count has.records.form) are.form in
-          account_has_none bytes records fault account (subst (λ r. HasFormFault bytes r fault) same has)
-    ]
+    let same = at_all (whole_lines bytes) records before account.records_are has.records (λ are less. fault_and_more bytes before records fault has are less) in
+    account_has_none bytes records fault account (subst (λ r. HasFormFault bytes r fault) same has)
 
 -- each text is an account or has a first fault
 

@@ -23,7 +23,7 @@ use Rattle.account_file.specs.Forms.{bit_of, tri_of, with_digit, digits_by, digi
 use Rattle.account_file.specs.Spelling.{side_word, bit_digit, tri_digit, bits_word, tris_word, tallied_word, kind_word}
 use Rattle.account_file.proofs.ReadLemmas.{IsWord}
 use Rattle.account_file.proofs.SpellingLemmas.{IsVisible, shown}
-use Rattle.account_file.proofs.ValueLemmas.{plain_word}
+use Rattle.account_file.proofs.ValueLemmas.{IsReadOrWord, plain_word}
 
 abbrev pub Any : {X : Type 0} → X → Type 0
 Any {X} x = Unit {0}
@@ -31,13 +31,13 @@ Any {X} x = Unit {0}
 -- what is read of names, and of digits
 
 module _ {K X : Type 0} (same : K → K → Bool) (tells : (a b : K) → same a b ≡ true → a ≡ b) (spell : X → K) (shows : K → Bool) where
-  one_faults : (xs : List X) (key : K) (fault : RecordFault) → one_of same spell xs key ≡ Err fault → fault ≡ Word
-  one_faults [] key fault e = let is : Word ≡ fault = cc in sym is
-  one_faults (x ∷ xs) key fault e = by (same key (spell x)) e (λ rest. one_faults xs key fault rest)
+  one_faults : (xs : List X) (key : K) → IsReadOrWord (one_of same spell xs key)
+  one_faults [] key = refl
+  one_faults (x ∷ xs) key = by (same key (spell x)) (one_faults xs key)
     where
-      by : (b : Bool) → cond b (Ok x) (one_of same spell xs key) ≡ Err fault → (one_of same spell xs key ≡ Err fault → fault ≡ Word) → fault ≡ Word
-      by true e more = absurd (let clash : ⊥ = cc in clash)
-      by false e more = more e
+      by : (b : Bool) → IsReadOrWord (one_of same spell xs key) → IsReadOrWord (cond b (Ok x) (one_of same spell xs key))
+      by true more = tt
+      by false more = more
 
   -- all of the values' names show
   one_written : (xs : List X) → list_all (λ x. shows (spell x)) xs ≡ true → (key : K) (x : X) → one_of same spell xs key ≡ Ok x → (key ≡ spell x) × (shows (spell x) ≡ true)
@@ -132,7 +132,7 @@ pub record IsDigit {X : Type 0} (read : ℕ → Result X RecordFault) (digit : X
   pub written : (d : ℕ) (x : X) → read d ≡ Ok x → d ≡ digit x
   pub back : (x : X) → read (digit x) ≡ Ok x
   pub shows : (x : X) → 32 < digit x
-  pub faults : (d : ℕ) (fault : RecordFault) → read d ≡ Err fault → fault ≡ Word
+  pub faults : (d : ℕ) → IsReadOrWord (read d)
 
 one_digit : {X : Type 0} (xs : List X) (digit : X → ℕ) → list_all (λ x. ltb 32 (digit x)) xs ≡ true → ((x : X) → one_of eqb digit xs (digit x) ≡ Ok x) → IsDigit (one_of eqb digit xs) digit
 one_digit {X} xs digit all back = record {
@@ -178,15 +178,14 @@ module _ {X : Type 0} (read : ℕ → Result X RecordFault) (digit : X → ℕ) 
   digits_show [] = All-nil (λ byte. 32 < byte)
   digits_show (x ∷ xs) = All-cons (λ byte. 32 < byte) (digit x) (map digit xs) (d.shows x) (digits_show xs)
 
-  digits_faults : (word : List ℕ) (fault : RecordFault) → digits_by read word ≡ Err fault → fault ≡ Word
-  digits_faults [] fault e = absurd (let clash : ⊥ = cc in clash)
-  digits_faults (byte ∷ word) fault e = by (read byte) refl (digits_by read word) refl e (λ f. digits_faults word fault f)
+  digits_faults : (word : List ℕ) → IsReadOrWord (digits_by read word)
+  digits_faults [] = tt
+  digits_faults (byte ∷ word) = by (read byte) (digits_by read word) (d.faults byte) (digits_faults word)
     where
-      by : (a : Result X RecordFault) → read byte ≡ a → (r : Result (List X) RecordFault) → digits_by read word ≡ r → with_digit a r ≡ Err fault
-          → (digits_by read word ≡ Err fault → fault ≡ Word) → fault ≡ Word
-      by (Err f) ea r er e more = let same : f ≡ fault = cc in d.faults byte fault (ea ∙ ap Err same)
-      by (Ok x) ea (Err f) er e more = let same : f ≡ fault = cc in more (er ∙ ap Err same)
-      by (Ok x) ea (Ok rest) er e more = absurd (let clash : ⊥ = cc in clash)
+      by : (a : Result X RecordFault) (r : Result (List X) RecordFault) → IsReadOrWord a → IsReadOrWord r → IsReadOrWord (with_digit a r)
+      by (Err f) r one more = one
+      by (Ok x) (Err f) one more = more
+      by (Ok x) (Ok rest) one more = tt
 
   abbrev values : List ℕ → Result (List X) RecordFault
   values word = values_in read (digits_after word)
@@ -202,13 +201,13 @@ module _ {X : Type 0} (read : ℕ → Result X RecordFault) (digit : X → ℕ) 
       by true is e = ap (λ s. s ∷ word) (eqb-true sign 61 is) ∙ ap (λ w. 61 ∷ w) (digits_written word xs e)
       by false is e = absurd (let clash : ⊥ = cc in clash)
 
-  values_faults : (word : List ℕ) (fault : RecordFault) → values word ≡ Err fault → fault ≡ Word
-  values_faults [] fault e = let same : Word ≡ fault = cc in sym same
-  values_faults (sign ∷ word) fault e = by (eqb sign 61) e
+  values_faults : (word : List ℕ) → IsReadOrWord (values word)
+  values_faults [] = refl
+  values_faults (sign ∷ word) = by (eqb sign 61)
     where
-      by : (b : Bool) → values_in read (cond b (Ok word) (Err Word)) ≡ Err fault → fault ≡ Word
-      by true e = digits_faults word fault e
-      by false e = let same : Word ≡ fault = cc in sym same
+      by : (b : Bool) → IsReadOrWord (values_in read (cond b (Ok word) (Err Word)))
+      by true = digits_faults word
+      by false = refl
 
   pub values_word : IsWord values spelled Any
   values_word =
@@ -243,14 +242,14 @@ two_bits_written (x ∷ y ∷ []) bits e = by (bit_of x) (bit_of y) refl refl e
         ap (λ d. d ∷ y ∷ []) (bit_is_digit.written x a ea) ∙ ap (λ d. bit_digit a ∷ d ∷ []) (bit_is_digit.written y b eb) ∙ ap two_bits_word same
 two_bits_written word bits e = absurd (let clash : ⊥ = cc in clash)
 
-two_bits_faults : (word : List ℕ) (fault : RecordFault) → two_bits_of word ≡ Err fault → fault ≡ Word
-two_bits_faults (x ∷ y ∷ []) fault e = by (bit_of x) (bit_of y) refl refl e
+two_bits_faults : (word : List ℕ) → IsReadOrWord (two_bits_of word)
+two_bits_faults (x ∷ y ∷ []) = by (bit_of x) (bit_of y) (bit_is_digit.faults x) (bit_is_digit.faults y)
   where
-    by : (a b : Result Bool RecordFault) → bit_of x ≡ a → bit_of y ≡ b → both_bits a b ≡ Err fault → fault ≡ Word
-    by (Err f) b ea eb e = let same : f ≡ fault = cc in bit_is_digit.faults x fault (ea ∙ ap Err same)
-    by (Ok a) (Err f) ea eb e = let same : f ≡ fault = cc in bit_is_digit.faults y fault (eb ∙ ap Err same)
-    by (Ok a) (Ok b) ea eb e = absurd (let clash : ⊥ = cc in clash)
-two_bits_faults word fault e = let same : Word ≡ fault = cc in sym same
+    by : (a b : Result Bool RecordFault) → IsReadOrWord a → IsReadOrWord b → IsReadOrWord (both_bits a b)
+    by (Err f) b one other = one
+    by (Ok a) (Err f) one other = other
+    by (Ok a) (Ok b) one other = tt
+two_bits_faults word = refl
 
 pub two_bits_is_word : IsWord two_bits_of two_bits_word Any
 two_bits_is_word =

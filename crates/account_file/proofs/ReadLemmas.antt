@@ -1,5 +1,5 @@
 -- Readers that go through a line word by word: their faults, the words at which they find a bad number, and what they write.
-use Rattle.std.proofs.Common.{◌≡◌, ◌⊎◌, ℕ, ◌<◌, ◌^◌, Bool, true, false, cond, codes, List, [], ◌∷◌, ◌++◌, length, map, get_or, All, Result, Ok, Err, refl, sym, ap, subst, ◌∙◌, arith, inl, inr, length-append}
+use Rattle.std.proofs.Common.{◌≡◌, ◌⊎◌, ℕ, ◌<◌, ◌^◌, Bool, true, false, cond, codes, List, [], ◌∷◌, ◌++◌, length, map, All, Result, Ok, Err, refl, sym, ap, subst, ◌∙◌, arith, inl, inr, length-append}
 use Rattle.std.specs.Fmt.{decimal}
 use Rattle.std.specs.Str.{bytes_eq}
 use Rattle.std.proofs.lemmas.Bool.{false≢true, or_from}
@@ -55,9 +55,9 @@ pub record IsStuck (p : Rest) (words : Words) : Type 0 where
   pub stuck : (after : Words) → p (front ++ word ∷ after) ≡ Err Number
   pub fits : (n : ℕ) → n < 2 ^ 32 → CanRead (λ after. p (front ++ decimal n ∷ after))
 
--- a word after others is a bad number, or fits
-abbrev pub Decides : Rest → Words → List ℕ → Type 0
-Decides p front word = ((after : Words) → p (front ++ word ∷ after) ≡ Err Number) ⊎ CanRead (λ after. p (front ++ word ∷ after))
+-- what is read of a word after others is a bad number, or the word fits
+abbrev pub Decides : Rest → Type 0
+Decides p = ((after : Words) → p after ≡ Err Number) ⊎ CanRead p
 
 -- The words, with those in front of them, are what is written of the record, and have no blank and no control.
 pub record Writes (front : Words → Words) (words : Words) (entry : Record) : Type 0 where
@@ -65,12 +65,16 @@ pub record Writes (front : Words → Words) (words : Words) (entry : Record) : T
   pub writable : IsWritable entry
   pub visible : All IsVisible words
 
+-- What a reader says of these words, and of a word of digits after them where `0` is read.
+pub record IsReadAt (front : Words → Words) (p : Rest) (words : Words) : Type 0 where
+  pub faults : (fault : RecordFault) → p words ≡ Err fault → IsWordOrNumber fault
+  pub stuck : p words ≡ Err Number → IsStuck p words
+  pub zero : (more : Words) (word : List ℕ) (entry : Record) → p (words ++ codes "0" ∷ more) ≡ Ok entry → is_numeral word ≡ true → Decides (λ after. p (words ++ word ∷ after))
+  pub written : (entry : Record) → p words ≡ Ok entry → Writes front words entry
+
 pub record IsRead (front : Words → Words) (p : Rest) : Type 0 where
   pub some : CanRead p
-  pub faults : (words : Words) (fault : RecordFault) → p words ≡ Err fault → IsWordOrNumber fault
-  pub stuck : (words : Words) → p words ≡ Err Number → IsStuck p words
-  pub zero : (before more : Words) (word : List ℕ) (entry : Record) → p (before ++ codes "0" ∷ more) ≡ Ok entry → is_numeral word ≡ true → Decides p before word
-  pub written : (words : Words) (entry : Record) → p words ≡ Ok entry → Writes front words entry
+  pub each : (words : Words) → IsReadAt front p words
 
 -- the same of what is read of one word
 pub record Wrote {X : Type 0} (read : List ℕ → Result X RecordFault) (word : List ℕ) : Type 0 where
@@ -92,102 +96,27 @@ pub record IsWord {X : Type 0} (read : List ℕ → Result X RecordFault) (spell
 no_front : (front : Words) (word : List ℕ) (more : Words) → [] ≡ front ++ word ∷ more → ⊥
 no_front front word more e = omega (arith, ap length e, length-append front (word ∷ more))
 
--- what stands after a word that is passed over
-stuck_behind : (p q : Rest) (word : List ℕ) (words : Words) → ((after : Words) → p (word ∷ after) ≡ q after) → IsStuck q words → IsStuck p (word ∷ words)
-stuck_behind p q word words passed s = record {
-  front = word ∷ s.front;
+-- where readers do the same
+read_as : {p q : Rest} → ((after : Words) → p after ≡ q after) → CanRead q → CanRead p
+read_as {p} {q} same c = record { words = c.words; entry = c.entry; read = same c.words ∙ c.read }
+
+decides_as : {p q : Rest} → ((after : Words) → p after ≡ q after) → Decides q → Decides p
+decides_as {p} {q} same (inl bad) = inl (λ after. same after ∙ bad after)
+decides_as {p} {q} same (inr c) = inr (read_as same c)
+
+stuck_as : {p q : Rest} {words others : Words} (s : IsStuck q others) (front : Words) → words ≡ front ++ s.word ∷ s.more
+    → ((word : List ℕ) (after : Words) → is_numeral word ≡ true → p (front ++ word ∷ after) ≡ q (s.front ++ word ∷ after)) → IsStuck p words
+stuck_as {p} {q} {words} {others} s front words_are same = record {
+  front = front;
   word = s.word;
   more = s.more;
-  words_are = ap (λ l. word ∷ l) s.words_are;
+  words_are = words_are;
   digits = s.digits;
-  stuck = λ after. passed (s.front ++ s.word ∷ after) ∙ s.stuck after;
-  fits = λ n small. let c = s.fits n small in record { words = c.words; entry = c.entry; read = passed (s.front ++ decimal n ∷ c.words) ∙ c.read };
+  stuck = λ after. same s.word after s.digits ∙ s.stuck after;
+  fits = λ n small. read_as (λ after. same (decimal n) after (decimal_numeral n (omega (arith, small)))) (s.fits n small);
 }
 
--- a word of digits that is no number here
-stuck_here : (p : Rest) (word : List ℕ) (words : Words) → is_numeral word ≡ true → ((after : Words) → p (word ∷ after) ≡ Err Number)
-    → ((n : ℕ) → n < 2 ^ 32 → CanRead (λ after. p (decimal n ∷ after))) → IsStuck p (word ∷ words)
-stuck_here p word words digits stuck fits = record { front = []; word = word; more = words; words_are = refl; digits = digits; stuck = stuck; fits = fits }
-
--- one word, and what follows it
-
-module _ {X : Type 0} {spell : X → List ℕ} {IsFit : X → Type 0} (read : List ℕ → Result X RecordFault) (w : IsWord read spell IsFit) where
-  written_behind : (front : Words → Words) (word : List ℕ) (words : Words) (x : X) (entry : Record) → read word ≡ Ok x → Writes (λ l. front (spell x ∷ l)) words entry → Writes front (word ∷ words) entry
-  written_behind front word words x entry is rest =
-      let this = w.written word x is in
-      record {
-        same = ap (λ v. front (v ∷ words)) this.0 ∙ rest.same;
-        writable = rest.writable;
-        visible = All-cons IsVisible word words (subst IsVisible (sym this.0) (w.visible x this.1)) rest.visible;
-      }
-
-  pub next_read : {front : Words → Words} (k : X → Rest) → ((x : X) → IsFit x → IsRead (λ l. front (spell x ∷ l)) (k x)) → IsRead front (λ words. followed (next_by read words) k)
-  next_read {front} k r = record {
-    some = let c = reads w.word w.some in record { words = w.word ∷ c.words; entry = c.entry; read = c.read };
-    faults = faults;
-    stuck = stuck;
-    zero = zero;
-    written = written;
-  }
-    where
-      P : Rest
-      P words = followed (next_by read words) k
-
-      rest : (word : List ℕ) (x : X) → read word ≡ Ok x → IsRead (λ l. front (spell x ∷ l)) (k x)
-      rest word x is = r x (w.written word x is).1
-
-      at' : (word : List ℕ) (a : Result X RecordFault) → read word ≡ a → (words : Words) → P (word ∷ words) ≡ followed (with_words a words) k
-      at' word a is words = ap (λ b. followed (with_words b words) k) is
-
-      reads : (word : List ℕ) → Wrote read word → CanRead (λ after. P (word ∷ after))
-      reads word x = let c = (rest word x.value x.is).some in record { words = c.words; entry = c.entry; read = at' word (Ok x.value) x.is c.words ∙ c.read }
-
-      faults : (words : Words) (fault : RecordFault) → P words ≡ Err fault → IsWordOrNumber fault
-      faults [] fault e = inl (let same : Word ≡ fault = cc in sym same)
-      faults (word ∷ words) fault e = by (read word) refl e
-        where
-          by : (a : Result X RecordFault) → read word ≡ a → followed (with_words a words) k ≡ Err fault → IsWordOrNumber fault
-          by (Ok x) is e = (rest word x is).faults words fault e
-          by (Err f) is e = let same : f ≡ fault = cc in w.faults word fault (is ∙ ap Err same)
-
-      stuck : (words : Words) → P words ≡ Err Number → IsStuck P words
-      stuck [] e = absurd (let no : ⊥ = cc in no)
-      stuck (word ∷ words) e = by (read word) refl e
-        where
-          by : (a : Result X RecordFault) → read word ≡ a → followed (with_words a words) k ≡ Err Number → IsStuck P (word ∷ words)
-          by (Ok x) is e = stuck_behind P (k x) word words (at' word (Ok x) is) ((rest word x is).stuck words e)
-          by (Err f) is e =
-              let same : f ≡ Number = cc in
-              let bad = is ∙ ap Err same in
-              stuck_here P word words (w.digits word bad) (at' word (Err Number) bad) (λ n small. reads (decimal n) (w.fits word bad n small))
-
-      zero : (before more : Words) (word : List ℕ) (entry : Record) → P (before ++ codes "0" ∷ more) ≡ Ok entry → is_numeral word ≡ true → Decides P before word
-      zero [] more word entry e digits = by (read (codes "0")) refl e
-        where
-          by : (a : Result X RecordFault) → read (codes "0") ≡ a → followed (with_words a more) k ≡ Ok entry → Decides P [] word
-          by (Ok x) is e = elim (w.zero x word is digits) [
-            | inl bad ↦ inl (λ after. at' word (Err Number) bad after)
-            | inr good ↦ inr (reads word good)
-          ]
-          by (Err f) is e = absurd (let no : ⊥ = cc in no)
-      zero (first ∷ before) more word entry e digits = by (read first) refl e
-        where
-          by : (a : Result X RecordFault) → read first ≡ a → followed (with_words a (before ++ codes "0" ∷ more)) k ≡ Ok entry → Decides P (first ∷ before) word
-          by (Ok x) is e = elim ((rest first x is).zero before more word entry e digits) [
-            | inl bad ↦ inl (λ after. at' first (Ok x) is (before ++ word ∷ after) ∙ bad after)
-            | inr c ↦ inr (record { words = c.words; entry = c.entry; read = at' first (Ok x) is (before ++ word ∷ c.words) ∙ c.read })
-          ]
-          by (Err f) is e = absurd (let no : ⊥ = cc in no)
-
-      written : (words : Words) (entry : Record) → P words ≡ Ok entry → Writes front words entry
-      written [] entry e = absurd (let no : ⊥ = cc in no)
-      written (word ∷ words) entry e = by (read word) refl e
-        where
-          by : (a : Result X RecordFault) → read word ≡ a → followed (with_words a words) k ≡ Ok entry → Writes front (word ∷ words) entry
-          by (Ok x) is e = written_behind front word words x entry is ((rest word x is).written words entry e)
-          by (Err f) is e = absurd (let no : ⊥ = cc in no)
-
--- a list of words, and what follows it
+-- a word of digits is no separator
 
 no_name : (word name : List ℕ) → is_numeral word ≡ true → is_numeral name ≡ false → bytes_eq word name ≡ false
 no_name word name digits none = by (bytes_eq word name) refl
@@ -199,6 +128,24 @@ no_name word name digits none = by (bytes_eq word name) refl
 pub digits_no_separator : (word : List ℕ) → is_numeral word ≡ true → is_separator word ≡ false
 digits_no_separator word digits =
     or_from (bytes_eq word (codes ":")) (bytes_eq word (codes "/")) (no_name word (codes ":") digits refl) (no_name word (codes "/") digits refl)
+
+stop_alike : (front : Words) (one other : List ℕ) (after more : Words) → is_numeral one ≡ true → is_numeral other ≡ true → stops (front ++ one ∷ after) ≡ stops (front ++ other ∷ more)
+stop_alike [] one other after more digits others = digits_no_separator one digits ∙ sym (digits_no_separator other others)
+stop_alike (first ∷ front) one other after more digits others = refl
+
+-- readers that do the same of words that stop a list, or of those that don't
+alike : {front : Words → Words} (p q : Rest) (words : Words) → ((l : Words) → stops l ≡ stops words → p l ≡ q l) → ((word : List ℕ) (after : Words) → p (words ++ word ∷ after) ≡ q (words ++ word ∷ after))
+    → IsReadAt front q words → IsReadAt front p words
+alike {front} p q words same behind r = record {
+  faults = λ fault e. r.faults fault (sym (same words refl) ∙ e);
+  stuck = λ e.
+      let s = r.stuck (sym (same words refl) ∙ e) in
+      stuck_as s s.front s.words_are (λ word after digits. same (s.front ++ word ∷ after) (stop_alike s.front word s.word after s.more digits s.digits ∙ ap stops (sym s.words_are)));
+  zero = λ more word entry e digits. decides_as (behind word) (r.zero more word entry (sym (behind (codes "0") more) ∙ e) digits);
+  written = λ entry e. r.written entry (sym (same words refl) ∙ e);
+}
+
+-- lists
 
 pub list_stops : {X : Type 0} (read : List ℕ → Result X RecordFault) (words : Words) → stops words ≡ true → list_by read words ≡ Ok ([], words)
 list_stops {X} read [] e = refl
@@ -214,129 +161,129 @@ pub record ListRest {X : Type 0} (spell : X → List ℕ) (IsFit : X → Type 0)
   pub ends : (xs : List X) → All IsFit xs → CanEnd (k xs)
 
 module _ {X : Type 0} {spell : X → List ℕ} {IsFit : X → Type 0} (read : List ℕ → Result X RecordFault) (w : IsWord read spell IsFit) where
+  -- one word, and what follows it
+  abbrev WordThen : (X → Rest) → Rest
+  WordThen k words = followed (next_by read words) k
+
+  at_word : (k : X → Rest) (word : List ℕ) (a : Result X RecordFault) → read word ≡ a → (words : Words) → WordThen k (word ∷ words) ≡ followed (with_words a words) k
+  at_word k word a is words = ap (λ b. followed (with_words b words) k) is
+
+  word_read : (k : X → Rest) → ((x : X) → IsFit x → CanRead (k x)) → (word : List ℕ) → Wrote read word → CanRead (λ after. WordThen k (word ∷ after))
+  word_read k c word x = read_as (at_word k word (Ok x.value) x.is) (c x.value (w.written word x.value x.is).1)
+
+  written_behind : (front : Words → Words) (word : List ℕ) (words : Words) (x : X) (entry : Record) → read word ≡ Ok x → Writes (λ l. front (spell x ∷ l)) words entry → Writes front (word ∷ words) entry
+  written_behind front word words x entry is rest =
+      let this = w.written word x is in
+      record {
+        same = ap (λ v. front (v ∷ words)) this.0 ∙ rest.same;
+        writable = rest.writable;
+        visible = All-cons IsVisible word words (subst IsVisible (sym this.0) (w.visible x this.1)) rest.visible;
+      }
+
+  -- no word is left
+  no_word : {front : Words → Words} (k : X → Rest) → ((x : X) → IsFit x → CanRead (k x)) → IsReadAt front (WordThen k) []
+  no_word {front} k c = record {
+    faults = λ fault e. inl (let same : Word ≡ fault = cc in sym same);
+    stuck = λ e. absurd (let no : ⊥ = cc in no);
+    zero = λ more word entry e digits. by (read (codes "0")) refl more word entry e digits;
+    written = λ entry e. absurd (let no : ⊥ = cc in no);
+  }
+    where
+      by : (a : Result X RecordFault) → read (codes "0") ≡ a → (more : Words) (word : List ℕ) (entry : Record) → followed (with_words a more) k ≡ Ok entry → is_numeral word ≡ true → Decides (λ after. WordThen k (word ∷ after))
+      by (Ok x) is more word entry e digits = elim (w.zero x word is digits) [
+        | inl bad ↦ inl (at_word k word (Err Number) bad)
+        | inr good ↦ inr (word_read k c word good)
+      ]
+      by (Err f) is more word entry e digits = absurd (let no : ⊥ = cc in no)
+
+  -- a word is left, and others after it
+  some_word : {front : Words → Words} (k : X → Rest) → ((x : X) → IsFit x → CanRead (k x)) → (word : List ℕ) (words : Words)
+      → ((x : X) → read word ≡ Ok x → IsReadAt (λ l. front (spell x ∷ l)) (k x) words) → IsReadAt front (WordThen k) (word ∷ words)
+  some_word {front} k c word words r = by (read word) refl
+    where
+      by : (a : Result X RecordFault) → read word ≡ a → IsReadAt front (WordThen k) (word ∷ words)
+      by (Ok x) is =
+          let rest = r x is in
+          let here = at_word k word (Ok x) is in
+          record {
+            faults = λ fault e. rest.faults fault (sym (here words) ∙ e);
+            stuck = λ e. let s = rest.stuck (sym (here words) ∙ e) in stuck_as s (word ∷ s.front) (ap (λ l. word ∷ l) s.words_are) (λ other after digits. here (s.front ++ other ∷ after));
+            zero = λ more other entry e digits. decides_as (λ after. here (words ++ other ∷ after)) (rest.zero more other entry (sym (here (words ++ codes "0" ∷ more)) ∙ e) digits);
+            written = λ entry e. written_behind front word words x entry is (rest.written entry (sym (here words) ∙ e));
+          }
+      by (Err f) is =
+          let here = at_word k word (Err f) is in
+          let bad : (fault : RecordFault) → WordThen k (word ∷ words) ≡ Err fault → read word ≡ Err fault = λ fault e. let both : ◌≡◌ {A = Result Record RecordFault} (Err f) (Err fault) = sym (here words) ∙ e in let same : f ≡ fault = cc in is ∙ ap Err same in
+          record {
+            faults = λ fault e. w.faults word fault (bad fault e);
+            stuck = λ e. let number = bad Number e in record {
+              front = [];
+              word = word;
+              more = words;
+              words_are = refl;
+              digits = w.digits word number;
+              stuck = at_word k word (Err Number) number;
+              fits = λ n small. word_read k c (decimal n) (w.fits word number n small);
+            };
+            zero = λ more other entry e digits. absurd (let both : Err f ≡ Ok entry = sym (here (words ++ codes "0" ∷ more)) ∙ e in cc);
+            written = λ entry e. absurd (let both : Err f ≡ Ok entry = sym (here words) ∙ e in cc);
+          }
+
+  pub next_read : {front : Words → Words} (k : X → Rest) → ((x : X) → IsFit x → IsRead (λ l. front (spell x ∷ l)) (k x)) → IsRead front (λ words. followed (next_by read words) k)
+  next_read {front} k r = record { some = let c = word_read k some w.word w.some in record { words = w.word ∷ c.words; entry = c.entry; read = c.read }; each = each }
+    where
+      some : (x : X) → IsFit x → CanRead (k x)
+      some x fit = (r x fit).some
+
+      each : (words : Words) → IsReadAt front (WordThen k) words
+      each [] = no_word k some
+      each (word ∷ words) = some_word k some word words (λ x is. (r x (w.written word x is).1).each words)
+
+  -- a list of words, and what follows it: its end, or one word and a list
   abbrev ListThen : (List X → Rest) → Rest
   ListThen k words = followed (list_by read words) k
+
+  abbrev ItemThen : (List X → Rest) → X → Rest
+  ItemThen k x = ListThen (λ xs. k (x ∷ xs))
 
   at_stop : (k : List X → Rest) (words : Words) → stops words ≡ true → ListThen k words ≡ k [] words
   at_stop k words e = ap (λ a. followed a k) (list_stops read words e)
 
-  at_word : (k : List X → Rest) (word : List ℕ) (words : Words) (a : Result X RecordFault) → is_separator word ≡ false → read word ≡ a
-      → ListThen k (word ∷ words) ≡ followed (with_item a (list_by read words)) k
-  at_word k word words a other is =
-      ap (λ b. followed (cond b (Ok ([], word ∷ words)) (with_item (read word) (list_by read words))) k) other ∙ ap (λ b. followed (with_item b (list_by read words)) k) is
-
-  at_item : (k : List X → Rest) (word : List ℕ) (words : Words) (x : X) → is_separator word ≡ false → read word ≡ Ok x
-      → ListThen k (word ∷ words) ≡ ListThen (λ xs. k (x ∷ xs)) words
-  at_item k word words x other is = at_word k word words (Ok x) other is ∙ pushed x (list_by read words) k
-
-  -- what follows no item, and what follows an item
-  at_end : (front : Words → Words) (k : List X → Rest) → ListRest spell IsFit front k → IsRead front (k [])
-  at_end front k r = r.reads [] (All-nil IsFit)
-
-  behind : (front : Words → Words) (k : List X → Rest) (word : List ℕ) (x : X) → ListRest spell IsFit front k → read word ≡ Ok x → ListRest spell IsFit (λ l. front (spell x ∷ l)) (λ xs. k (x ∷ xs))
-  behind front k word x r is =
-      let fit = (w.written word x is).1 in
-      record { reads = λ xs fits. r.reads (x ∷ xs) (All-cons IsFit x xs fit fits); ends = λ xs fits. r.ends (x ∷ xs) (All-cons IsFit x xs fit fits) }
-
-  list_faults : (front : Words → Words) (k : List X → Rest) → ListRest spell IsFit front k → (words : Words) (fault : RecordFault) → ListThen k words ≡ Err fault → IsWordOrNumber fault
-  list_faults front k r [] fault e = (at_end front k r).faults [] fault e
-  list_faults front k r (word ∷ words) fault e =
-      by (is_separator word) refl (read word) refl (λ x is rest. list_faults (λ l. front (spell x ∷ l)) (λ xs. k (x ∷ xs)) (behind front k word x r is) words fault rest)
+  at_item : (k : List X → Rest) (words : Words) → stops words ≡ false → ListThen k words ≡ WordThen (ItemThen k) words
+  at_item k [] e = absurd (let no : ⊥ = cc in no)
+  at_item k (word ∷ words) e = ap (λ b. followed (cond b (Ok ([], word ∷ words)) (with_item (read word) (list_by read words))) k) e ∙ by (read word)
     where
-      by : (s : Bool) → is_separator word ≡ s → (a : Result X RecordFault) → read word ≡ a
-          → ((x : X) → read word ≡ Ok x → ListThen (λ xs. k (x ∷ xs)) words ≡ Err fault → IsWordOrNumber fault) → IsWordOrNumber fault
-      by true is a ra more = (at_end front k r).faults (word ∷ words) fault (sym (at_stop k (word ∷ words) is) ∙ e)
-      by false is (Ok x) ra more = more x ra (sym (at_item k word words x is ra) ∙ e)
-      by false is (Err f) ra more =
-          let both : Err f ≡ Err fault = sym (at_word k word words (Err f) is ra) ∙ e in
-          let same : f ≡ fault = cc in
-          w.faults word fault (ra ∙ ap Err same)
+      by : (a : Result X RecordFault) → followed (with_item a (list_by read words)) k ≡ followed (with_words a words) (ItemThen k)
+      by (Ok x) = pushed x (list_by read words) k
+      by (Err f) = refl
 
-  reads_item : (front : Words → Words) (k : List X → Rest) → ListRest spell IsFit front k → (word : List ℕ) → is_separator word ≡ false → Wrote read word → CanRead (λ after. ListThen k (word ∷ after))
-  reads_item front k r word other x =
-      let end = (behind front k word x.value r x.is).ends [] (All-nil IsFit) in
-      record { words = end.words; entry = end.entry; read = at_item k word end.words x.value other x.is ∙ at_stop (λ xs. k (x.value ∷ xs)) end.words end.ends ∙ end.read }
+  behind : (front : Words → Words) (k : List X → Rest) → ListRest spell IsFit front k → (x : X) → IsFit x → ListRest spell IsFit (λ l. front (spell x ∷ l)) (λ xs. k (x ∷ xs))
+  behind front k r x fit = record { reads = λ xs fits. r.reads (x ∷ xs) (All-cons IsFit x xs fit fits); ends = λ xs fits. r.ends (x ∷ xs) (All-cons IsFit x xs fit fits) }
 
-  list_stuck : (front : Words → Words) (k : List X → Rest) → ListRest spell IsFit front k → (words : Words) → ListThen k words ≡ Err Number → IsStuck (ListThen k) words
-  list_stuck front k r [] e = let s = (at_end front k r).stuck [] e in absurd (no_front s.front s.word s.more s.words_are)
-  list_stuck front k r (word ∷ words) e =
-      by (is_separator word) refl (read word) refl (λ x is rest. list_stuck (λ l. front (spell x ∷ l)) (λ xs. k (x ∷ xs)) (behind front k word x r is) words rest)
+  some_list : (front : Words → Words) (k : List X → Rest) → ListRest spell IsFit front k → CanRead (ListThen k)
+  some_list front k r = let end = r.ends [] (All-nil IsFit) in record { words = end.words; entry = end.entry; read = at_stop k end.words end.ends ∙ end.read }
+
+  list_each : (front : Words → Words) (k : List X → Rest) → ListRest spell IsFit front k → (words : Words) → IsReadAt front (ListThen k) words
+  list_each front k r [] =
+      let end = (r.reads [] (All-nil IsFit)).each [] in
+      let item : IsReadAt front (WordThen (ItemThen k)) [] = no_word (ItemThen k) (λ x fit. some_list (λ l. front (spell x ∷ l)) (λ xs. k (x ∷ xs)) (behind front k r x fit)) in
+      record {
+        faults = end.faults;
+        stuck = λ e. let s = end.stuck e in absurd (no_front s.front s.word s.more s.words_are);
+        zero = λ more word entry e digits. decides_as (λ after. at_item k (word ∷ after) (digits_no_separator word digits)) (item.zero more word entry (sym (at_item k (codes "0" ∷ more) refl) ∙ e) digits);
+        written = end.written;
+      }
+  list_each front k r (word ∷ words) =
+      by (is_separator word) refl (λ x is. list_each (λ l. front (spell x ∷ l)) (λ xs. k (x ∷ xs)) (behind front k r x (w.written word x is).1) words)
     where
-      at_front : is_separator word ≡ true → (s : IsStuck (k []) (word ∷ words)) (before : Words) → s.front ≡ before → IsStuck (ListThen k) (word ∷ words)
-      at_front is s [] none =
-          let same : word ≡ s.word = ap (λ l. get_or l 0 []) (s.words_are ∙ ap (λ l. l ++ s.word ∷ s.more) none) in
-          absurd (false≢true (sym (digits_no_separator s.word s.digits) ∙ ap is_separator (sym same) ∙ is))
-      at_front is s (first ∷ before) some =
-          let same : word ≡ first = ap (λ l. get_or l 0 []) (s.words_are ∙ ap (λ l. l ++ s.word ∷ s.more) some) in
-          let sep : is_separator first ≡ true = ap is_separator (sym same) ∙ is in
-          record {
-            front = first ∷ before;
-            word = s.word;
-            more = s.more;
-            words_are = s.words_are ∙ ap (λ l. l ++ s.word ∷ s.more) some;
-            digits = s.digits;
-            stuck = λ after. at_stop k (first ∷ before ++ s.word ∷ after) sep ∙ ap (λ l. k [] (l ++ s.word ∷ after)) (sym some) ∙ s.stuck after;
-            fits = λ n small.
-                let f = s.fits n small in
-                record { words = f.words; entry = f.entry; read = at_stop k (first ∷ before ++ decimal n ∷ f.words) sep ∙ ap (λ l. k [] (l ++ decimal n ∷ f.words)) (sym some) ∙ f.read };
-          }
-
-      by : (s : Bool) → is_separator word ≡ s → (a : Result X RecordFault) → read word ≡ a
-          → ((x : X) → read word ≡ Ok x → ListThen (λ xs. k (x ∷ xs)) words ≡ Err Number → IsStuck (ListThen (λ xs. k (x ∷ xs))) words) → IsStuck (ListThen k) (word ∷ words)
-      by true is a ra more = let s = (at_end front k r).stuck (word ∷ words) (sym (at_stop k (word ∷ words) is) ∙ e) in at_front is s s.front refl
-      by false is (Ok x) ra more =
-          stuck_behind (ListThen k) (ListThen (λ xs. k (x ∷ xs))) word words (λ after. at_item k word after x is ra) (more x ra (sym (at_item k word words x is ra) ∙ e))
-      by false is (Err f) ra more =
-          let both : Err f ≡ Err Number = sym (at_word k word words (Err f) is ra) ∙ e in
-          let same : f ≡ Number = cc in
-          let bad = ra ∙ ap Err same in
-          stuck_here (ListThen k) word words (w.digits word bad) (λ after. at_word k word after (Err Number) is bad)
-          (λ n small. reads_item front k r (decimal n) (digits_no_separator (decimal n) (decimal_numeral n (omega (arith, small)))) (w.fits word bad n small))
-
-  list_zero : (front : Words → Words) (k : List X → Rest) → ListRest spell IsFit front k → (before more : Words) (word : List ℕ) (entry : Record)
-      → ListThen k (before ++ codes "0" ∷ more) ≡ Ok entry → is_numeral word ≡ true → Decides (ListThen k) before word
-  list_zero front k r [] more word entry e digits = by (read (codes "0")) refl
-    where
-      by : (a : Result X RecordFault) → read (codes "0") ≡ a → Decides (ListThen k) [] word
-      by (Ok x) is = elim (w.zero x word is digits) [
-        | inl bad ↦ inl (λ after. at_word k word after (Err Number) (digits_no_separator word digits) bad)
-        | inr good ↦ inr (reads_item front k r word (digits_no_separator word digits) good)
-      ]
-      by (Err f) is = absurd (let both : Err f ≡ Ok entry = sym (at_word k (codes "0") more (Err f) refl is) ∙ e in cc)
-  list_zero front k r (first ∷ before) more word entry e digits =
-      by (is_separator first) refl (read first) refl (λ x is rest. list_zero (λ l. front (spell x ∷ l)) (λ xs. k (x ∷ xs)) (behind front k first x r is) before more word entry rest digits)
-    where
-      by : (s : Bool) → is_separator first ≡ s → (a : Result X RecordFault) → read first ≡ a
-          → ((x : X) → read first ≡ Ok x → ListThen (λ xs. k (x ∷ xs)) (before ++ codes "0" ∷ more) ≡ Ok entry → Decides (ListThen (λ xs. k (x ∷ xs))) before word) → Decides (ListThen k) (first ∷ before) word
-      by true is a ra rest = elim ((at_end front k r).zero (first ∷ before) more word entry (sym (at_stop k (first ∷ before ++ codes "0" ∷ more) is) ∙ e) digits) [
-        | inl bad ↦ inl (λ after. at_stop k (first ∷ before ++ word ∷ after) is ∙ bad after)
-        | inr f ↦ inr (record { words = f.words; entry = f.entry; read = at_stop k (first ∷ before ++ word ∷ f.words) is ∙ f.read })
-      ]
-      by false is (Ok x) ra rest = elim (rest x ra (sym (at_item k first (before ++ codes "0" ∷ more) x is ra) ∙ e)) [
-        | inl bad ↦ inl (λ after. at_item k first (before ++ word ∷ after) x is ra ∙ bad after)
-        | inr f ↦ inr (record { words = f.words; entry = f.entry; read = at_item k first (before ++ word ∷ f.words) x is ra ∙ f.read })
-      ]
-      by false is (Err f) ra rest = absurd (let both : Err f ≡ Ok entry = sym (at_word k first (before ++ codes "0" ∷ more) (Err f) is ra) ∙ e in cc)
-
-  list_written : (front : Words → Words) (k : List X → Rest) → ListRest spell IsFit front k → (words : Words) (entry : Record) → ListThen k words ≡ Ok entry → Writes front words entry
-  list_written front k r [] entry e = (at_end front k r).written [] entry e
-  list_written front k r (word ∷ words) entry e =
-      by (is_separator word) refl (read word) refl (λ x is rest. list_written (λ l. front (spell x ∷ l)) (λ xs. k (x ∷ xs)) (behind front k word x r is) words entry rest)
-    where
-      by : (s : Bool) → is_separator word ≡ s → (a : Result X RecordFault) → read word ≡ a
-          → ((x : X) → read word ≡ Ok x → ListThen (λ xs. k (x ∷ xs)) words ≡ Ok entry → Writes (λ l. front (spell x ∷ l)) words entry) → Writes front (word ∷ words) entry
-      by true is a ra more = (at_end front k r).written (word ∷ words) entry (sym (at_stop k (word ∷ words) is) ∙ e)
-      by false is (Ok x) ra more = written_behind read w front word words x entry ra (more x ra (sym (at_item k word words x is ra) ∙ e))
-      by false is (Err f) ra more = absurd (let both : Err f ≡ Ok entry = sym (at_word k word words (Err f) is ra) ∙ e in cc)
+      by : (s : Bool) → is_separator word ≡ s → ((x : X) → read word ≡ Ok x → IsReadAt (λ l. front (spell x ∷ l)) (ItemThen k x) words) → IsReadAt front (ListThen k) (word ∷ words)
+      by true is rest = alike (ListThen k) (k []) (word ∷ words) (λ l e. at_stop k l (e ∙ is)) (λ other after. at_stop k (word ∷ words ++ other ∷ after) is) ((r.reads [] (All-nil IsFit)).each (word ∷ words))
+      by false is rest =
+          alike (ListThen k) (WordThen (ItemThen k)) (word ∷ words) (λ l e. at_item k l (e ∙ is)) (λ other after. at_item k (word ∷ words ++ other ∷ after) is)
+          (some_word (ItemThen k) (λ x fit. some_list (λ l. front (spell x ∷ l)) (λ xs. k (x ∷ xs)) (behind front k r x fit)) word words rest)
 
   pub list_read : {front : Words → Words} (k : List X → Rest) → ListRest spell IsFit front k → IsRead front (λ words. followed (list_by read words) k)
-  list_read {front} k r = record {
-    some = let end = r.ends [] (All-nil IsFit) in record { words = end.words; entry = end.entry; read = at_stop k end.words end.ends ∙ end.read };
-    faults = list_faults front k r;
-    stuck = list_stuck front k r;
-    zero = list_zero front k r;
-    written = list_written front k r;
-  }
+  list_read {front} k r = record { some = some_list front k r; each = list_each front k r }
 
 -- what may end lists
 
@@ -347,52 +294,23 @@ pub end_last : (entry : Record) → CanEnd (λ words. last_part entry words)
 end_last entry = record { words = []; entry = entry; ends = refl; read = refl }
 
 pub last_read : {front : Words → Words} (entry : Record) → front [] ≡ record_words entry → IsWritable entry → IsRead front (λ words. last_part entry words)
-last_read {front} entry all writable = record { some = record { words = []; entry = entry; read = refl }; faults = faults; stuck = stuck; zero = zero; written = written }
+last_read {front} entry all writable = record { some = record { words = []; entry = entry; read = refl }; each = each }
   where
-    P : Rest
-    P words = last_part entry words
-
-    faults : (words : Words) (fault : RecordFault) → P words ≡ Err fault → IsWordOrNumber fault
-    faults [] fault e = absurd (let no : ⊥ = cc in no)
-    faults (word ∷ words) fault e = inl (let same : Word ≡ fault = cc in sym same)
-
-    stuck : (words : Words) → P words ≡ Err Number → IsStuck P words
-    stuck [] e = absurd (let no : ⊥ = cc in no)
-    stuck (word ∷ words) e = absurd (let no : ⊥ = cc in no)
-
-    zero : (before more : Words) (word : List ℕ) (other : Record) → P (before ++ codes "0" ∷ more) ≡ Ok other → is_numeral word ≡ true → Decides P before word
-    zero [] more word other e digits = absurd (let no : ⊥ = cc in no)
-    zero (first ∷ before) more word other e digits = absurd (let no : ⊥ = cc in no)
-
-    written : (words : Words) (other : Record) → P words ≡ Ok other → Writes front words other
-    written [] other e =
-        let same : entry ≡ other = cc in
-        record { same = all ∙ ap record_words same; writable = subst IsWritable same writable; visible = All-nil IsVisible }
-    written (word ∷ words) other e = absurd (let no : ⊥ = cc in no)
+    each : (words : Words) → IsReadAt front (last_part entry) words
+    each [] = record {
+      faults = λ fault e. absurd (let no : ⊥ = cc in no);
+      stuck = λ e. absurd (let no : ⊥ = cc in no);
+      zero = λ more word other e digits. absurd (let no : ⊥ = cc in no);
+      written = λ other e. let same : entry ≡ other = cc in record { same = all ∙ ap record_words same; writable = subst IsWritable same writable; visible = All-nil IsVisible };
+    }
+    each (word ∷ words) = record {
+      faults = λ fault e. inl (let same : Word ≡ fault = cc in sym same);
+      stuck = λ e. absurd (let no : ⊥ = cc in no);
+      zero = λ more other entry e digits. absurd (let no : ⊥ = cc in no);
+      written = λ other e. absurd (let no : ⊥ = cc in no);
+    }
 
 -- parts of parts
-
-pub same_read : {front : Words → Words} (p q : Rest) → ((words : Words) → q words ≡ p words) → IsRead front p → IsRead front q
-same_read {front} p q same r = record {
-  some = record { words = r.some.words; entry = r.some.entry; read = same r.some.words ∙ r.some.read };
-  faults = λ words fault e. r.faults words fault (sym (same words) ∙ e);
-  stuck = λ words e.
-      let s = r.stuck words (sym (same words) ∙ e) in
-      record {
-        front = s.front;
-        word = s.word;
-        more = s.more;
-        words_are = s.words_are;
-        digits = s.digits;
-        stuck = λ after. same (s.front ++ s.word ∷ after) ∙ s.stuck after;
-        fits = λ n small. let f = s.fits n small in record { words = f.words; entry = f.entry; read = same (s.front ++ decimal n ∷ f.words) ∙ f.read };
-      };
-  zero = λ before more word entry e digits. elim (r.zero before more word entry (sym (same (before ++ codes "0" ∷ more)) ∙ e) digits) [
-    | inl bad ↦ inl (λ after. same (before ++ word ∷ after) ∙ bad after)
-    | inr f ↦ inr (record { words = f.words; entry = f.entry; read = same (before ++ word ∷ f.words) ∙ f.read })
-  ];
-  written = λ words entry e. r.written words entry (sym (same words) ∙ e);
-}
 
 regrouped : {X Y : Type 0} (a : Parsed X) (q : X → Words → Parsed Y) (k : Y → Rest) → followed (followed a q) k ≡ followed a (λ x words. followed (q x words) k)
 regrouped {X} {Y} (Ok part) q k = refl
@@ -400,7 +318,13 @@ regrouped {X} {Y} (Err fault) q k = refl
 
 pub nested_read : {X Y : Type 0} {front : Words → Words} (p : Words → Parsed X) (q : X → Words → Parsed Y) (k : Y → Rest)
     → IsRead front (λ words. followed (p words) (λ x after. followed (q x after) k)) → IsRead front (λ words. followed (followed (p words) q) k)
-nested_read {X} {Y} {front} p q k r = same_read (λ words. followed (p words) (λ x after. followed (q x after) k)) (λ words. followed (followed (p words) q) k) (λ words. regrouped (p words) q k) r
+nested_read {X} {Y} {front} p q k r = record {
+  some = read_as same r.some;
+  each = λ words. alike _ _ words (λ l e. same l) (λ word after. same (words ++ word ∷ after)) (r.each words);
+}
+  where
+    same : (words : Words) → followed (followed (p words) q) k ≡ followed (p words) (λ x after. followed (q x after) k)
+    same words = regrouped (p words) q k
 
 pub nested_end : {X Y : Type 0} (p : Words → Parsed X) (q : X → Words → Parsed Y) (k : Y → Rest)
     → CanEnd (λ words. followed (p words) (λ x after. followed (q x after) k)) → CanEnd (λ words. followed (followed (p words) q) k)

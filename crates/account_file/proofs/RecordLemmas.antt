@@ -99,7 +99,7 @@ record_read entry w = ap (λ (a : Parsed Record). followed a (λ entry words. la
 -- what is written has no blank and no control, since it is read
 shown : (entry : Record) → IsWritable entry → IsVisible (first_word entry) × All IsVisible (other_words entry)
 shown entry w =
-    let all = (line_is_read.written (record_words entry) entry (record_read entry w)).visible in
+    let all = ((line_is_read.each (record_words entry)).written entry (record_read entry w)).visible in
     (All-head IsVisible (first_word entry) (other_words entry) all, All-tail IsVisible (first_word entry) (other_words entry) all)
 
 pub line_text_is_line : (entry : Record) → IsWritable entry → IsLine (line_text entry)
@@ -116,5 +116,5 @@ written_is_read entry line w e =
 -- what is read is written as the line, and can be written
 pub read_is_written : (line : List ℕ) (entry : Record) → record_in (words_of line) ≡ Ok entry → (record_line entry ≡ line ++ 10 ∷ []) × IsWritable entry
 read_is_written line entry e =
-    let found = line_is_read.written (words_of line) entry e in
+    let found = (line_is_read.each (words_of line)).written entry e in
     (ap (λ l. l ++ 10 ∷ []) (sym (spaced_words line (first_word entry) (other_words entry) found.same)), found.writable)

@@ -24,9 +24,18 @@ use Rattle.account_file.proofs.SpellingLemmas.{IsVisible, shown, digits_visible,
 abbrev pub AreItems : {X : Type 0} → (X → List ℕ) → (X → Type 0) → Type 0
 AreItems {X} spell IsFit = (x : X) → IsFit x → is_separator (spell x) ≡ false
 
+-- where something isn't read, its word is wrong, and no number
+abbrev pub IsReadOrWord : {X : Type 0} → Result X RecordFault → Type 0
+IsReadOrWord {X} (Ok x) = Unit {0}
+IsReadOrWord {X} (Err fault) = fault ≡ Word
+
+word_wrong : {X : Type 0} (a : Result X RecordFault) (fault : RecordFault) → IsReadOrWord a → a ≡ Err fault → fault ≡ Word
+word_wrong {X} (Ok x) fault is e = absurd (let clash : ⊥ = cc in clash)
+word_wrong {X} (Err other) fault is e = let same : other ≡ fault = cc in sym same ∙ is
+
 -- One kind of word, none of which is a number.
 pub record IsPlain {X : Type 0} (read : List ℕ → Result X RecordFault) (spell : X → List ℕ) (IsFit : X → Type 0) : Type 0 where
-  pub faults : (word : List ℕ) (fault : RecordFault) → read word ≡ Err fault → fault ≡ Word
+  pub faults : (word : List ℕ) → IsReadOrWord (read word)
   pub zero : read (codes "0") ≡ Err Word
   pub written : (word : List ℕ) (x : X) → read word ≡ Ok x → (word ≡ spell x) × IsFit x
   pub back : (x : X) → IsFit x → read (spell x) ≡ Ok x
@@ -36,9 +45,9 @@ pub plain_word : {X : Type 0} (read : List ℕ → Result X RecordFault) (spell 
 plain_word {X} read spell IsFit x fit plain = record {
   word = spell x;
   some = record { value = x; is = plain.back x fit };
-  faults = λ word fault e. inl (plain.faults word fault e);
-  digits = λ word e. absurd (let no = plain.faults word Number e in let clash : ⊥ = cc in clash);
-  fits = λ word e n small. absurd (let no = plain.faults word Number e in let clash : ⊥ = cc in clash);
+  faults = λ word fault e. inl (word_wrong (read word) fault (plain.faults word) e);
+  digits = λ word e. absurd (let no = word_wrong (read word) Number (plain.faults word) e in let clash : ⊥ = cc in clash);
+  fits = λ word e n small. absurd (let no = word_wrong (read word) Number (plain.faults word) e in let clash : ⊥ = cc in clash);
   zero = λ y word e digits. absurd (let both : Err Word ≡ Ok y = sym plain.zero ∙ e in let clash : ⊥ = cc in clash);
   written = plain.written;
   back = plain.back;
@@ -301,9 +310,9 @@ or_word : {X : Type 0} (o : Option X) (x : X) → or_fault o Word ≡ Ok x → o
 or_word {X} (Some y) x e = let same : y ≡ x = cc in ap Some same
 or_word {X} None x e = absurd (let clash : ⊥ = cc in clash)
 
-or_word_fault : {X : Type 0} (o : Option X) (fault : RecordFault) → or_fault o Word ≡ Err fault → fault ≡ Word
-or_word_fault {X} (Some y) fault e = absurd (let clash : ⊥ = cc in clash)
-or_word_fault {X} None fault e = let same : Word ≡ fault = cc in sym same
+or_word_fault : {X : Type 0} (o : Option X) → IsReadOrWord (or_fault o Word)
+or_word_fault {X} (Some y) = tt
+or_word_fault {X} None = refl
 
 abbrev first_pair : Pair
 first_pair = record { kind = Input; from = 0; to = 0; flip = false }
@@ -312,7 +321,7 @@ pub pair_is_word : IsWord pair_of pair_word HasPorts
 pair_is_word =
     plain_word pair_of pair_word HasPorts first_pair (record { from = omega arith; to = omega arith })
     (record {
-      faults = λ word fault e. or_word_fault (pair_in word) fault e;
+      faults = λ word. or_word_fault (pair_in word);
       zero = refl;
       written = λ word pair e. pair_written word pair (or_word (pair_in word) pair e);
       back = λ pair ports. ap (λ o. or_fault o Word) (pair_read pair ports);

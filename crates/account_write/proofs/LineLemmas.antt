@@ -22,44 +22,30 @@ shown_is : (claim : Claim) (e : Evidence) → shown_records claim e ≡ head_of 
 shown_is claim (evidence.Fails bits) = refl
 shown_is claim (evidence.Holds log) = refl
 
--- the next record in order, where nothing is left of what comes before it
-
-pub line_first : (log rest : List LogLine) (facts : List Fact) (logs : List Log) (bans : List Ban) (back : List Record) (one : LogLine) → log ≡ one ∷ rest → in_order [] log facts logs bans back ≡ entry.Line one ∷ in_order [] rest facts logs bans back
-line_first log rest facts logs bans back one is = ap (λ l. in_order [] l facts logs bans back) is
-
-pub fact_first : (facts rest : List Fact) (logs : List Log) (bans : List Ban) (back : List Record) (one : Fact) → facts ≡ one ∷ rest → in_order [] [] facts logs bans back ≡ head_of one.claim one.evidence ∷ in_order [] (log_lines one.evidence) rest logs bans back
-fact_first facts rest logs bans back one is =
-    let after = flat_map log_records logs ++ (map (λ ban. entry.Ban ban) bans ++ back) in
-    ap (λ fs. in_order [] [] fs logs bans back) is
-    ∙ (append_assoc (fact_records one) (flat_map fact_records rest) after
-    ∙ ap (λ l. l ++ (flat_map fact_records rest ++ after)) (shown_is one.claim one.evidence))
-
-pub log_first : (logs rest : List Log) (bans : List Ban) (back : List Record) (one : Log) → logs ≡ one ∷ rest → in_order [] [] [] logs bans back ≡ in_order [] one.lines [] rest bans back
-log_first logs rest bans back one is =
-    let after = map (λ ban. entry.Ban ban) bans ++ back in
-    ap (λ ls. in_order [] [] [] ls bans back) is ∙ append_assoc (log_records one) (flat_map log_records rest) after
-
-pub ban_first : (bans rest : List Ban) (back : List Record) (one : Ban) → bans ≡ one ∷ rest → in_order [] [] [] [] bans back ≡ entry.Ban one ∷ in_order [] [] [] [] rest back
-ban_first bans rest back one is = ap (λ bs. in_order [] [] [] [] bs back) is
-
--- the same, where what comes before it is empty by its length
+-- the next record in order, where what comes before it is empty by its length
 
 pub line_next : (front : List Record) (log rest : List LogLine) (facts : List Fact) (logs : List Log) (bans : List Ban) (back : List Record) (one : LogLine) → length front ≡ 0 → log ≡ one ∷ rest → in_order front log facts logs bans back ≡ entry.Line one ∷ in_order front rest facts logs bans back
-line_next front log rest facts logs bans back one none is = rw (nil_from_length front none) (line_first log rest facts logs bans back one is)
+line_next front log rest facts logs bans back one none is = rw (nil_from_length front none) (ap (λ l. in_order [] l facts logs bans back) is)
 
 pub fact_next : (front : List Record) (log lines : List LogLine) (facts rest : List Fact) (logs : List Log) (bans : List Ban) (back : List Record) (one : Fact) → length front ≡ 0 → length log ≡ 0 → facts ≡ one ∷ rest → lines ≡ log_lines one.evidence → in_order front log facts logs bans back ≡ head_of one.claim one.evidence ∷ in_order front lines rest logs bans back
 fact_next front log lines facts rest logs bans back one none no_line is of_log =
+    let after = flat_map log_records logs ++ (map (λ ban. entry.Ban ban) bans ++ back) in
     rw (nil_from_length front none, nil_from_length log no_line)
-    (fact_first facts rest logs bans back one is ∙ ap (λ ls. head_of one.claim one.evidence ∷ in_order [] ls rest logs bans back) (sym of_log))
+    (ap (λ fs. in_order [] [] fs logs bans back) is
+    ∙ append_assoc (fact_records one) (flat_map fact_records rest) after
+    ∙ ap (λ l. l ++ (flat_map fact_records rest ++ after)) (shown_is one.claim one.evidence)
+    ∙ ap (λ ls. head_of one.claim one.evidence ∷ in_order [] ls rest logs bans back) (sym of_log))
 
 pub log_next : (front : List Record) (log lines : List LogLine) (facts : List Fact) (logs rest : List Log) (bans : List Ban) (back : List Record) (one : Log) → length front ≡ 0 → length log ≡ 0 → length facts ≡ 0 → logs ≡ one ∷ rest → lines ≡ one.lines → in_order front log facts logs bans back ≡ in_order front lines facts rest bans back
 log_next front log lines facts logs rest bans back one none no_line no_fact is of_log =
     rw (nil_from_length front none, nil_from_length log no_line, nil_from_length facts no_fact)
-    (log_first logs rest bans back one is ∙ ap (λ ls. in_order [] ls [] rest bans back) (sym of_log))
+    (ap (λ ls. in_order [] [] [] ls bans back) is
+    ∙ append_assoc (log_records one) (flat_map log_records rest) (map (λ ban. entry.Ban ban) bans ++ back)
+    ∙ ap (λ ls. in_order [] ls [] rest bans back) (sym of_log))
 
 pub ban_next : (front : List Record) (log : List LogLine) (facts : List Fact) (logs : List Log) (bans rest : List Ban) (back : List Record) (one : Ban) → length front ≡ 0 → length log ≡ 0 → length facts ≡ 0 → length logs ≡ 0 → bans ≡ one ∷ rest → in_order front log facts logs bans back ≡ entry.Ban one ∷ in_order front log facts logs rest back
 ban_next front log facts logs bans rest back one none no_line no_fact no_log is =
-    rw (nil_from_length front none, nil_from_length log no_line, nil_from_length facts no_fact, nil_from_length logs no_log) (ban_first bans rest back one is)
+    rw (nil_from_length front none, nil_from_length log no_line, nil_from_length facts no_fact, nil_from_length logs no_log) (ap (λ bs. in_order [] [] [] [] bs back) is)
 
 pub back_next : (front : List Record) (log : List LogLine) (facts : List Fact) (logs : List Log) (bans : List Ban) (back rest : List Record) (one : Record) → length front ≡ 0 → length log ≡ 0 → length facts ≡ 0 → length logs ≡ 0 → length bans ≡ 0 → back ≡ one ∷ rest → in_order front log facts logs bans back ≡ one ∷ in_order front log facts logs bans rest
 back_next front log facts logs bans back rest one none no_line no_fact no_log no_ban is =
@@ -79,7 +65,7 @@ pub some_left : (front : List Record) (log : List LogLine) (facts : List Fact) (
 some_left [] [] [] [] [] [] a b c d e f one two three four five six is =
     absurd (false≢true (sym is ∙ and_from (a && b && c && d && e) f (and_from (a && b && c && d) e (and_from (a && b && c) d (and_from (a && b) c (and_from a b one two) three) four) five) six))
 some_left [] [] (x ∷ facts) logs bans back a b c d e f one two three four five six is =
-    let first = fact_first (x ∷ facts) facts logs bans back x refl in omega (arith, ap length first)
+    let first = fact_next [] [] (log_lines x.evidence) (x ∷ facts) facts logs bans back x refl refl refl refl in omega (arith, ap length first)
 some_left front log facts logs bans back a b c d e f one two three four five six is = omega arith
 
 -- a line was printed

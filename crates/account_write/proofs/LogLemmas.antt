@@ -60,11 +60,10 @@ log_leads formula at closed open_log taken (line ∷ lines) unclosed derived end
     by [] hints ends right rest go =
         let none : lines ≡ [] = last_line formula (taken ++ [] ∷ []) lines (empty_more taken [] unclosed) rest in
         subst (λ ls. Lead (at taken) (entry.Line (record { clause = []; hints = hints }) ∷ map (λ l. entry.Line l) ls) closed) (sym none)
-        (lead_one (at taken) (entry.Line (record { clause = []; hints = hints })) closed (open_log.takes taken (record { clause = []; hints = hints }) right) (open_log.closes taken hints))
+        (lead_one (open_log.takes taken (record { clause = []; hints = hints }) right) (open_log.closes taken hints))
     by (literal ∷ clause) hints ends right rest go =
         let next = taken ++ (literal ∷ clause) ∷ [] in
-        lead_first (at taken) (entry.Line (record { clause = literal ∷ clause; hints = hints })) (map (λ l. entry.Line l) lines) closed
-        (open_log.takes taken (record { clause = literal ∷ clause; hints = hints }) right)
+        lead_first (open_log.takes taken (record { clause = literal ∷ clause; hints = hints }) right)
         (subst (λ a. Lead a (map (λ l. entry.Line l) lines) closed) (sym (open_log.goes_on taken literal clause hints)) (go next (empty_more taken (literal ∷ clause) unclosed) rest ends))
 
 -- a whole log

@@ -18,7 +18,6 @@ use Rattle.account_core.specs.Shown.{AreSame, AreLogs, IsShownMatch}
 use Rattle.account_core.specs.Ports.{HaveAsMany}
 use Rattle.account_file.specs.declared.place.Place.{Place}
 use Rattle.account_file.specs.declared.place.Place.TheVariants as place
-use Rattle.account_file.specs.declared.record.Record.{Record}
 use Rattle.account_file.specs.declared.record.Record.TheVariants as entry
 use Rattle.account_file.specs.Order.{is_output, logs_after}
 use Rattle.account_file.specs.Spelling.{IsWritable}
@@ -51,7 +50,7 @@ proving graphs given matching left closed taken = record {
 }
 
 pub header_leads : (graphs : Graphs) → Lead (empty_account graphs) (entry.Header ∷ []) (headed graphs none_given)
-header_leads graphs = lead_one (empty_account graphs) entry.Header (headed graphs none_given) (record { there = refl; right = refl }) refl
+header_leads graphs = lead_one (record { there = refl; right = refl }) refl
 
 -- where a line leads while logs are left
 some_left : (left : ℕ) (clause : List SatLit) → (if suc left == 0 then None else Some (place.Logs (logs_after (suc left) clause))) ≡ Some (place.Logs (logs_after (suc left) clause))
@@ -81,9 +80,9 @@ Refute graphs matching closed logs = (k : ℕ) (d : Log) → k < length logs →
 logs_lead : (graphs : Graphs) (given : Given) (matching : Matching) (closed end : ℕ) (logs : List Log) → closed + length logs ≡ end → Refute graphs matching closed logs → Lead (proving graphs given matching (length logs) closed []) (flat_map log_records logs) (proving graphs given matching 0 end [])
 logs_lead graphs given matching closed end [] ends refute =
     let same : closed ≡ end = omega (arith, ends) in
-    lead_from (proving graphs given matching 0 closed []) (proving graphs given matching 0 end []) [] (proving graphs given matching 0 end []) (ap (λ c. proving graphs given matching 0 c []) same) (lead_none (proving graphs given matching 0 end []))
+    lead_from (ap (λ c. proving graphs given matching 0 c []) same) lead_none
 logs_lead graphs given matching closed end (log ∷ logs) ends refute =
-    lead_on (proving graphs given matching (suc (length logs)) closed []) (log_records log) (proving graphs given matching (length logs) (closed + 1) []) (flat_map log_records logs) (proving graphs given matching 0 end [])
+    lead_on
     (refutation_leads (formula_of graphs (log_query graphs matching closed)) (proving graphs given matching (suc (length logs)) closed) (proving graphs given matching (length logs) (closed + 1) []) log.lines (open_log graphs given matching (length logs) closed) first)
     (logs_lead graphs given matching (closed + 1) end logs (omega (arith, ends)) rest)
   where
@@ -143,17 +142,11 @@ module _ (graphs : Graphs) (matching : Matching) (ports : HavePorts graphs.first
 
 pub match_leads : (graphs : Graphs) (matching : Matching) (logs : List Log) → IsShownMatch graphs matching logs → Lead (empty_account graphs) (match_records matching logs) (proving graphs none_given matching 0 (length logs) [])
 match_leads graphs matching logs shown =
-    lead_on (empty_account graphs) (entry.Header ∷ []) (headed graphs none_given) (concluded ∷ flat_map log_records logs) (proving graphs none_given matching 0 (length logs) [])
-    (header_leads graphs)
-    (lead_first (headed graphs none_given) concluded (flat_map log_records logs) (proving graphs none_given matching 0 (length logs) [])
-    (conclusion_taken graphs matching ports none_given)
-    (lead_from (after (headed graphs none_given) concluded) (proving graphs none_given matching (length logs) 0 []) (flat_map log_records logs) (proving graphs none_given matching 0 (length logs) [])
-    (concluded_at graphs matching ports none_given (length logs) (sym shown.shown.number))
+    lead_on (header_leads graphs)
+    (lead_first (conclusion_taken graphs matching ports none_given)
+    (lead_from (concluded_at graphs matching ports none_given (length logs) (sym shown.shown.number))
     (logs_lead graphs none_given matching 0 (length logs) logs (omega arith) (each_refutes graphs matching logs shown.shown))))
   where
-    concluded : Record
-    concluded = entry.Conclusion (conclusion.Match (pairs_of_matching matching))
-
     ports : HavePorts graphs.first graphs.second matching.inputs matching.outputs
     ports = record {
       same_inputs = shown.is_match.same_inputs;

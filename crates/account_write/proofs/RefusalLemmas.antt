@@ -1,5 +1,5 @@
 -- The accounts that there is no match: by facts and bans, and by the numbers of ports.
-use Rattle.std.proofs.Common.{ℕ, suc, true, false, List, [], ◌∷◌, ◌++◌, map, take, All, None, Some, slice_index_or, inr, refl, sym, ap, subst, ◌∙◌, arith, append_assoc}
+use Rattle.std.proofs.Common.{ℕ, suc, true, List, [], ◌∷◌, ◌++◌, map, take, All, None, Some, slice_index_or, inr, refl, sym, ap, subst, ◌∙◌, arith, append_assoc}
 use Rattle.std.specs.List.{flat_map}
 use Rattle.std.proofs.lemmas.List.{append-nil, get_or-map, length-map}
 use Rattle.std.proofs.lemmas.List.Elements.{All-cons, All-head, All-nil, All-tail}
@@ -67,9 +67,7 @@ none_ports_accepted graphs differ =
     writable = All-cons IsWritable entry.Header (none_ports ∷ []) tt (All-cons IsWritable none_ports [] tt (All-nil IsWritable))
 
     leads : Lead (empty_account graphs) none_ports_records (refusing graphs none_given)
-    leads = lead_on (empty_account graphs) (entry.Header ∷ []) (headed graphs none_given) (none_ports ∷ []) (refusing graphs none_given)
-        (header_leads graphs)
-        (lead_one (headed graphs none_given) none_ports (refusing graphs none_given) (record { there = refl; right = inr (differ, refl) }) refl)
+    leads = lead_on (header_leads graphs) (lead_one (record { there = refl; right = inr (differ, refl) }) refl)
 
 inputs_there : (n : ℕ) (shape : Shape) → IsPlaced n shape → AreInputs n shape
 inputs_there n (Up i) placed = placed
@@ -96,7 +94,7 @@ module _ (graphs : Graphs) (many : HaveAsMany graphs.first graphs.second) where
   shown_leads : (given : Given) (claim : Claim) (evidence : Evidence) → IsClaim graphs claim → IsEvidence graphs claim evidence → Lead (headed graphs given) (shown_records claim evidence) (headed graphs (with_decided given (shown_by claim evidence)))
   shown_leads given claim (evidence.Fails bits) placed breaks =
       let n = (graph_of graphs claim.side).inputs in
-      lead_one (headed graphs given) (entry.Fact (head.Fails claim bits)) (headed graphs (with_fact given claim false))
+      lead_one
       (record {
         there = refl;
         right = inr (many, inr (record { output = placed.output; inputs = inputs_there n claim.shape placed.placed }, inr (lesser_first n claim.shape placed.placed, inr (breaks, refl))));
@@ -104,7 +102,7 @@ module _ (graphs : Graphs) (many : HaveAsMany graphs.first graphs.second) where
       refl
   shown_leads given claim (evidence.Holds log) placed refutes =
       let n = (graph_of graphs claim.side).inputs in
-      lead_first (headed graphs given) (entry.Fact (head.Holds claim)) (map (λ line. entry.Line line) log.lines) (headed graphs (with_fact given claim true))
+      lead_first
       (record {
         there = refl;
         right = inr (many, inr (record { output = placed.output; inputs = inputs_there n claim.shape placed.placed }, inr (lesser_first n claim.shape placed.placed, refl)));
@@ -113,14 +111,14 @@ module _ (graphs : Graphs) (many : HaveAsMany graphs.first graphs.second) where
 
   facts_lead : (before : List Decided) (bans : List (List Pair)) (facts : List Fact) → All (IsFact graphs) facts → Lead (headed graphs (record { facts = before; bans = bans })) (flat_map fact_records facts) (headed graphs (record { facts = before ++ map decided_by facts; bans = bans }))
   facts_lead before bans [] each =
-      subst (λ l. Lead (headed graphs (record { facts = before; bans = bans })) [] (headed graphs (record { facts = l; bans = bans }))) (sym (append-nil before)) (lead_none (headed graphs (record { facts = before; bans = bans })))
+      subst (λ l. Lead (headed graphs (record { facts = before; bans = bans })) [] (headed graphs (record { facts = l; bans = bans }))) (sym (append-nil before)) lead_none
   facts_lead before bans (fact ∷ facts) each =
       let given : Given = record { facts = before; bans = bans } in
       let first = All-head (IsFact graphs) fact facts each in
       let one = shown_leads given fact.claim fact.evidence first.placed first.evidence in
       let rest = facts_lead (before ++ decided_by fact ∷ []) bans facts (All-tail (IsFact graphs) fact facts each) in
       subst (λ l. Lead (headed graphs given) (fact_records fact ++ flat_map fact_records facts) (headed graphs (record { facts = l; bans = bans }))) (append_assoc before (decided_by fact ∷ []) (map decided_by facts))
-      (lead_on (headed graphs given) (fact_records fact) (headed graphs (with_decided given (decided_by fact))) (flat_map fact_records facts) (headed graphs (record { facts = (before ++ decided_by fact ∷ []) ++ map decided_by facts; bans = bans })) one rest)
+      (lead_on one rest)
 
   ban_taken : (given : Given) (ban : Ban) → IsValidBan graphs given ban → IsTaken (headed graphs given) (entry.Ban ban)
   ban_taken given ban is = record {
@@ -130,12 +128,10 @@ module _ (graphs : Graphs) (many : HaveAsMany graphs.first graphs.second) where
 
   bans_lead : (facts : List Decided) (before : List (List Pair)) (bans : List Ban) → EachAt (λ k ban. IsValidBan graphs (record { facts = facts; bans = before ++ pairs_of (take k bans) }) ban) bans → Lead (headed graphs (record { facts = facts; bans = before })) (map (λ ban. entry.Ban ban) bans) (headed graphs (record { facts = facts; bans = before ++ pairs_of bans }))
   bans_lead facts before [] each =
-      subst (λ l. Lead (headed graphs (record { facts = facts; bans = before })) [] (headed graphs (record { facts = facts; bans = l }))) (sym (append-nil before)) (lead_none (headed graphs (record { facts = facts; bans = before })))
+      subst (λ l. Lead (headed graphs (record { facts = facts; bans = before })) [] (headed graphs (record { facts = facts; bans = l }))) (sym (append-nil before)) lead_none
   bans_lead facts before (ban ∷ bans) each =
       subst (λ l. Lead (headed graphs (record { facts = facts; bans = before })) (entry.Ban ban ∷ map (λ b. entry.Ban b) bans) (headed graphs (record { facts = facts; bans = l }))) (append_assoc before (ban.pairs ∷ []) (pairs_of bans))
-      (lead_first (headed graphs (record { facts = facts; bans = before })) (entry.Ban ban) (map (λ b. entry.Ban b) bans) (headed graphs (record { facts = facts; bans = (before ++ ban.pairs ∷ []) ++ pairs_of bans }))
-      (ban_taken (record { facts = facts; bans = before }) ban first)
-      (bans_lead facts (before ++ ban.pairs ∷ []) bans rest))
+      (lead_first (ban_taken (record { facts = facts; bans = before }) ban first) (bans_lead facts (before ++ ban.pairs ∷ []) bans rest))
     where
       first : IsValidBan graphs (record { facts = facts; bans = before }) ban
       first = subst (λ (l : List (List Pair)). IsValidBan graphs (record { facts = facts; bans = l }) ban) (append-nil before) (each 0 ban (omega arith))
@@ -156,16 +152,10 @@ module _ (graphs : Graphs) (many : HaveAsMany graphs.first graphs.second) where
       → Lead (empty_account graphs) (refusal_records facts bans number) (refusing graphs (record { facts = map decided_by facts; bans = pairs_of bans }))
   refusal_leads facts bans number are_facts valid empty =
       let decided = map decided_by facts in
-      let with_facts : Given = record { facts = decided; bans = [] } in
-      let whole : Given = record { facts = decided; bans = pairs_of bans } in
-      let concluded = entry.Conclusion (conclusion.NoneBan number) in
-      lead_on (empty_account graphs) (entry.Header ∷ []) (headed graphs none_given) (flat_map fact_records facts ++ (map (λ ban. entry.Ban ban) bans ++ concluded ∷ [])) (refusing graphs whole)
-      (header_leads graphs)
-      (lead_on (headed graphs none_given) (flat_map fact_records facts) (headed graphs with_facts) (map (λ ban. entry.Ban ban) bans ++ concluded ∷ []) (refusing graphs whole)
-      (facts_lead [] [] facts are_facts.each)
-      (lead_on (headed graphs with_facts) (map (λ ban. entry.Ban ban) bans) (headed graphs whole) (concluded ∷ []) (refusing graphs whole)
-      (bans_lead decided [] bans valid)
-      (lead_one (headed graphs whole) concluded (refusing graphs whole) (conclusion_taken decided bans number empty) refl)))
+      lead_on (header_leads graphs)
+      (lead_on (facts_lead [] [] facts are_facts.each)
+      (lead_on (bans_lead decided [] bans valid)
+      (lead_one (conclusion_taken decided bans number empty) refl)))
 
   pub refusal_accepted : (facts : List Fact) (bans : List Ban) (number : ℕ) → AreFacts graphs facts → AreValidBans graphs (map decided_by facts) bans → IsEmptyBan bans number
       → All IsWritable (refusal_records facts bans number) → IsAccepted graphs (account_of (refusal_records facts bans number)) verdict.None

@@ -36,28 +36,28 @@ pub record Lead (account : Account) (records : List Record) (other : Account) : 
   pub taken : AreTaken account records
   pub to : fold after account records ≡ other
 
-pub lead_none : (account : Account) → Lead account [] account
-lead_none account = record { taken = tt; to = refl }
+pub lead_none : {account : Account} → Lead account [] account
+lead_none {account} = record { taken = tt; to = refl }
 
-pub lead_first : (account : Account) (entry : Record) (records : List Record) (other : Account) → IsTaken account entry → Lead (after account entry) records other → Lead account (entry ∷ records) other
-lead_first account entry records other first rest = record { taken = (first, rest.taken); to = rest.to }
+pub lead_first : {account other : Account} {entry : Record} {records : List Record} → IsTaken account entry → Lead (after account entry) records other → Lead account (entry ∷ records) other
+lead_first {account} {other} {entry} {records} first rest = record { taken = (first, rest.taken); to = rest.to }
 
-pub lead_one : (account : Account) (entry : Record) (other : Account) → IsTaken account entry → after account entry ≡ other → Lead account (entry ∷ []) other
-lead_one account entry other first to = record { taken = (first, tt); to = to }
+pub lead_one : {account other : Account} {entry : Record} → IsTaken account entry → after account entry ≡ other → Lead account (entry ∷ []) other
+lead_one {account} {other} {entry} first to = record { taken = (first, tt); to = to }
 
 taken_on : (account : Account) (records more : List Record) → AreTaken account records → AreTaken (fold after account records) more → AreTaken account (records ++ more)
 taken_on account [] more taken rest = rest
 taken_on account (entry ∷ records) more taken rest = (taken.0, taken_on (after account entry) records more taken.1 rest)
 
-pub lead_on : (account : Account) (records : List Record) (middle : Account) (more : List Record) (other : Account) → Lead account records middle → Lead middle more other → Lead account (records ++ more) other
-lead_on account records middle more other one two = record {
+pub lead_on : {account middle other : Account} {records more : List Record} → Lead account records middle → Lead middle more other → Lead account (records ++ more) other
+lead_on {account} {middle} {other} {records} {more} one two = record {
   taken = taken_on account records more one.taken (subst (λ a. AreTaken a more) (sym one.to) two.taken);
   to = fold-append after account records more ∙ (ap (λ a. fold after a more) one.to ∙ two.to);
 }
 
 -- an account that is equal takes the same
-pub lead_from : (account same : Account) (records : List Record) (other : Account) → account ≡ same → Lead same records other → Lead account records other
-lead_from account same records other e lead = subst (λ a. Lead a records other) (sym e) lead
+pub lead_from : {account same other : Account} {records : List Record} → account ≡ same → Lead same records other → Lead account records other
+lead_from {account} {same} {other} {records} e lead = subst (λ a. Lead a records other) (sym e) lead
 
 -- they stand in order
 in_order : (account : Account) (records : List Record) → AreTaken account records → fold place_after_one (Some account.place) records ≡ Some (fold after account records).place
@@ -110,7 +110,7 @@ accepted_at_end graphs records other verdict writable lead at concluded =
     taken = record { there = subst (λ p. IsSome (next_place p entry_of.End)) (sym at) refl; right = refl }
 
     whole : Lead (empty_account graphs) (records ++ entry_of.End ∷ []) (after other entry_of.End)
-    whole = lead_on (empty_account graphs) records other (entry_of.End ∷ []) (after other entry_of.End) lead (lead_one other entry_of.End (after other entry_of.End) taken refl)
+    whole = lead_on lead (lead_one taken refl)
 
     ended : (after other entry_of.End).place ≡ place.Ended
     ended = ap (λ p. unwrap_or (next_place p entry_of.End) p) at

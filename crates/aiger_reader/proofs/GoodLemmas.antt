@@ -8,7 +8,7 @@ use Rattle.net_file.specs.declared.fault.NetKind.{NetKind}
 use Rattle.net_file.specs.declared.fault.NetKind.TheVariants as kind
 use Rattle.aiger_reader.specs.Words.{numbers_on}
 use Rattle.aiger_reader.specs.Headers.{AigerHeader}
-use Rattle.aiger_reader.specs.Bodies.{Role, Output, roles_of, role_at, defines, defined, body_lines, first_of, Writes, IsGoodRow, AreGood, IsBodyFault}
+use Rattle.aiger_reader.specs.Bodies.{Role, Output, roles_of, role_at, defines, defined, body_lines, first_of, Writes, IsGoodRow, AreGood, IsFirstFault}
 use Rattle.aiger_reader.specs.Reading.{IsAtLine, IsReading, IsWanted, IsRowOn, IsNextFault, IsNumbering, IsRowRead, next_line_of}
 use Rattle.aiger_reader.proofs.PlaceLemmas.{place_more, next_is, there, offset_is, body_ends, file_ends}
 use Rattle.aiger_reader.proofs.SignalLemmas.{place_cases, signals_more, distinct}
@@ -67,7 +67,7 @@ good_more h body rows row width defining next there wide on distinct good =
     }
 
 -- the fault of the next line is the body's
-pub next_fault : (bytes : List ℕ) (h : AigerHeader) (rows : List (List ℕ)) (p : Piece) (signals : List ℕ) (count width : ℕ) (defining : Bool) (fault : NetKind) (at : ℕ) → IsReading bytes h rows p signals count → IsWanted h rows width defining → at ≡ p.at → IsNextFault p (2 * h.variables + 1) defining width fault → IsBodyFault bytes h fault at
+pub next_fault : (bytes : List ℕ) (h : AigerHeader) (rows : List (List ℕ)) (p : Piece) (signals : List ℕ) (count width : ℕ) (defining : Bool) (fault : NetKind) (at : ℕ) → IsReading bytes h rows p signals count → IsWanted h rows width defining → at ≡ p.at → IsNextFault p (2 * h.variables + 1) defining width fault → IsFirstFault bytes h fault at
 next_fault bytes h rows p signals count width defining kind.Truncated at reading next is none =
     record {
       rows = rows;

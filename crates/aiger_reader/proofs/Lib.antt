@@ -6,7 +6,6 @@ pub mod SignalLemmas
 pub mod GoodLemmas
 pub mod RoleLemmas
 pub mod ReadingLemmas
-pub mod PropertyLemmas
 pub mod NumberingLemmas
 pub mod CircuitLemmas
 pub mod DeltaLemmas

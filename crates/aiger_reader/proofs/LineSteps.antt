@@ -7,8 +7,6 @@ use Rattle.std.proofs.lemmas.List.Sums.{take_while-cons}
 use Rattle.std.proofs.lemmas.Bool.{cases_lt}
 use Rattle.text_core.specs.Lines.{lines, text_of_lines, line_length, first_line, after_line}
 use Rattle.text_core.specs.Piece.{Piece, front}
-use Rattle.aiger_reader.specs.declared.symbols.SymbolStop.{SymbolStop}
-use Rattle.aiger_reader.specs.declared.symbols.SymbolStop.TheVariants as why
 use Rattle.aiger_reader.specs.Symbols.{Port, is_comment, symbol_lines, AddsName, GiveNames, ArePortSlots, AreSymbols, IsSymbolFault}
 use Rattle.aiger_reader.proofs.GiveLemmas.{give_more, give_split, give_same}
 use Rattle.aiger_reader.proofs.PlaceLemmas.{length_of_lines}
@@ -111,8 +109,3 @@ at_fault inputs outputs at text left line more input_slots output_slots way firs
         | inr here ↦ place ∙ (sym (ap (λ (p : Piece). p.at) (line_is left line first)) ∙ (here ∙ ap (λ xs. text.at + length (text_of_lines xs)) (sym lines_before)))
       ];
     }
-
--- why a line's name was not added
-pub stop_cases : (e : SymbolStop) → (e ≡ why.Memory) ⊎ (e ≡ why.Bad)
-stop_cases why.Memory = inl refl
-stop_cases why.Bad = inr refl

@@ -4,6 +4,7 @@ use Rattle.circuits.specs.Circuits.{Circuit}
 use Rattle.circuits.specs.Levels.{IsAcyclic, IsFirstLooped}
 use Rattle.circuits.proofs.OneOrder.{one_first_looped, acyclic_not_looped}
 use Rattle.net_file.specs.declared.fault.NetKind.{NetKind}
+use Rattle.net_file.proofs.OneFault.{IsOne, either}
 use Rattle.aiger_reader.specs.Headers.{AigerHeader, Begins}
 use Rattle.aiger_reader.specs.Bodies.{IsBody, IsBodyFault, IsUndefined, line_offset}
 use Rattle.aiger_reader.specs.Deltas.{IsDeltaFault, binary_circuit}
@@ -107,20 +108,6 @@ netlist_or_fault bytes circuit i o fault at is (inr (inr (inr (inr (inl cycle)))
 netlist_or_fault bytes circuit i o fault at is (inr (inr (inr (inr (inr names))))) =
     let here = names_at bytes fault at is.h circuit is.rest is.netlist names in
     names_or_fault is.h.inputs is.h.outputs names.base is.rest i o at is.names here.1
-
-abbrev Same : NetKind → ℕ → NetKind → ℕ → Type 0
-Same fault at other place = (fault ≡ other) × (at ≡ place)
-
--- a relation has one kind and one place at most
-abbrev IsOne : (NetKind → ℕ → Type 0) → Type 0
-IsOne R = (fault other : NetKind) (at place : ℕ) → R fault at → R other place → Same fault at other place
-
--- two stages that exclude one another, and have one fault each, have one together
-either : (S R : NetKind → ℕ → Type 0) → ((fault other : NetKind) (at place : ℕ) → S fault at → R other place → ⊥) → IsOne S → IsOne R → IsOne (λ fault at. S fault at ⊎ R fault at)
-either S R apart one two fault other at place (inl s) (inl t) = one fault other at place s t
-either S R apart one two fault other at place (inl s) (inr r) = absurd (apart fault other at place s r)
-either S R apart one two fault other at place (inr r) (inl s) = absurd (apart other fault place at s r)
-either S R apart one two fault other at place (inr r) (inr q) = two fault other at place r q
 
 one_header_kind : (bytes : List ℕ) (fault other : NetKind) → IsHeaderFault bytes fault → IsHeaderFault bytes other → fault ≡ other
 one_header_kind bytes fault other (inl a) (inl b) = a.0 ∙ sym b.0

@@ -6,7 +6,7 @@ use Rattle.std.proofs.Math.Seq.{get_or-append_seam}
 use Rattle.net_file.specs.declared.fault.NetKind.{NetKind}
 use Rattle.net_file.specs.declared.fault.NetKind.TheVariants as kind
 use Rattle.aiger_reader.specs.Headers.{AigerHeader, header_numbers, HasHeader}
-use Rattle.aiger_reader.specs.Bodies.{Role, Input, Output, Gate, roles_of, role_at, defines, defined, body_lines, line_offset, first_of, Writes, IsGoodRow, AreGood, IsBadLine, IsBadLiteral, IsRedefined, IsLineFault, IsBodyFault, IsBody}
+use Rattle.aiger_reader.specs.Bodies.{Role, Input, Output, Gate, roles_of, role_at, defines, defined, body_lines, line_offset, first_of, Writes, IsGoodRow, AreGood, IsBadLine, IsBadLiteral, IsRedefined, IsLineFault, IsBodyFault, IsBody, bare}
 use Rattle.aiger_reader.proofs.HeaderLemmas.{map_same, keyword_same}
 use Rattle.aiger_reader.proofs.GoodLemmas.{defined_by, defined_more}
 
@@ -39,7 +39,7 @@ one_front h body xs ys one other count =
 
 pub one_body : (bytes : List ℕ) (h : AigerHeader) (xs ys : List (List ℕ)) → IsBody bytes h xs → IsBody bytes h ys → xs ≡ ys
 one_body bytes h xs ys one other =
-    one_front h (body_lines bytes) xs ys one.good other.good (one.whole ∙ sym other.whole)
+    one_front (bare h) (body_lines bytes) xs ys one.good other.good (one.whole ∙ sym other.whole)
 
 -- fewer rows define a front of what more rows define
 defined_front : (roles : List Role) (ys zs : List (List ℕ)) → (rest : List ℕ) × (defined roles (ys ++ zs) ≡ defined roles ys ++ rest)
@@ -101,7 +101,7 @@ not_after bytes h xs ys other at more fewer below why = absurd why
 
 pub body_or_fault : (bytes : List ℕ) (h : AigerHeader) (rows : List (List ℕ)) (fault : NetKind) (at : ℕ) → IsBody bytes h rows → IsBodyFault bytes h fault at → ⊥
 body_or_fault bytes h rows fault at body bad =
-    not_after bytes h rows bad.rows fault at body.good bad.good (omega (arith, body.whole, bad.wanted_line)) bad.why
+    not_after bytes (bare h) rows bad.rows fault at body.good bad.good (omega (arith, body.whole, bad.wanted_line)) bad.why
 
 -- the four faults of a line
 abbrev Four : List ℕ → AigerHeader → List (List ℕ) → NetKind → ℕ → Type 0
@@ -152,9 +152,9 @@ compared m n = elim (leb_tells n m) [
 pub one_body_fault : (bytes : List ℕ) (h : AigerHeader) (one other : NetKind) (at place : ℕ) → IsBodyFault bytes h one at → IsBodyFault bytes h other place → (one ≡ other) × (at ≡ place)
 one_body_fault bytes h one other at place this that =
     elim (compared (length this.rows) (length that.rows)) [
-      | inl less ↦ absurd (not_after bytes h that.rows this.rows one at that.good this.good less this.why)
+      | inl less ↦ absurd (not_after bytes (bare h) that.rows this.rows one at that.good this.good less this.why)
       | inr (inl same) ↦
-          let rows = one_front h (body_lines bytes) this.rows that.rows this.good that.good same in
-          same_four bytes h that.rows one other at place (four bytes h that.rows one at (subst (λ rows. IsLineFault bytes h rows one at) rows this.why)) (four bytes h that.rows other place that.why)
-      | inr (inr more) ↦ absurd (not_after bytes h this.rows that.rows other place this.good that.good more that.why)
+          let rows = one_front (bare h) (body_lines bytes) this.rows that.rows this.good that.good same in
+          same_four bytes (bare h) that.rows one other at place (four bytes (bare h) that.rows one at (subst (λ rows. IsLineFault bytes (bare h) rows one at) rows this.why)) (four bytes (bare h) that.rows other place that.why)
+      | inr (inr more) ↦ absurd (not_after bytes (bare h) this.rows that.rows other place this.good that.good more that.why)
     ]

@@ -3,20 +3,15 @@
 use Rattle.std.proofs.Common.{◌≡◌, ℕ, ◌+◌, ◌*◌, ◌<◌, List, [], ◌∷◌, length, inl, inr, refl, sym, ap, ap₂, subst, ◌∙◌, arith}
 use Rattle.std.proofs.lemmas.Bool.{cases_lt}
 use Rattle.aiger_reader.specs.Headers.{AigerHeader}
-use Rattle.aiger_reader.specs.Deltas.{BeginsFirst, BeginsSecond, BeginsGates, AreGates, IsBadPair, IsDeltaFault, after_outputs}
+use Rattle.aiger_reader.specs.Deltas.{BeginsOperand, BeginsSecond, BeginsGates, AreGates, IsBadPair, IsDeltaFault, after_outputs}
 use Rattle.aiger_reader.proofs.DeltaLemmas.{one_delta}
 use Rattle.aiger_reader.proofs.PairLemmas.{BeginsPair}
 
--- the operands of a gate
-pub one_first : (literal : ℕ) (bytes others x y : List ℕ) (a b : ℕ) → bytes ≡ others → BeginsFirst literal bytes a x → BeginsFirst literal others b y → (a ≡ b) × (x ≡ y)
-one_first literal bytes others x y a b same one other =
-    let deltas = one_delta bytes others x y one.delta other.delta same one.read other.read in
-    (omega (arith, one.operand, other.operand, deltas.0), deltas.1)
-
-pub one_second : (first second : ℕ) (bytes others x y : List ℕ) (a b : ℕ) → first ≡ second → bytes ≡ others → BeginsSecond first bytes a x → BeginsSecond second others b y → (a ≡ b) × (x ≡ y)
-one_second first second bytes others x y a b firsts same one other =
-    let deltas = one_delta bytes others x y one.delta other.delta same one.read other.read in
-    (omega (arith, firsts, one.operand, other.operand, deltas.0), deltas.1)
+-- an operand of a gate
+pub one_operand : (least literal other : ℕ) (bytes others x y : List ℕ) (a b : ℕ) → literal ≡ other → bytes ≡ others → BeginsOperand least literal bytes a x → BeginsOperand least other others b y → (a ≡ b) × (x ≡ y)
+one_operand least literal other bytes others x y a b literals same one two =
+    let deltas = one_delta bytes others x y one.delta two.delta same one.read two.read in
+    (omega (arith, literals, one.operand, two.operand, deltas.0), deltas.1)
 
 -- equally many gates
 pub one_gates : (variable : ℕ) (bytes others x y : List ℕ) (gates more : List (ℕ × ℕ)) → bytes ≡ others → length gates ≡ length more → BeginsGates variable bytes gates x → BeginsGates variable others more y → (gates ≡ more) × (x ≡ y)
@@ -24,8 +19,8 @@ one_gates variable bytes others x y [] [] same count one other = (cc, sym one �
 one_gates variable bytes others x y [] (q ∷ qs) same count one other = absurd (omega (arith, count))
 one_gates variable bytes others x y (p ∷ ps) [] same count one other = absurd (omega (arith, count))
 one_gates variable bytes others x y (p ∷ ps) (q ∷ qs) same count one other =
-    let firsts = one_first (2 * variable) bytes others one.0 other.0 p.0 q.0 same one.2 other.2 in
-    let seconds = one_second p.0 q.0 one.0 other.0 one.1 other.1 p.1 q.1 firsts.0 firsts.1 one.3 other.3 in
+    let firsts = one_operand 1 (2 * variable) (2 * variable) bytes others one.0 other.0 p.0 q.0 refl same one.2 other.2 in
+    let seconds = one_operand 0 p.0 q.0 one.0 other.0 one.1 other.1 p.1 q.1 firsts.0 firsts.1 one.3 other.3 in
     let tails = one_gates (variable + 1) one.1 other.1 x y ps qs seconds.1 (omega (arith, count)) one.4 other.4 in
     let pair : p ≡ q = ap₂ (λ (a b : ℕ). (a, b)) firsts.0 seconds.0 in
     (ap₂ (λ (d : ℕ × ℕ) (ds : List (ℕ × ℕ)). d ∷ ds) pair tails.0, tails.1)
@@ -45,8 +40,8 @@ pair_after variable bytes others x y [] (q ∷ qs) same fewer one other =
     let here : P variable others = (other.0, other.2, other.3) in
     (q, other.1, subst (λ n. P n x) e (subst (P variable) (sym same ∙ one) here))
 pair_after variable bytes others x y (p ∷ ps) (q ∷ qs) same fewer one other =
-    let firsts = one_first (2 * variable) bytes others one.0 other.0 p.0 q.0 same one.2 other.2 in
-    let seconds = one_second p.0 q.0 one.0 other.0 one.1 other.1 p.1 q.1 firsts.0 firsts.1 one.3 other.3 in
+    let firsts = one_operand 1 (2 * variable) (2 * variable) bytes others one.0 other.0 p.0 q.0 refl same one.2 other.2 in
+    let seconds = one_operand 0 p.0 q.0 one.0 other.0 one.1 other.1 p.1 q.1 firsts.0 firsts.1 one.3 other.3 in
     let next = pair_after (variable + 1) one.1 other.1 x y ps qs seconds.1 (omega (arith, fewer)) one.4 other.4 in
     let e : variable + 1 + length ps ≡ variable + length (p ∷ ps) = omega arith in
     (next.0, next.1, subst (λ n. BeginsPair (2 * n) x next.0 next.1) e next.2)
@@ -56,7 +51,7 @@ pub not_bad : (literal total at : ℕ) (bytes rest : List ℕ) (pair : ℕ × �
 not_bad literal total at bytes rest pair there (inl bad) = bad.0 pair.0 there.0 there.1
 not_bad literal total at bytes rest pair there (inr bad) =
     let here : bytes ≡ bytes = refl in
-    let firsts = one_first literal bytes bytes there.0 bad.1 pair.0 bad.0 here there.1 bad.2 in
+    let firsts = one_operand 1 literal literal bytes bytes there.0 bad.1 pair.0 bad.0 refl here there.1 bad.2 in
     let P : ℕ → Type 0 = λ a. BeginsSecond a there.0 pair.1 rest in
     let Q : List ℕ → Type 0 = λ xs. BeginsSecond bad.0 xs pair.1 rest in
     bad.3 pair.1 rest (subst Q firsts.1 (subst P firsts.0 there.2))
@@ -68,7 +63,7 @@ one_bad literal total at place bytes (inl one) (inr other) = absurd (one.0 other
 one_bad literal total at place bytes (inr one) (inl other) = absurd (other.0 one.0 one.1 one.2)
 one_bad literal total at place bytes (inr one) (inr other) =
     let here : bytes ≡ bytes = refl in
-    let firsts = one_first literal bytes bytes one.1 other.1 one.0 other.0 here one.2 other.2 in
+    let firsts = one_operand 1 literal literal bytes bytes one.1 other.1 one.0 other.0 refl here one.2 other.2 in
     omega (arith, one.4, other.4, ap length firsts.1)
 
 -- gates that go on past a bad pair

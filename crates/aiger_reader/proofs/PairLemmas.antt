@@ -2,19 +2,15 @@
 use Rattle.std.proofs.Common.{◌≡◌, ℕ, ◌+◌, ◌-◌, ◌*◌, ◌<◌, ◌≤◌, List, [], ◌∷◌, ◌++◌, length, Option, None, Some, IfNone, refl, sym, subst, arith}
 use Rattle.std.specs.Option.{SomeIff}
 use Rattle.aiger_reader.specs.Headers.{AigerHeader}
-use Rattle.aiger_reader.specs.Deltas.{BeginsDelta, BeginsFirst, BeginsSecond, BeginsGates, IsBadPair, IsPairFault, IsDeltaFault, AreGates, after_outputs}
+use Rattle.aiger_reader.specs.Deltas.{BeginsDelta, BeginsOperand, BeginsFirst, BeginsSecond, BeginsGates, IsBadPair, IsPairFault, IsDeltaFault, AreGates, after_outputs}
 use Rattle.aiger_reader.proofs.DeltaLemmas.{delta_same}
 
--- a delta that is greater than the literal
-pub no_first : (r : Option ℕ) (literal delta : ℕ) (bytes after : List ℕ) → SomeIff r (delta ≤ literal) (literal - delta) → BeginsDelta bytes delta after → IfNone r ((a : ℕ) (rest : List ℕ) → BeginsFirst literal bytes a rest → ⊥)
-no_first None literal delta bytes after greater read = λ a rest begins.
-    greater (omega (arith, begins.operand, (delta_same bytes after rest delta begins.delta read begins.read).0))
-no_first (Some a) literal delta bytes after greater read = tt
-
-pub no_second : (r : Option ℕ) (first delta : ℕ) (bytes after : List ℕ) → SomeIff r (delta ≤ first) (first - delta) → BeginsDelta bytes delta after → IfNone r ((b : ℕ) (rest : List ℕ) → BeginsSecond first bytes b rest → ⊥)
-no_second None first delta bytes after greater read = λ b rest begins.
-    greater (omega (arith, begins.operand, (delta_same bytes after rest delta begins.delta read begins.read).0))
-no_second (Some b) first delta bytes after greater read = tt
+-- a delta that is too small, or greater than the literal
+pub no_operand : (r : Option ℕ) (least literal delta : ℕ) (bytes after : List ℕ) → SomeIff r ((least ≤ delta) × (delta ≤ literal)) (literal - delta) → BeginsDelta bytes delta after → IfNone r ((a : ℕ) (rest : List ℕ) → BeginsOperand least literal bytes a rest → ⊥)
+no_operand None least literal delta bytes after outside read = λ a rest begins.
+    let same = (delta_same bytes after rest delta begins.delta read begins.read).0 in
+    outside (omega (arith, same, begins.above), omega (arith, same, begins.operand))
+no_operand (Some a) least literal delta bytes after inside read = tt
 
 -- the gate with this literal stands at the front of the bytes
 abbrev pub BeginsPair : ℕ → List ℕ → ℕ × ℕ → List ℕ → Type 0

@@ -6,7 +6,7 @@ use Rattle.text_core.specs.Lines.{after_line}
 use Rattle.aiger_reader.specs.declared.body.AndLine.{AndLine}
 use Rattle.aiger_reader.specs.declared.body.Literals.{Literals}
 use Rattle.aiger_reader.specs.Headers.{AigerHeader}
-use Rattle.aiger_reader.specs.Bodies.{Role, Input, Output, Gate, roles_of, wanted, defined, IsBody}
+use Rattle.aiger_reader.specs.Bodies.{Role, Input, Output, Gate, roles_of, wanted, defined, AreLines}
 use Rattle.aiger_reader.specs.Numbered.{IsSound}
 use Rattle.aiger_reader.specs.Reading.{rows_of, input_lines_of, gate_lines_of, IsReading, IsRowRead, HasCounts}
 use Rattle.aiger_reader.proofs.PlaceLemmas.{place_first}
@@ -68,7 +68,7 @@ reading_first bytes h p later start zeros =
     }
 
 -- where all announced lines are read, they are the body
-pub body_read : (bytes : List ℕ) (h : AigerHeader) (literals : Literals) (p : Piece) (signals : List ℕ) (count : ℕ) → HasCounts literals (input_lines_of h) h.outputs (gate_lines_of h) → IsReading bytes h (rows_of literals) p signals count → IsBody bytes h (rows_of literals)
+pub body_read : (bytes : List ℕ) (h : AigerHeader) (literals : Literals) (p : Piece) (signals : List ℕ) (count : ℕ) → HasCounts literals (input_lines_of h) h.outputs (gate_lines_of h) → IsReading bytes h (rows_of literals) p signals count → AreLines bytes h (rows_of literals)
 body_read bytes h literals p signals count counts reading =
     record {
       good = reading.good;

@@ -1,12 +1,12 @@
 -- The slots of the ports, when one more name is given.
-use Rattle.std.proofs.Common.{◌≡◌, ◌≢◌, ℕ, zero, suc, ◌<◌, ◌⊎◌, List, [], ◌∷◌, ◌++◌, length, get_or, set, All, Option, None, Some, inl, inr, refl, sym, ap, ◌∙◌, subst, arith}
+use Rattle.std.proofs.Common.{◌≡◌, ◌≢◌, ℕ, zero, suc, ◌<◌, ◌⊎◌, Bool, true, false, List, [], ◌∷◌, ◌++◌, length, get_or, set, All, Option, None, Some, inl, inr, refl, sym, ap, ◌∙◌, subst, arith}
 use Rattle.std.proofs.lemmas.List.{get_or_append_left, get_or_push, get_or-set_same, get_or-set_other, length_push, length-set}
 use Rattle.std.proofs.lemmas.List.Elements.{All-nil, All-cons, All-push}
 use Rattle.std.proofs.lemmas.Bool.Decides.{eqb_tells}
 use Rattle.circuits.specs.declared.port.PortKind.{PortKind}
 use Rattle.circuits.specs.declared.port.PortKind.TheVariants.{Input, Output}
 use Rattle.text_core.specs.Words.{words}
-use Rattle.aiger_reader.specs.Symbols.{Port, Entry, NamesPort, AddsName, GivesName, IsThere, IsFree, IsNamed, IsGiven, AreSlots, ArePortSlots, Puts, port_at}
+use Rattle.aiger_reader.specs.Symbols.{Port, Entry, NamesPort, AddsName, GivesName, IsThere, IsFree, IsNamed, IsGiven, AreSlots, ArePortSlots, Puts, IsPut, Slots, TakesName, TakesLine, port_at}
 use Rattle.aiger_reader.proofs.SymbolLemmas.{named_same}
 
 -- an element of a list with one more at its end
@@ -71,25 +71,19 @@ free_at entries kind position name old new slots puts =
     let Q : Option (List ℕ) → Type 0 = IsGiven entries (port_at kind position) in
     subst Q (puts.free None) (slots position None puts.there)
 
-pub put_output : (kind : PortKind) (position : ℕ) (name : List ℕ) (inputs outputs new : List (Option (List ℕ))) → kind ≡ Output → Puts outputs position name new → (before : List Entry) → ArePortSlots before inputs outputs → IsFree before (length inputs) (length outputs) (port_at kind position) × ArePortSlots (before ++ (port_at kind position, name) ∷ []) inputs new
-put_output Output position name inputs outputs new is puts before ports =
-    ((puts.there, free_at before Output position name outputs new ports.output_slots puts), record { input_slots = slots_other before Input Output position name inputs (λ e. cc) ports.input_slots; output_slots = slots_put before Output position name outputs new ports.output_slots puts })
-put_output Input position name inputs outputs new is puts before ports = absurd (cc)
-
-pub put_input : (kind : PortKind) (position : ℕ) (name : List ℕ) (inputs outputs new : List (Option (List ℕ))) → kind ≡ Input → Puts inputs position name new → (before : List Entry) → ArePortSlots before inputs outputs → IsFree before (length inputs) (length outputs) (port_at kind position) × ArePortSlots (before ++ (port_at kind position, name) ∷ []) new outputs
-put_input Input position name inputs outputs new is puts before ports =
+pub put_input : (put : Bool) (kind : PortKind) (position : ℕ) (name : List ℕ) (inputs outputs new : List (Option (List ℕ))) → kind ≡ Input → IsPut put inputs position name new → (before : List Entry) → ArePortSlots before inputs outputs → TakesName put before (inputs, outputs) (new, outputs) (port_at kind position) name
+put_input true Input position name inputs outputs new is puts before ports =
     ((puts.there, free_at before Input position name inputs new ports.input_slots puts), record { input_slots = slots_put before Input position name inputs new ports.input_slots puts; output_slots = slots_other before Output Input position name outputs (λ e. cc) ports.output_slots })
-put_input Output position name inputs outputs new is puts before ports = absurd (cc)
-
-pub bad_output : (kind : PortKind) (position : ℕ) (inputs outputs : List (Option (List ℕ))) → kind ≡ Output → ((d : Option (List ℕ)) → position < length outputs → get_or outputs position d ≡ None → ⊥) → (before : List Entry) → ArePortSlots before inputs outputs → IsFree before (length inputs) (length outputs) (port_at kind position) → ⊥
-bad_output Output position inputs outputs is bad before ports free =
-    bad None free.0 (free_slot before (port_at Output position) (get_or outputs position None) (ports.output_slots position None free.0) free.1)
-bad_output Input position inputs outputs is bad before ports free = cc
-
-pub bad_input : (kind : PortKind) (position : ℕ) (inputs outputs : List (Option (List ℕ))) → kind ≡ Input → ((d : Option (List ℕ)) → position < length inputs → get_or inputs position d ≡ None → ⊥) → (before : List Entry) → ArePortSlots before inputs outputs → IsFree before (length inputs) (length outputs) (port_at kind position) → ⊥
-bad_input Input position inputs outputs is bad before ports free =
+put_input false Input position name inputs outputs new is bad before ports = λ free.
     bad None free.0 (free_slot before (port_at Input position) (get_or inputs position None) (ports.input_slots position None free.0) free.1)
-bad_input Output position inputs outputs is bad before ports free = cc
+put_input put Output position name inputs outputs new is puts before ports = absurd (cc)
+
+pub put_output : (put : Bool) (kind : PortKind) (position : ℕ) (name : List ℕ) (inputs outputs new : List (Option (List ℕ))) → kind ≡ Output → IsPut put outputs position name new → (before : List Entry) → ArePortSlots before inputs outputs → TakesName put before (inputs, outputs) (inputs, new) (port_at kind position) name
+put_output true Output position name inputs outputs new is puts before ports =
+    ((puts.there, free_at before Output position name outputs new ports.output_slots puts), record { input_slots = slots_other before Input Output position name inputs (λ e. cc) ports.input_slots; output_slots = slots_put before Output position name outputs new ports.output_slots puts })
+put_output false Output position name inputs outputs new is bad before ports = λ free.
+    bad None free.0 (free_slot before (port_at Output position) (get_or outputs position None) (ports.output_slots position None free.0) free.1)
+put_output put Input position name inputs outputs new is puts before ports = absurd (cc)
 
 pub named_adds : (inputs outputs : ℕ) (line name : List ℕ) (port : Port) (before : List Entry) → NamesPort line port name → IsFree before inputs outputs port → AddsName inputs outputs line before (before ++ (port, name) ∷ [])
 named_adds inputs outputs line name port before named free =
@@ -110,3 +104,10 @@ not_of inputs outputs line name port before (e ∷ f ∷ new) some named taken g
 pub not_added : (inputs outputs : ℕ) (line name : List ℕ) (port : Port) (before after : List Entry) → (words line ≡ [] → ⊥) → NamesPort line port name → (IsFree before inputs outputs port → ⊥) → AddsName inputs outputs line before after → ⊥
 not_added inputs outputs line name port before after some named taken adds =
     not_of inputs outputs line name port before adds.0 some named taken adds.1 adds.2 adds.3
+
+-- the line that names a port takes what the port does
+pub line_takes : (put : Bool) (line name : List ℕ) (port : Port) (old new : Slots) (before : List Entry) → (words line ≡ [] → ⊥) → NamesPort line port name → TakesName put before old new port name → TakesLine put before old new line
+line_takes true line name port old new before some named takes =
+    (before ++ (port, name) ∷ [], named_adds (length old.0) (length old.1) line name port before named takes.0, takes.1)
+line_takes false line name port old new before some named taken = λ after adds.
+    not_added (length old.0) (length old.1) line name port before after some named taken adds

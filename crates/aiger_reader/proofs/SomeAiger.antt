@@ -6,7 +6,7 @@ use Rattle.circuits.proofs.Looped.{acyclic_or_looped}
 use Rattle.net_file.specs.declared.fault.NetKind.{NetKind}
 use Rattle.net_file.specs.declared.fault.NetKind.TheVariants as kind
 use Rattle.aiger_reader.specs.Headers.{AigerHeader, Begins}
-use Rattle.aiger_reader.specs.Bodies.{IsBody, text_circuit, line_offset}
+use Rattle.aiger_reader.specs.Bodies.{IsBody, bare, text_circuit, line_offset}
 use Rattle.aiger_reader.specs.Deltas.{binary_circuit}
 use Rattle.aiger_reader.specs.Aiger.{IsOfForm, IsNetlist, IsAiger, IsAigerFault}
 use Rattle.aiger_reader.proofs.SomeHeader.{begun_or_fault}
@@ -44,7 +44,7 @@ net_or_fault bytes =
     elim (begun_or_fault bytes) [
       | inr bad ↦ inr (bad.0, 0, inl (bad.1, refl))
       | inl begun ↦ let h = begun.0 in
-          elim (body_or_bad bytes h) [
+          elim (body_or_bad bytes (bare h)) [
             | inr bad ↦ inr (bad.0, bad.1, inr (inl (record { h = h; begins = begun.1; why = bad.2 })))
             | inl body ↦ elim (form_or_fault h.binary bytes h body.0 refl begun.1 body.1) [
               | inr bad ↦ inr bad

@@ -7,7 +7,7 @@ use Rattle.net_file.specs.declared.fault.NetKind.{NetKind}
 use Rattle.net_file.specs.declared.fault.NetKind.TheVariants as kind
 use Rattle.aiger_reader.specs.Words.{numbers_on}
 use Rattle.aiger_reader.specs.Headers.{AigerHeader}
-use Rattle.aiger_reader.specs.Bodies.{Role, Input, Output, Gate, roles_of, role_at, wanted, defines, defined, body_lines, line_offset, first_of, Writes, IsGoodRow, AreGood, IsBodyFault, IsBody, IsKnown, IsKnownRow, IsUndefined, reads}
+use Rattle.aiger_reader.specs.Bodies.{Role, Input, Output, Gate, roles_of, role_at, wanted, defines, defined, body_lines, line_offset, first_of, Writes, IsGoodRow, AreGood, IsFirstFault, AreLines, IsKnown, IsKnownRow, IsUndefined, reads}
 use Rattle.aiger_reader.specs.Reading.{IsWanted}
 use Rattle.aiger_reader.proofs.HeaderLemmas.{map_same}
 use Rattle.aiger_reader.proofs.GoodLemmas.{defined_by, defined_none, defined_more, good_more, row_good}
@@ -54,7 +54,7 @@ abbrev Front : List ℕ → AigerHeader → ℕ → Type 0
 Front bytes h n = (rows : List (List ℕ)) × AreGood h (body_lines bytes) rows × (length rows ≡ n)
 
 abbrev pub HasBodyFault : List ℕ → AigerHeader → Type 0
-HasBodyFault bytes h = (fault : NetKind) × (at : ℕ) × IsBodyFault bytes h fault at
+HasBodyFault bytes h = (fault : NetKind) × (at : ℕ) × IsFirstFault bytes h fault at
 
 front_more : (bytes : List ℕ) (h : AigerHeader) (rows : List (List ℕ)) (row : List ℕ) → AreGood h (body_lines bytes) rows → length rows < length (roles_of h) → length rows < length (body_lines bytes) → Writes (get_or (body_lines bytes) (length rows) []) (role_at h (length rows)) row → IsGoodRow h (role_at h (length rows)) row → (IsAgain (defined (roles_of h) rows) (role_at h (length rows)) row → ⊥) → AreGood h (body_lines bytes) (rows ++ row ∷ [])
 front_more bytes h rows row good announced there writes fine fresh =
@@ -100,7 +100,7 @@ front_none bytes h = (
   refl,
 )
 
-pub body_or_bad : (bytes : List ℕ) (h : AigerHeader) → ((rows : List (List ℕ)) × IsBody bytes h rows) ⊎ HasBodyFault bytes h
+pub body_or_bad : (bytes : List ℕ) (h : AigerHeader) → ((rows : List (List ℕ)) × AreLines bytes h rows) ⊎ HasBodyFault bytes h
 body_or_bad bytes h =
     let next : (n : ℕ) → n < length (roles_of h) → Front bytes h n → Front bytes h (n + 1) ⊎ HasBodyFault bytes h = λ n below front.
     subst (λ m. Front bytes h (m + 1) ⊎ HasBodyFault bytes h) front.2 (line_or_fault bytes h front.0 front.1 (omega (arith, front.2, below))) in

@@ -4,10 +4,10 @@ use Rattle.std.proofs.lemmas.Bool.{cases_lt}
 use Rattle.std.proofs.lemmas.List.{length_push}
 use Rattle.aiger_reader.specs.Headers.{AigerHeader}
 use Rattle.aiger_reader.specs.Bodies.{line_offset}
-use Rattle.aiger_reader.specs.Deltas.{IsInGroups, BeginsGroups, BeginsDelta, BeginsFirst, BeginsSecond, BeginsGates, AreGates, IsBadPair, IsPairFault, IsDeltaFault, after_outputs}
+use Rattle.aiger_reader.specs.Deltas.{IsInGroups, BeginsGroups, BeginsDelta, BeginsOperand, BeginsGates, AreGates, IsBadPair, IsPairFault, IsDeltaFault, after_outputs}
 use Rattle.aiger_reader.proofs.DeltaLemmas.{last_group, group_before, no_group_after, delta_same}
 use Rattle.aiger_reader.proofs.PairLemmas.{BeginsPair, gates_push}
-use Rattle.aiger_reader.proofs.TellLemmas.{Told, told_both, told_le, told_lt, steps_or}
+use Rattle.aiger_reader.proofs.TellLemmas.{Told, told_both, told_le, steps_or}
 
 groups_some : (groups : List ℕ) (n : ℕ) → IsInGroups groups n → 0 < length groups
 groups_some [] n value = absurd value
@@ -29,29 +29,16 @@ told_groups (suc most) (byte ∷ bytes) =
       ]
     ]
 
-abbrev HasFirst : ℕ → List ℕ → Type 0
-HasFirst literal bytes = (a : ℕ) × (rest : List ℕ) × BeginsFirst literal bytes a rest
+abbrev HasOperand : ℕ → ℕ → List ℕ → Type 0
+HasOperand least literal bytes = (a : ℕ) × (rest : List ℕ) × BeginsOperand least literal bytes a rest
 
-told_first : (literal : ℕ) (bytes : List ℕ) → Told (HasFirst literal bytes)
-told_first literal bytes =
+told_operand : (least literal : ℕ) (bytes : List ℕ) → Told (HasOperand least literal bytes)
+told_operand least literal bytes =
     elim (told_groups 5 bytes) [
       | inr none ↦ inr (λ has. none (has.2.delta, has.1, has.2.read))
-      | inl delta ↦ elim (told_both (told_lt 0 delta.0) (told_le delta.0 literal)) [
+      | inl delta ↦ elim (told_both (told_le least delta.0) (told_le delta.0 literal)) [
         | inl fits ↦ inl (literal - delta.0, delta.1, record { delta = delta.0; read = delta.2; above = fits.0; operand = omega (arith, fits.1) })
         | inr not_so ↦ inr (λ has. let same = delta_same bytes delta.1 has.1 delta.0 has.2.delta delta.2 has.2.read in not_so (omega (arith, same.0, has.2.above), omega (arith, same.0, has.2.operand)))
-      ]
-    ]
-
-abbrev HasSecond : ℕ → List ℕ → Type 0
-HasSecond first bytes = (b : ℕ) × (rest : List ℕ) × BeginsSecond first bytes b rest
-
-told_second : (first : ℕ) (bytes : List ℕ) → Told (HasSecond first bytes)
-told_second first bytes =
-    elim (told_groups 5 bytes) [
-      | inr none ↦ inr (λ has. none (has.2.delta, has.1, has.2.read))
-      | inl delta ↦ elim (told_le delta.0 first) [
-        | inl fits ↦ inl (first - delta.0, delta.1, record { delta = delta.0; read = delta.2; operand = omega (arith, fits) })
-        | inr not_so ↦ inr (λ has. let same = delta_same bytes delta.1 has.1 delta.0 has.2.delta delta.2 has.2.read in not_so (omega (arith, same.0, has.2.operand)))
       ]
     ]
 
@@ -64,10 +51,10 @@ HasPair literal bytes = (pair : ℕ × ℕ) × (rest : List ℕ) × (length rest
 
 pair_or_bad : (literal total : ℕ) (bytes : List ℕ) → length bytes ≤ total → HasPair literal bytes ⊎ ((at : ℕ) × IsBadPair literal bytes total at)
 pair_or_bad literal total bytes within =
-    elim (told_first literal bytes) [
+    elim (told_operand 1 literal bytes) [
       | inr none ↦ inr (total - length bytes, inl ((λ a rest begins. none (a, rest, begins)), omega (arith, within)))
       | inl first ↦ let shorter = delta_shorter bytes first.1 first.2.delta first.2.read in
-          elim (told_second first.0 first.1) [
+          elim (told_operand 0 first.0 first.1) [
             | inr none ↦ inr (total - length first.1, inr (first.0, first.1, first.2, (λ b rest begins. none (b, rest, begins)), omega (arith, within, shorter)))
             | inl second ↦ let less = delta_shorter first.1 second.1 second.2.delta second.2.read in
                 inl ((first.0, second.0), second.1, omega (arith, shorter, less), (first.1, first.2, second.2))

@@ -10,20 +10,19 @@ use Rattle.circuits.specs.declared.definition.Def.TheVariants.{And}
 use Rattle.circuits.specs.Circuits.{Circuit}
 use Rattle.circuits.specs.Expansion.{def_gates, gates_in}
 use Rattle.circuits.specs.Levels.{IsAcyclic, IsFirstLooped}
-use Rattle.net_file.specs.declared.fault.NetFault.{NetFault}
+use Rattle.net_file.specs.declared.fault.NetKind.{NetKind}
 use Rattle.net_file.specs.declared.fault.NetKind.TheVariants as kind
 use Rattle.aiger_reader.specs.declared.limits.Header.{Header}
 use Rattle.aiger_reader.specs.declared.body.Literals.{Literals}
 use Rattle.aiger_reader.specs.Numbers.{header_of}
 use Rattle.aiger_reader.specs.Headers.{AigerHeader}
-use Rattle.aiger_reader.specs.Bodies.{roles_of, IsBody, IsBodyFault, IsKnownRow, IsUndefined, lit_from, text_circuit, line_offset}
+use Rattle.aiger_reader.specs.Bodies.{roles_of, IsBody, IsFirstFault, IsKnownRow, IsUndefined, lit_from, text_circuit, line_offset}
 use Rattle.aiger_reader.specs.Deltas.{BeginsGates, IsPairFault, and_from, after_outputs, binary_circuit}
 use Rattle.aiger_reader.specs.Numbered.{IsSound, circuit_from}
 use Rattle.aiger_reader.specs.Reading.{rows_of, input_lines_of, gate_lines_of, IsAtLine}
-use Rattle.aiger_reader.specs.Aiger.{IsOfForm, IsNetlist, IsLinesFault, IsGatesFault, IsUndefinedFault, IsNamesFault, IsAigerFault}
+use Rattle.aiger_reader.specs.Aiger.{IsOfForm, IsNetlist, IsAigerFault}
 use Rattle.aiger_reader.specs.Symbols.{IsSymbolFault}
 use Rattle.aiger_reader.specs.Assembly.{IsBegun, AreLinesRead, IsNetOf, ArePairsBelow, IsBinaryBody}
-use Rattle.aiger_reader.proofs.PropertyLemmas.{fault_any}
 use Rattle.aiger_reader.proofs.RoleLemmas.{length-rows_of, length-roles_of}
 use Rattle.aiger_reader.proofs.NumberingLemmas.{outputs_small}
 use Rattle.aiger_reader.proofs.PairLemmas.{file_fault, file_gates}
@@ -41,28 +40,22 @@ end_is bytes k p at =
     omega (arith, at.offset, ap length at.rest, length-drop p.at bytes)
 
 -- a fault of the lines is the file's
-pub lines_fault : (bytes : List ℕ) (header : Header) (fault : NetFault) → IsBegun bytes header → IsBodyFault bytes (header_of header []) fault.kind fault.at → IsAigerFault bytes fault.kind fault.at
-lines_fault bytes header fault begun why =
-    let found : IsLinesFault bytes fault.kind fault.at = record {
-      h = header_of header begun.0;
-      begins = begun.1;
-      why = fault_any bytes header [] begun.0 fault.kind fault.at why;
-    } in
-    inr (inl found)
+pub lines_fault : (bytes : List ℕ) (header : Header) → IsBegun bytes header → (fault : NetKind) (at : ℕ) → IsFirstFault bytes (header_of header []) fault at → IsAigerFault bytes fault at
+lines_fault bytes header begun fault at why =
+    inr (inl (record { h = header_of header begun.0; begins = begun.1; why = why }))
 
 -- the first line that reads what no line defines is the file's fault
-pub undefined_fault : (bytes : List ℕ) (header : Header) (literals : Literals) (signals : List ℕ) (rest : Piece) (at : ℕ) (fault : NetFault) → header.binary ≡ false → IsBegun bytes header → AreLinesRead bytes header literals signals rest → ((properties : List ℕ) → IsUndefined bytes (header_of header properties) (rows_of literals) at) → fault ≡ record { kind = kind.Undefined; at = at } → IsAigerFault bytes fault.kind fault.at
-undefined_fault bytes header literals signals rest at fault text begun read why same =
-    let found : IsUndefinedFault bytes kind.Undefined at = record {
+pub undefined_fault : (bytes : List ℕ) (header : Header) (literals : Literals) (signals : List ℕ) (rest : Piece) (at : ℕ) → header.binary ≡ false → IsBegun bytes header → AreLinesRead bytes header literals signals rest → ((properties : List ℕ) → IsUndefined bytes (header_of header properties) (rows_of literals) at) → IsAigerFault bytes kind.Undefined at
+undefined_fault bytes header literals signals rest at text begun read why =
+    inr (inr (inr (inl (record {
       h = header_of header begun.0;
       begins = begun.1;
       rows = rows_of literals;
-      body = read.body begun.0;
+      body = read.body;
       text = text;
       is_undefined = refl;
       why = why begun.0;
-    } in
-    subst (λ f. IsAigerFault bytes f.kind f.at) (sym same) (inr (inr (inr (inl found))))
+    }))))
 
 -- a file of a header's form
 of_form : (binary form : Bool) (bytes : List ℕ) (h : AigerHeader) (rows : List (List ℕ)) (circuit : Circuit) (rest : List ℕ) → binary ≡ form → IsOfForm form bytes h rows circuit rest → IsOfForm binary bytes h rows circuit rest
@@ -79,7 +72,7 @@ text_is bytes header literals signals rest circuit text begun read known same =
       record {
         begins = begun.1;
         rows = rows;
-        body = read.body begun.0;
+        body = read.body;
         form = of_form header.binary false bytes h rows circuit rest.bytes text (record {
           known = known begun.0;
           same = same begun.0;
@@ -97,19 +90,18 @@ after_is bytes header literals signals rest properties binary read =
     let lines_read : length (rows_of literals) + 1 ≡ 1 + header.outputs = omega (arith, length-rows_of literals, counts.outputs_read) in
     rest_is bytes (length (rows_of literals) + 1) rest read.left ∙ ap (λ n. drop (line_offset bytes n) bytes) lines_read
 
-pub delta_fault : (bytes : List ℕ) (header : Header) (literals : Literals) (signals : List ℕ) (rest : Piece) (fault : NetFault) → header.binary ≡ true → IsBegun bytes header → AreLinesRead bytes header literals signals rest → fault.kind ≡ kind.Delta → IsPairFault (header.inputs + 1) header.gates rest.bytes (rest.at + length rest.bytes) fault.at → IsAigerFault bytes fault.kind fault.at
-delta_fault bytes header literals signals rest fault binary begun read is why =
+pub delta_fault : (bytes : List ℕ) (header : Header) (literals : Literals) (signals : List ℕ) (rest : Piece) → header.binary ≡ true → IsBegun bytes header → AreLinesRead bytes header literals signals rest → (fault : NetKind) (at : ℕ) → (fault ≡ kind.Delta) × IsPairFault (header.inputs + 1) header.gates rest.bytes (rest.at + length rest.bytes) at → IsAigerFault bytes fault at
+delta_fault bytes header literals signals rest binary begun read fault at is =
     let h = header_of header begun.0 in
-    let found : IsGatesFault bytes fault.kind fault.at = record {
+    inr (inr (inl (record {
       h = h;
       begins = begun.1;
       rows = rows_of literals;
-      body = read.body begun.0;
+      body = read.body;
       binary = binary;
-      is_delta = is;
-      why = file_fault bytes rest.bytes h header.inputs header.gates (rest.at + length rest.bytes) fault.at (after_is bytes header literals signals rest begun.0 binary read) refl refl (end_is bytes (length (rows_of literals) + 1) rest read.left) why;
-    } in
-    inr (inr (inl found))
+      is_delta = is.0;
+      why = file_fault bytes rest.bytes h header.inputs header.gates (rest.at + length rest.bytes) at (after_is bytes header literals signals rest begun.0 binary read) refl refl (end_is bytes (length (rows_of literals) + 1) rest read.left) is.1;
+    })))
 
 -- the netlist of the gates in the binary form is the file's
 pub deltas_are : (bytes : List ℕ) (header : Header) (literals : Literals) (signals : List ℕ) (rest : Piece) (after : List ℕ) (circuit : Circuit) (gates : List (ℕ × ℕ)) → header.binary ≡ true → IsBegun bytes header → AreLinesRead bytes header literals signals rest → length gates ≡ header.gates → BeginsGates (header.inputs + 1) rest.bytes gates after → circuit ≡ circuit_from header.inputs (map and_from gates) (map lit_from literals.outputs.items) → IsNetOf bytes header circuit after
@@ -121,7 +113,7 @@ deltas_are bytes header literals signals rest after circuit gates binary begun r
       record {
         begins = begun.1;
         rows = rows;
-        body = read.body begun.0;
+        body = read.body;
         form = of_form header.binary true bytes h rows circuit after binary (record {
           gates = gates;
           read = gates_are;
@@ -185,7 +177,8 @@ loop_line : (binary : Bool) (bytes : List ℕ) (h : AigerHeader) (rows : List (L
 loop_line false bytes h rows circuit rest d is body form sizes looped =
     let i : input_lines_of h ≡ h.inputs = ap (λ t. if t then 0 else h.inputs) is in
     let g : gate_lines_of h ≡ h.gates = ap (λ t. if t then 0 else h.gates) is in
-    omega (arith, body.whole, length-roles_of h, i, g, body.good.there, length-drop 1 (lines bytes), looped.there, sizes.defs)
+    let whole : length rows ≡ length (roles_of h) = body.whole in
+    omega (arith, whole, length-roles_of h, i, g, body.good.there, length-drop 1 (lines bytes), looped.there, sizes.defs)
 loop_line true bytes h rows circuit rest d is body form sizes looped =
     let variables : h.inputs + 1 ≡ circuit.inputs + 1 = omega (arith, sizes.inputs) in
     let pairs = begins_below (h.inputs + 1) (after_outputs bytes h) rest form.gates form.read.read in
@@ -196,17 +189,16 @@ loop_there bytes h circuit rest d net looped =
     loop_line h.binary bytes h net.rows circuit rest d refl net.body net.form (net_sizes bytes h circuit rest net) looped
 
 -- a fault of the symbols is the file's
-pub names_fault : (bytes : List ℕ) (header : Header) (circuit : Circuit) (rest : Piece) (fault : NetFault) → IsNetOf bytes header circuit rest.bytes → IsAcyclic circuit → rest.at + length rest.bytes ≡ length bytes → fault.kind ≡ kind.BadSymbol → IsSymbolFault header.inputs header.outputs rest.at rest.bytes fault.at → IsAigerFault bytes fault.kind fault.at
-names_fault bytes header circuit rest fault net acyclic end is why =
-    let found : IsNamesFault bytes fault.kind fault.at = record {
+pub names_fault : (bytes : List ℕ) (header : Header) (circuit : Circuit) (rest : Piece) → IsNetOf bytes header circuit rest.bytes → IsAcyclic circuit → rest.at + length rest.bytes ≡ length bytes → (fault : NetKind) (at : ℕ) → (fault ≡ kind.BadSymbol) × IsSymbolFault header.inputs header.outputs rest.at rest.bytes at → IsAigerFault bytes fault at
+names_fault bytes header circuit rest net acyclic end fault at is =
+    inr (inr (inr (inr (inr (record {
       h = header_of header net.0;
       circuit = circuit;
       rest = rest.bytes;
       base = rest.at;
       netlist = net.1;
       acyclic = acyclic;
-      is_symbol = is;
+      is_symbol = is.0;
       after = end;
-      why = why;
-    } in
-    inr (inr (inr (inr (inr found))))
+      why = is.1;
+    })))))

@@ -6,7 +6,7 @@ use Rattle.circuits.specs.Circuits.{Circuit}
 use Rattle.aiger_reader.specs.declared.limits.Header.{Header}
 use Rattle.aiger_reader.specs.declared.body.Literals.{Literals}
 use Rattle.aiger_reader.specs.Headers.{Begins}
-use Rattle.aiger_reader.specs.Bodies.{IsBody}
+use Rattle.aiger_reader.specs.Bodies.{AreLines}
 use Rattle.aiger_reader.specs.Numbers.{header_of}
 use Rattle.aiger_reader.specs.Numbered.{IsSound}
 use Rattle.aiger_reader.specs.Reading.{rows_of, IsAtLine}
@@ -19,7 +19,7 @@ IsBegun bytes header = (properties : List ℕ) × Begins bytes (header_of header
 -- All lines after the header are read, and the piece is what is left after them.
 pub record AreLinesRead (bytes : List ℕ) (header : Header) (literals : Literals) (signals : List ℕ) (rest : Piece)
     : Type 0 where
-  pub body : (properties : List ℕ) → IsBody bytes (header_of header properties) (rows_of literals)
+  pub body : AreLines bytes (header_of header []) (rows_of literals)
   pub sound : IsSound (header_of header []) literals signals
   pub left : IsAtLine bytes (length (rows_of literals) + 1) rest
 

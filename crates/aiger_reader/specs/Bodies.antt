@@ -104,17 +104,37 @@ IsLineFault bytes h rows kind.Redefined at =
 IsLineFault bytes h rows kind.Truncated at = (length (body_lines bytes) ≡ length rows) × (at ≡ length bytes)
 IsLineFault bytes h rows other at = ⊥
 
--- The first fault of the body's lines: the kind, and the offset in the file.
-pub record IsBodyFault (bytes : List ℕ) (h : AigerHeader) (fault : NetKind) (at : ℕ) : Type 0 where
+-- the header without its properties: they say nothing of the body
+abbrev pub bare : AigerHeader → AigerHeader
+bare h =
+    record {
+      binary = h.binary;
+      variables = h.variables;
+      inputs = h.inputs;
+      latches = h.latches;
+      outputs = h.outputs;
+      gates = h.gates;
+      properties = [];
+    }
+
+-- The first fault of the lines: the kind, and the offset in the file.
+pub record IsFirstFault (bytes : List ℕ) (h : AigerHeader) (fault : NetKind) (at : ℕ) : Type 0 where
   pub rows : List (List ℕ)
   pub good : AreGood h (body_lines bytes) rows
   pub wanted_line : length rows < length (roles_of h)
   pub why : IsLineFault bytes h rows fault at
 
--- The body has all its lines, and they are good.
-pub record IsBody (bytes : List ℕ) (h : AigerHeader) (rows : List (List ℕ)) : Type 0 where
+-- All lines are there, and they are good.
+pub record AreLines (bytes : List ℕ) (h : AigerHeader) (rows : List (List ℕ)) : Type 0 where
   pub good : AreGood h (body_lines bytes) rows
   pub whole : length rows ≡ length (roles_of h)
+
+-- the body's lines and its first fault
+abbrev pub IsBody : List ℕ → AigerHeader → List (List ℕ) → Type 0
+IsBody bytes h rows = AreLines bytes (bare h) rows
+
+abbrev pub IsBodyFault : List ℕ → AigerHeader → NetKind → ℕ → Type 0
+IsBodyFault bytes h fault at = IsFirstFault bytes (bare h) fault at
 
 -- the variables that a line reads
 abbrev pub reads : Role → List ℕ → List ℕ

@@ -3,6 +3,10 @@ use Rattle.std.specs.Prelude.{◌≡◌, ℕ, ◌+◌, ◌-◌, ◌*◌, ◌<◌
 use Rattle.circuits.specs.declared.definition.Def.{Def}
 use Rattle.circuits.specs.declared.definition.Def.TheVariants.{And}
 use Rattle.circuits.specs.Circuits.{Circuit}
+use Rattle.text_core.specs.Piece.{Piece}
+use Rattle.net_file.specs.declared.fault.NetKind.TheVariants as kind
+use Rattle.net_file.specs.declared.fault.NetStop.{NetStop}
+use Rattle.net_file.specs.Stops.{IsStopBy}
 use Rattle.aiger_reader.specs.Headers.{AigerHeader}
 use Rattle.aiger_reader.specs.Bodies.{line_offset, first_of, lit_from}
 
@@ -28,18 +32,19 @@ BeginsDelta bytes delta rest = BeginsGroups 5 bytes delta rest
 abbrev pub BeginsNoDelta : List ℕ → Type 0
 BeginsNoDelta bytes = (delta : ℕ) (rest : List ℕ) → BeginsDelta bytes delta rest → ⊥
 
--- The bytes begin with the first operand of the gate with this literal, which is below it.
-pub record BeginsFirst (literal : ℕ) (bytes : List ℕ) (a : ℕ) (rest : List ℕ) : Type 0 where
+-- The bytes begin with an operand, which lies below this literal by at least so much.
+pub record BeginsOperand (least literal : ℕ) (bytes : List ℕ) (a : ℕ) (rest : List ℕ) : Type 0 where
   pub delta : ℕ
   pub read : BeginsDelta bytes delta rest
-  pub above : 0 < delta
+  pub above : least ≤ delta
   pub operand : a + delta ≡ literal
 
--- The bytes begin with its second operand, which is at most the first.
-pub record BeginsSecond (a : ℕ) (bytes : List ℕ) (b : ℕ) (rest : List ℕ) : Type 0 where
-  pub delta : ℕ
-  pub read : BeginsDelta bytes delta rest
-  pub operand : b + delta ≡ a
+-- the first operand of a gate is below the gate's literal, the second one at most the first
+abbrev pub BeginsFirst : ℕ → List ℕ → ℕ → List ℕ → Type 0
+BeginsFirst literal bytes a rest = BeginsOperand 1 literal bytes a rest
+
+abbrev pub BeginsSecond : ℕ → List ℕ → ℕ → List ℕ → Type 0
+BeginsSecond a bytes b rest = BeginsOperand 0 a bytes b rest
 
 -- the bytes begin with the gates whose variables begin at `variable`
 abbrev pub BeginsGates : ℕ → List ℕ → List (ℕ × ℕ) → List ℕ → Type 0
@@ -76,6 +81,11 @@ pub record IsPairFault (variable count : ℕ) (bytes : List ℕ) (total at : ℕ
   pub fewer : length gates < count
   pub read : BeginsGates variable bytes gates rest
   pub why : IsBadPair (2 * (variable + length gates)) rest total at
+
+-- what a stop says of these gates, whose bytes end where the file does
+abbrev pub IsPairStop : ℕ → ℕ → Piece → NetStop → Type 0
+IsPairStop variable count text =
+    IsStopBy (λ fault at. (fault ≡ kind.Delta) × IsPairFault variable count text.bytes (text.at + length text.bytes) at)
 
 -- The first delta that is cut off, too long or out of range, at its first byte.
 abbrev pub IsDeltaFault : List ℕ → AigerHeader → ℕ → Type 0

@@ -2,11 +2,11 @@
 use Rattle.std.specs.Prelude.{◌≡◌, ℕ, ◌+◌, ◌*◌, ◌%◌, ◌<◌, ◌≤◌, min, Bool, IsTrue, List, [], ◌∷◌, ◌++◌, length, map, drop, All, Contains, Option, Some, slice_index_or, if◌then◌else◌}
 use Rattle.std.specs.Option.{option_map}
 use Rattle.text_core.specs.Piece.{Piece}
-use Rattle.text_core.specs.Lines.{lines}
+use Rattle.text_core.specs.Lines.{lines, after_line}
 use Rattle.net_file.specs.declared.fault.NetKind.{NetKind}
 use Rattle.net_file.specs.declared.fault.NetKind.TheVariants as kind
 use Rattle.net_file.specs.declared.fault.NetStop.{NetStop}
-use Rattle.net_file.specs.declared.fault.NetStop.TheVariants.{Fault, Memory}
+use Rattle.net_file.specs.Stops.{IsStopBy}
 use Rattle.aiger_reader.specs.declared.body.AndLine.{AndLine}
 use Rattle.aiger_reader.specs.declared.body.Body.{Body}
 use Rattle.aiger_reader.specs.declared.body.Literals.{Literals}
@@ -14,7 +14,7 @@ use Rattle.aiger_reader.specs.declared.limits.Header.{Header}
 use Rattle.aiger_reader.specs.Words.{numbers_on}
 use Rattle.aiger_reader.specs.Headers.{AigerHeader}
 use Rattle.aiger_reader.specs.Numbers.{header_of}
-use Rattle.aiger_reader.specs.Bodies.{roles_of, role_at, wanted, defines, defined, body_lines, line_offset, first_of, AreGood, IsBodyFault}
+use Rattle.aiger_reader.specs.Bodies.{roles_of, role_at, wanted, defines, defined, body_lines, line_offset, first_of, AreGood, IsFirstFault}
 
 -- the row of an AND line
 abbrev pub row_of : AndLine → List ℕ
@@ -74,8 +74,7 @@ pub record HasCounts (literals : Literals) (inputs outputs gates : ℕ) : Type 0
 
 -- why the body isn't read: its first fault, or no memory
 abbrev pub IsStop : List ℕ → AigerHeader → NetStop → Type 0
-IsStop bytes h (Fault fault) = IsBodyFault bytes h fault.kind fault.at
-IsStop bytes h Memory = Unit {0}
+IsStop bytes h = IsStopBy (IsFirstFault bytes h)
 
 -- the first line of what is left
 abbrev pub next_line_of : Piece → List ℕ
@@ -90,6 +89,13 @@ pub record IsRowOn (line : List ℕ) (greatest : ℕ) (defining : Bool) (row : L
   pub written : numbers_on line ≡ map Some row
   pub in_range : All (λ literal. literal ≤ greatest) row
   pub plain : IsTrue defining → (first_of row % 2 ≡ 0) × (2 ≤ first_of row)
+
+-- The next line is there, at this offset, and writes this row; that is left after it.
+pub record IsLineRead (p : Piece) (greatest : ℕ) (defining : Bool) (row : List ℕ) (rest : Piece) (at : ℕ) : Type 0 where
+  pub there : 0 < length p.bytes
+  pub on : IsRowOn (next_line_of p) greatest defining row
+  pub moved : rest ≡ after_line p
+  pub offset : at ≡ p.at
 
 -- what is wrong with a line of n words
 abbrev pub IsRowFault : List ℕ → ℕ → Bool → ℕ → NetKind → Type 0

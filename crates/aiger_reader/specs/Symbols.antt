@@ -1,9 +1,13 @@
 -- The symbols after the body of an AIGER file (AIGER 1.9): a line for each port that has a name, then a comment.
-use Rattle.std.specs.Prelude.{◌≡◌, ◌≢◌, ℕ, ◌+◌, ◌<◌, ◌⊎◌, ◌==◌, Bool, true, not, List, [], ◌∷◌, ◌++◌, length, take, All, Option, None, Some, slice_index_or, slice_set, take_while}
+use Rattle.std.specs.Prelude.{◌≡◌, ◌≢◌, ℕ, ◌+◌, ◌<◌, ◌⊎◌, ◌==◌, Bool, true, false, not, List, [], ◌∷◌, ◌++◌, length, take, All, Option, None, Some, slice_index_or, slice_set, take_while}
 use Rattle.std.specs.Fmt.{decimal}
 use Rattle.circuits.specs.Literals.{EachAt}
 use Rattle.circuits.specs.declared.port.PortKind.{PortKind}
 use Rattle.circuits.specs.declared.port.PortKind.TheVariants.{Input, Output}
+use Rattle.net_file.specs.declared.fault.NetKind.TheVariants as kind
+use Rattle.net_file.specs.declared.fault.NetStop.{NetStop}
+use Rattle.net_file.specs.Stops.{IsStopBy}
+use Rattle.text_core.specs.Piece.{Piece}
 use Rattle.text_core.specs.Bytes.{is_blank}
 use Rattle.text_core.specs.Lines.{lines, text_of_lines}
 use Rattle.text_core.specs.Words.{words}
@@ -118,6 +122,28 @@ pub record Puts (old : List (Option (List ℕ))) (position : ℕ) (name : List �
   pub free : (d : Option (List ℕ)) → slice_index_or old position d ≡ None
   pub put : new ≡ slice_set old position (Some name)
 
+-- the name was put there, or the slot isn't there or has one
+abbrev pub IsPut : Bool → List (Option (List ℕ)) → ℕ → List ℕ → List (Option (List ℕ)) → Type 0
+IsPut true old position name new = Puts old position name new
+IsPut false old position name new =
+    (d : Option (List ℕ)) → position < length old → slice_index_or old position d ≡ None → ⊥
+
+-- the slots of the inputs and of the outputs
+abbrev pub Slots : Type 0
+Slots = List (Option (List ℕ)) × List (Option (List ℕ))
+
+-- the port was free and has the name, or it isn't free
+abbrev pub TakesName : Bool → List Entry → Slots → Slots → Port → List ℕ → Type 0
+TakesName true before old new port name =
+    IsFree before (length old.0) (length old.1) port × ArePortSlots (before ++ (port, name) ∷ []) new.0 new.1
+TakesName false before old new port name = IsFree before (length old.0) (length old.1) port → ⊥
+
+-- the line adds what it names, or nothing can be added by it
+abbrev pub TakesLine : Bool → List Entry → Slots → Slots → List ℕ → Type 0
+TakesLine true before old new line =
+    (after : List Entry) × AddsName (length old.0) (length old.1) line before after × ArePortSlots after new.0 new.1
+TakesLine false before old new line = (after : List Entry) → AddsName (length old.0) (length old.1) line before after → ⊥
+
 -- the name of a port whose slot has this
 abbrev pub name_or : Port → Option (List ℕ) → List ℕ
 name_or port None = letter_of port.kind ∷ decimal port.position
@@ -135,6 +161,11 @@ pub record IsSymbolFault (inputs outputs base : ℕ) (text : List ℕ) (at : ℕ
   pub good : GiveNames inputs outputs (take place (symbol_lines text)) [] entries
   pub bad : (all : List Entry) → GiveNames inputs outputs (take (place + 1) (symbol_lines text)) [] all → ⊥
   pub offset : at ≡ base + length (text_of_lines (take place (lines text)))
+
+-- what a stop says of the symbols in this text
+abbrev pub IsSymbolStop : ℕ → ℕ → Piece → NetStop → Type 0
+IsSymbolStop inputs outputs text =
+    IsStopBy (λ fault at. (fault ≡ kind.BadSymbol) × IsSymbolFault inputs outputs text.at text.bytes at)
 
 -- The name of a port: the one that a symbol gives it, else its letter and its position.
 pub record IsNameOf (entries : List Entry) (port : Port) (name : List ℕ) : Type 0 where

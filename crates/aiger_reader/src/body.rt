@@ -3,7 +3,7 @@
 ghost use Rattle.std.specs.Prelude.{true, ◌≡◌, ℕ, ◌+◌, ◌<◌, ◌++◌, List, [], ◌∷◌, length, IfOk, IfErr, OnOk, vec_len, replicate, slice_index_or, slice_set};
 ghost use Rattle.std.specs.Bool.{OnTrue, OnFalse};
 ghost use Rattle.aiger_reader.specs.Numbers.{header_of};
-ghost use Rattle.aiger_reader.specs.Bodies.{line_offset, IsBody};
+ghost use Rattle.aiger_reader.specs.Bodies.{line_offset, AreLines};
 ghost use Rattle.aiger_reader.specs.Numbered.{IsSound};
 ghost use Rattle.aiger_reader.specs.Reading.{rows_of, input_lines_of, gate_lines_of, IsAtLine, IsReading, IsBodyReading, IsWanted, HasCounts, IsRowRead, IsStop};
 
@@ -56,14 +56,14 @@ impl<'a> Body<'a> {
         ensures literals { self.new.literals ≡ self.old.literals }
         ensures signals { self.new.signals ≡ self.old.signals }
         ensures count { self.new.count ≡ self.old.count }
-        ensures row { OnOk result (IsRowRead input.now (header_of header [])
+        ensures row { IfOk result (λ _. IsRowRead input.now (header_of header [])
             (rows_of self.old.literals) defining row.new self.new.rest) }
         ensures at { IfOk result (λ at. at
             ≡ line_offset input.now (length (rows_of self.old.literals) + 1)) }
         ensures stop { IfErr result (IsStop input.now (header_of header [])) }
     {
         let greatest = 2 * header.variables + 1;
-        read_line(&mut self.rest, row, greatest, defining).map_err(NetStop::Fault)
+        read_line(&mut self.rest, row, greatest, defining)
     }
 
     // Fills the row with the literals on the next line, which defines a variable, and notes that.
@@ -167,7 +167,7 @@ pub(crate) fn read_body<'a>(
     header: Header,
 ) -> Result<Body<'a>, NetStop>
     ensures body { IfOk result (λ body.
-        IsBody input.now (header_of header []) (rows_of body.literals)) }
+        AreLines input.now (header_of header []) (rows_of body.literals)) }
     ensures sound { IfOk result (λ body.
         IsSound (header_of header []) body.literals body.signals.items) }
     ensures rest { IfOk result (λ body.

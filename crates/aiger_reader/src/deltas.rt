@@ -2,8 +2,7 @@
 
 ghost use Rattle.std.specs.Prelude.{◌≡◌, ℕ, ◌+◌, ◌-◌, ◌^◌, ◌<◌, ◌≤◌, List, [], ◌∷◌, length, IfSome, IfNone, IfOk, IfErr, vec_len};
 ghost use Rattle.std.specs.Option.{SomeIff};
-ghost use Rattle.net_file.specs.declared.fault.NetFault.{NetFault};
-ghost use Rattle.aiger_reader.specs.Deltas.{BeginsGroups, BeginsDelta, BeginsNoDelta, BeginsFirst, BeginsSecond, BeginsGates, IsBadPair, IsPairFault};
+ghost use Rattle.aiger_reader.specs.Deltas.{BeginsGroups, BeginsDelta, BeginsNoDelta, BeginsOperand, BeginsFirst, BeginsSecond, BeginsGates, IsBadPair, IsPairStop};
 
 use net_file::{NetFault, NetKind, NetStop};
 use std::alloc::Global;
@@ -51,37 +50,27 @@ fn next_delta(cursor: &mut Cursor<'_>) -> Option<u64>
     next_groups(cursor, MOST_GROUPS)
 }
 
-// The literal that lies so far below another.
-fn literal_below(literal: u32, delta: u64) -> Option<u32>
-    ensures { SomeIff result (delta ≤ literal) (literal - delta) }
+// The literal that lies so far below another, which is at least so far.
+fn literal_below(literal: u32, least: u64, delta: u64) -> Option<u32>
+    ensures { SomeIff result ((least ≤ delta) × (delta ≤ literal)) (literal - delta) }
 {
+    if delta < least {
+        return None;
+    }
     if delta > u64::from(literal) {
         return None;
     }
     Some(literal - delta as u32)
 }
 
-// The first operand of the gate with this literal, and moves past its delta.
-fn next_first(cursor: &mut Cursor<'_>, literal: u32) -> Option<u32>
-    ensures operand { IfSome result (λ a. BeginsFirst literal cursor.old.bytes a cursor.new.bytes) }
-    ensures none { IfNone result ((a : ℕ) (rest : List ℕ) → BeginsFirst literal cursor.old.bytes a rest → ⊥) }
+// An operand, which lies at least so far below the literal, and moves past its delta.
+fn next_operand(cursor: &mut Cursor<'_>, least: u64, literal: u32) -> Option<u32>
+    ensures operand { IfSome result (λ a. BeginsOperand least literal cursor.old.bytes a cursor.new.bytes) }
+    ensures none { IfNone result ((a : ℕ) (rest : List ℕ) → BeginsOperand least literal cursor.old.bytes a rest → ⊥) }
     ensures end { cursor.new.at + length cursor.new.bytes ≡ cursor.old.at + length cursor.old.bytes }
 {
     let delta = next_delta(cursor)?;
-    if delta == 0 {
-        return None;
-    }
-    literal_below(literal, delta)
-}
-
-// The second operand of a gate with this first one, and moves past its delta.
-fn next_second(cursor: &mut Cursor<'_>, first: u32) -> Option<u32>
-    ensures operand { IfSome result (λ b. BeginsSecond first cursor.old.bytes b cursor.new.bytes) }
-    ensures none { IfNone result ((b : ℕ) (rest : List ℕ) → BeginsSecond first cursor.old.bytes b rest → ⊥) }
-    ensures end { cursor.new.at + length cursor.new.bytes ≡ cursor.old.at + length cursor.old.bytes }
-{
-    let delta = next_delta(cursor)?;
-    literal_below(first, delta)
+    literal_below(literal, least, delta)
 }
 
 // The operands of the gate with this literal, and moves past their deltas; or the offset of the first delta that
@@ -94,11 +83,11 @@ fn next_pair(cursor: &mut Cursor<'_>, literal: u32) -> Result<(u32, u32), u64>
     ensures end { cursor.new.at + length cursor.new.bytes ≡ cursor.old.at + length cursor.old.bytes }
 {
     let at = cursor.at();
-    let Some(first) = next_first(cursor, literal) else {
+    let Some(first) = next_operand(cursor, 1, literal) else {
         return Err(at);
     };
     let second_at = cursor.at();
-    let Some(second) = next_second(cursor, first) else {
+    let Some(second) = next_operand(cursor, 0, first) else {
         return Err(second_at);
     };
     Ok((first, second))
@@ -130,9 +119,7 @@ pub(crate) fn read_gates(
     requires { inputs + count < 2 ^ 31 }
     ensures count { IfOk result (λ gates. vec_len gates ≡ count) }
     ensures gates { IfOk result (λ gates. BeginsGates (inputs + 1) cursor.old.bytes gates.items cursor.new.bytes) }
-    ensures kind { (fault : NetFault) → result ≡ Err (NetStop.Fault fault) → fault.kind ≡ NetKind.Delta }
-    ensures fault { (fault : NetFault) → result ≡ Err (NetStop.Fault fault)
-        → IsPairFault (inputs + 1) count cursor.old.bytes (cursor.old.at + length cursor.old.bytes) fault.at }
+    ensures stop { IfErr result (IsPairStop (inputs + 1) count cursor.old) }
     ensures end { cursor.new.at + length cursor.new.bytes ≡ cursor.old.at + length cursor.old.bytes }
 {
     let mut gates = Vec::new(alloc);

@@ -2,12 +2,12 @@
 
 ghost use Rattle.std.specs.Prelude.{◌≡◌, ℕ, ◌%◌, ◌^◌, ◌<◌, ◌≤◌, ◌↔◌, min, List, length, map, All, IsTrue, Some, IfOk, IfErr, IfNone, OnSome, OnOk};
 ghost use Rattle.std.specs.Option.{option_map};
-ghost use Rattle.text_core.specs.Lines.{after_line};
 ghost use Rattle.text_core.specs.Numbers.{number};
-ghost use Rattle.aiger_reader.specs.Reading.{capped_on, next_line_of, IsRowOn, IsRowFault, IsNextFault};
+ghost use Rattle.net_file.specs.Stops.{IsStopBy};
+ghost use Rattle.aiger_reader.specs.Reading.{capped_on, IsRowOn, IsLineRead, IsRowFault, IsNextFault};
 
 use crate::words::has_no_word;
-use net_file::{NetFault, NetKind};
+use net_file::{NetFault, NetKind, NetStop};
 use text_core::{Cursor, NumberFault, Span, decimal, next_word};
 
 // The number that a word writes, or the limit where it is greater. `None` where the word is no number.
@@ -87,24 +87,23 @@ pub(crate) fn read_line(
     row: &mut [u32],
     greatest: u32,
     defining: bool,
-) -> Result<u64, NetFault>
+) -> Result<u64, NetStop>
     requires some { 0 < length row.old }
     requires small { greatest < 2 ^ 31 }
-    ensures there { OnOk result (0 < length cursor.old.bytes) }
-    ensures at { IfOk result (λ at. at ≡ cursor.old.at) }
-    ensures row { OnOk result (IsRowOn (next_line_of cursor.old) greatest defining row.new) }
-    ensures moved { OnOk result (cursor.new ≡ after_line cursor.old) }
-    ensures fault { IfErr result (λ fault.
-        IsNextFault cursor.old greatest defining (length row.old) fault.kind) }
-    ensures fault_at { IfErr result (λ fault. fault.at ≡ cursor.old.at) }
+    ensures read { IfOk result (IsLineRead cursor.old greatest defining row.new cursor.new) }
+    ensures stop { IfErr result (IsStopBy (λ kind at.
+        IsNextFault cursor.old greatest defining (length row.old) kind × (at ≡ cursor.old.at))) }
 {
     let at = cursor.at();
     let Some(mut line) = cursor.next_line() else {
-        return Err(NetFault {
+        return Err(NetStop::Fault(NetFault {
             kind: NetKind::Truncated,
             at,
-        });
+        }));
     };
-    read_literals(&mut line, row, greatest, defining).map_err(|kind| NetFault { kind, at })?;
+    read_literals(&mut line, row, greatest, defining).map_err(|kind| NetStop::Fault(NetFault {
+        kind,
+        at,
+    }))?;
     Ok(at)
 }

@@ -1,17 +1,16 @@
 //! What the lines of the body read, and the netlist's own numbers for it.
 
-ghost use Rattle.std.specs.Prelude.{◌≡◌, ℕ, ◌/◌, ◌^◌, ◌<◌, ◌≤◌, false, List, [], length, map, All, IfOk, IfErr, IfNone, IfSome};
+ghost use Rattle.std.specs.Prelude.{◌≡◌, ℕ, ◌/◌, ◌^◌, ◌<◌, ◌≤◌, List, [], length, map, All, IfOk, IfNone, IfSome};
 ghost use Rattle.std.specs.List.{prefix_len};
 ghost use Rattle.text_core.specs.Lines.{lines};
 ghost use Rattle.aiger_reader.specs.Numbers.{header_of};
-ghost use Rattle.aiger_reader.specs.Bodies.{line_offset, roles_of, IsBody, IsKnownRow, IsUndefined, text_circuit};
+ghost use Rattle.aiger_reader.specs.Bodies.{line_offset, roles_of, AreLines, IsKnownRow, IsUndefined};
 ghost use Rattle.aiger_reader.specs.Reading.{rows_of};
-ghost use Rattle.aiger_reader.specs.Numbered.{AreWithin, IsSound, has_place, have_places, lit_in, def_in, circuit_from};
+ghost use Rattle.aiger_reader.specs.Numbered.{AreWithin, IsSound, has_place, have_places, lit_in, def_in};
 
 use crate::body::{AndLine, Body, gate_lines, input_lines};
 use crate::limits::Header;
 use circuits::{Def, Lit};
-use net_file::NetStop;
 use std::alloc::{AllocError, Global};
 use text_core::Cursor;
 
@@ -87,7 +86,7 @@ pub(crate) fn offset_of_line(input: &[u8], line: usize) -> u64
 /// Where the first line of the body stands that reads a variable which no line defines: an output, or an operand
 /// of a gate. The constant is always there.
 pub(crate) fn find_undefined(input: &[u8], header: Header, body: &Body<'_>) -> Option<u64>
-    requires read { IsBody input.now (header_of header []) (rows_of body.now.literals) }
+    requires read { AreLines input.now (header_of header []) (rows_of body.now.literals) }
     requires sound { IsSound (header_of header []) body.now.literals body.now.signals.items }
     ensures known { IfNone result ((properties : List ℕ) (k : ℕ)
         → k < length (rows_of body.now.literals)
@@ -115,8 +114,13 @@ fn lit_of(signals: &[u32], literal: u32) -> Lit
     Lit(2 * signals[variable] + literal % 2)
 }
 
-// The netlist's outputs.
-fn number_outputs(alloc: Global, signals: &[u32], outputs: &[u32]) -> Result<Vec<Lit>, AllocError>
+/// The netlist's outputs, in numbers of its own: signal 0 is the constant, input i is signal i + 1, and then come the
+/// definitions, in the order of the file.
+pub(crate) fn number_outputs(
+    alloc: Global,
+    signals: &[u32],
+    outputs: &[u32],
+) -> Result<Vec<Lit>, AllocError>
     requires within { All (λ literal. literal / 2 < length signals.now) outputs.now }
     requires small { All (λ place. place < 2 ^ 31) signals.now }
     ensures { IfOk result (λ lits. lits.items ≡ map (lit_in signals.now) outputs.now) }
@@ -125,8 +129,12 @@ fn number_outputs(alloc: Global, signals: &[u32], outputs: &[u32]) -> Result<Vec
     lits.collect(alloc)
 }
 
-// The netlist's definitions.
-fn number_gates(alloc: Global, signals: &[u32], gates: &[AndLine]) -> Result<Vec<Def>, AllocError>
+/// The netlist's definitions, in the same numbers.
+pub(crate) fn number_gates(
+    alloc: Global,
+    signals: &[u32],
+    gates: &[AndLine],
+) -> Result<Vec<Def>, AllocError>
     requires within { All (AreWithin signals.now) gates.now }
     requires small { All (λ place. place < 2 ^ 31) signals.now }
     ensures { IfOk result (λ defs. defs.items ≡ map (def_in signals.now) gates.now) }
@@ -136,37 +144,4 @@ fn number_gates(alloc: Global, signals: &[u32], gates: &[AndLine]) -> Result<Vec
         b: lit_of(signals, line.b),
     });
     defs.collect(alloc)
-}
-
-/// A netlist in the numbers of its own: signal 0 is the constant, input i is signal i + 1, and then come the
-/// definitions, in the order of the file.
-#[derive(Drop)]
-pub(crate) struct Numbered {
-    pub(crate) inputs: u32,
-    pub(crate) defs: Vec<Def>,
-    pub(crate) outputs: Vec<Lit>,
-}
-
-/// The netlist of an ASCII form's body, each line of which reads what some line defines.
-pub(crate) fn number_circuit(
-    alloc: Global,
-    header: Header,
-    body: &Body<'_>,
-) -> Result<Numbered, NetStop>
-    requires text { header.binary ≡ false }
-    requires sound { IsSound (header_of header []) body.now.literals body.now.signals.items }
-    requires known { (k : ℕ) → k < length (rows_of body.now.literals)
-        → IsKnownRow (header_of header []) (rows_of body.now.literals) k }
-    ensures circuit { IfOk result (λ numbered. (properties : List ℕ)
-        → circuit_from numbered.inputs numbered.defs.items numbered.outputs.items
-        ≡ text_circuit (header_of header properties) (rows_of body.now.literals)) }
-    ensures memory { IfErr result (λ stop. stop ≡ NetStop.Memory) }
-{
-    let defs = number_gates(alloc, &body.signals, &body.literals.gates)?;
-    let outputs = number_outputs(alloc, &body.signals, &body.literals.outputs)?;
-    Ok(Numbered {
-        inputs: header.inputs,
-        defs,
-        outputs,
-    })
 }

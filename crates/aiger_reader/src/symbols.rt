@@ -1,12 +1,10 @@
 //! The symbols after the body of an AIGER file: lines that name its ports.
 
-ghost use Rattle.std.specs.Prelude.{◌≡◌, ◌≢◌, ℕ, ◌+◌, ◌<◌, ◌^◌, List, [], ◌∷◌, ◌++◌, length, Option, IfSome, IfNone, IfOk, OnOk, IsErrOf, replicate, slice_index_or};
+ghost use Rattle.std.specs.Prelude.{◌≡◌, ◌≢◌, ℕ, ◌+◌, ◌<◌, ◌^◌, List, [], ◌∷◌, ◌++◌, length, Option, IfSome, IfNone, IfOk, IfErr, OnOk, replicate, slice_index_or};
 ghost use Rattle.std.specs.Fmt.{decimal as digits_of_number};
 ghost use Rattle.circuits.specs.declared.port.PortKind.{PortKind};
 ghost use Rattle.circuits.specs.declared.port.PortKind.TheVariants.{Input, Output};
-ghost use Rattle.net_file.specs.declared.fault.NetFault.{NetFault};
-ghost use Rattle.aiger_reader.specs.declared.symbols.SymbolStop.TheVariants.{Memory};
-ghost use Rattle.aiger_reader.specs.Symbols.{is_comment, IsWithoutReturn, Port, Entry, NamesPort, BeginsPosition, letter_of, port_at, IsFree, AddsName, AreSlots, ArePortSlots, Puts, ArePortNames, name_or, AreSymbols, IsSymbolFault, AreNames};
+ghost use Rattle.aiger_reader.specs.Symbols.{is_comment, IsWithoutReturn, Port, Entry, NamesPort, BeginsPosition, letter_of, port_at, AreSlots, ArePortSlots, IsPut, TakesName, TakesLine, ArePortNames, name_or, AreSymbols, IsSymbolStop, AreNames};
 
 use crate::words::has_no_word;
 use circuits::PortKind;
@@ -35,39 +33,6 @@ struct Symbol<'a> {
     kind: PortKind,
     position: u64,
     name: &'a [u8],
-}
-
-// Why a line's name was not added.
-#[derive(Clone, Copy)]
-enum SymbolStop {
-    // The line gives no name, or not to a port that is there and has none.
-    Bad,
-    Memory,
-}
-
-impl From<AllocError> for SymbolStop {
-    ghost from_gives = { λ _ e. e ≡ Memory };
-
-    fn from(_error: AllocError) -> SymbolStop {
-        SymbolStop::Memory
-    }
-}
-
-impl SymbolStop {
-    // The reader's stop, for a line that stands at this offset.
-    fn at(self, at: u64) -> NetStop
-        ensures bad { self ≡ SymbolStop.Bad
-            → result ≡ NetStop.Fault (record { kind = NetKind.BadSymbol; at = at }) }
-        ensures memory { self ≡ SymbolStop.Memory → result ≡ NetStop.Memory }
-    {
-        match self {
-            SymbolStop::Bad => NetStop::Fault(NetFault {
-                kind: NetKind::BadSymbol,
-                at,
-            }),
-            SymbolStop::Memory => NetStop::Memory,
-        }
-    }
 }
 
 // Whether a line opens the comment.
@@ -142,42 +107,36 @@ fn symbol_on(line: &[u8]) -> Option<Symbol<'_>>
     })
 }
 
-// Puts a name into a slot, where that is there and has none.
+// Puts a name into a slot, where that is there and has none. Says whether it was put.
 fn put_name(
     alloc: Global,
     slots: &mut Vec<Option<Name>>,
     position: u64,
     name: &[u8],
-) -> Result<(), SymbolStop>
-    ensures put { OnOk result (Puts slots.old.items position name.now slots.new.items) }
+) -> Result<bool, AllocError>
+    ensures put { IfOk result (λ put. IsPut put slots.old.items position name.now slots.new.items) }
     ensures size { length slots.new.items ≡ length slots.old.items }
-    ensures bad { IsErrOf result SymbolStop.Bad → (d : Option (List ℕ)) → position < length slots.old.items
-        → slice_index_or slots.old.items position d ≡ None → ⊥ }
 {
     if position >= slots.len() as u64 {
-        return Err(SymbolStop::Bad);
+        return Ok(false);
     }
     let place = position as usize;
     if slots[place].is_some() {
-        return Err(SymbolStop::Bad);
+        return Ok(false);
     }
     slots[place] = Some(Items::from_slice(alloc, name)?);
-    Ok(())
+    Ok(true)
 }
 
-// Gives the port of a symbol its name, where the port is there and has none.
-fn put_symbol(alloc: Global, symbol: &Symbol<'_>, ports: &mut PortSlots) -> Result<(), SymbolStop>
+// Gives the port of a symbol its name, where the port is there and has none. Says whether it was given.
+fn put_symbol(alloc: Global, symbol: &Symbol<'_>, ports: &mut PortSlots) -> Result<bool, AllocError>
     ensures inputs { length ports.new.inputs.items ≡ length ports.old.inputs.items }
     ensures outputs { length ports.new.outputs.items ≡ length ports.old.outputs.items }
-    ensures put { OnOk result ((before : List Entry)
+    ensures put { IfOk result (λ put. (before : List Entry)
         → ArePortSlots before ports.old.inputs.items ports.old.outputs.items
-        → let port = port_at symbol.now.kind symbol.now.position in
-        IsFree before (length ports.old.inputs.items) (length ports.old.outputs.items) port
-        × ArePortSlots (before ++ (port, symbol.now.name.now) ∷ []) ports.new.inputs.items ports.new.outputs.items) }
-    ensures bad { IsErrOf result SymbolStop.Bad → (before : List Entry)
-        → ArePortSlots before ports.old.inputs.items ports.old.outputs.items
-        → IsFree before (length ports.old.inputs.items) (length ports.old.outputs.items)
-        (port_at symbol.now.kind symbol.now.position) → ⊥ }
+        → TakesName put before (ports.old.inputs.items, ports.old.outputs.items)
+        (ports.new.inputs.items, ports.new.outputs.items)
+        (port_at symbol.now.kind symbol.now.position) symbol.now.name.now) }
 {
     match symbol.kind {
         PortKind::Input => put_name(alloc, &mut ports.inputs, symbol.position, symbol.name),
@@ -185,25 +144,22 @@ fn put_symbol(alloc: Global, symbol: &Symbol<'_>, ports: &mut PortSlots) -> Resu
     }
 }
 
-// Takes up what one line of the symbols gives.
-fn add_symbol(alloc: Global, mut line: Span<'_>, ports: &mut PortSlots) -> Result<(), SymbolStop>
+// Takes up what one line of the symbols gives. Says whether it gives no name, or one to a port that is there and
+// has none.
+fn add_symbol(alloc: Global, mut line: Span<'_>, ports: &mut PortSlots) -> Result<bool, AllocError>
     ensures inputs { length ports.new.inputs.items ≡ length ports.old.inputs.items }
     ensures outputs { length ports.new.outputs.items ≡ length ports.old.outputs.items }
-    ensures added { OnOk result ((before : List Entry)
+    ensures added { IfOk result (λ added. (before : List Entry)
         → ArePortSlots before ports.old.inputs.items ports.old.outputs.items
-        → (after : List Entry)
-        × AddsName (length ports.old.inputs.items) (length ports.old.outputs.items) line.entry.bytes before after
-        × ArePortSlots after ports.new.inputs.items ports.new.outputs.items) }
-    ensures bad { IsErrOf result SymbolStop.Bad → (before after : List Entry)
-        → ArePortSlots before ports.old.inputs.items ports.old.outputs.items
-        → AddsName (length ports.old.inputs.items) (length ports.old.outputs.items) line.entry.bytes before after → ⊥ }
+        → TakesLine added before (ports.old.inputs.items, ports.old.outputs.items)
+        (ports.new.inputs.items, ports.new.outputs.items) line.entry.bytes) }
 {
     let text = line.bytes();
     if has_no_word(&mut line) {
-        return Ok(());
+        return Ok(true);
     }
     let Some(symbol) = symbol_on(text) else {
-        return Err(SymbolStop::Bad);
+        return Ok(false);
     };
     put_symbol(alloc, &symbol, ports)
 }
@@ -216,17 +172,20 @@ fn read_lines(alloc: Global, cursor: &mut Cursor<'_>, ports: &mut PortSlots) -> 
     ensures symbols { OnOk result ((entries : List Entry)
         × AreSymbols (length ports.old.inputs.items) (length ports.old.outputs.items) cursor.old.bytes entries
         × ArePortSlots entries ports.new.inputs.items ports.new.outputs.items) }
-    ensures kind { (fault : NetFault) → result ≡ Err (NetStop.Fault fault) → fault.kind ≡ NetKind.BadSymbol }
-    ensures fault { (fault : NetFault) → result ≡ Err (NetStop.Fault fault)
-        → IsSymbolFault (length ports.old.inputs.items) (length ports.old.outputs.items)
-        cursor.old.at cursor.old.bytes fault.at }
+    ensures stop { IfErr result
+        (IsSymbolStop (length ports.old.inputs.items) (length ports.old.outputs.items) cursor.old) }
 {
     while let Some(line) = cursor.next_line() {
         if opens_comment(line.bytes()) {
             return Ok(());
         }
         let at = line.at();
-        add_symbol(alloc, line, ports).map_err(|stop| stop.at(at))?;
+        if !add_symbol(alloc, line, ports)? {
+            return Err(NetStop::Fault(NetFault {
+                kind: NetKind::BadSymbol,
+                at,
+            }));
+        }
     }
     Ok(())
 }
@@ -339,9 +298,7 @@ pub(crate) fn read_symbols(
     outputs: u32,
 ) -> Result<Symbols, NetStop>
     ensures names { IfOk result (λ symbols. AreNames inputs outputs cursor.old.bytes symbols.inputs symbols.outputs) }
-    ensures kind { (fault : NetFault) → result ≡ Err (NetStop.Fault fault) → fault.kind ≡ NetKind.BadSymbol }
-    ensures fault { (fault : NetFault) → result ≡ Err (NetStop.Fault fault)
-        → IsSymbolFault inputs outputs cursor.old.at cursor.old.bytes fault.at }
+    ensures stop { IfErr result (IsSymbolStop inputs outputs cursor.old) }
 {
     let mut ports = empty_ports(alloc, inputs, outputs)?;
     read_lines(alloc, cursor, &mut ports)?;

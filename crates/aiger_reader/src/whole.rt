@@ -4,12 +4,13 @@ ghost use Rattle.std.specs.Prelude.{◌≡◌, ℕ, ◌+◌, ◌<◌, false, Lis
 ghost use Rattle.circuits.specs.Functions.{Computes};
 ghost use Rattle.circuits.specs.Levels.{IsAcyclic, IsOrderOf};
 ghost use Rattle.net_file.specs.declared.fault.NetFault.{NetFault};
+ghost use Rattle.net_file.specs.Stops.{IsStopBy};
 ghost use Rattle.aiger_reader.specs.Numbers.{header_of};
 ghost use Rattle.aiger_reader.specs.Reading.{rows_of};
 ghost use Rattle.aiger_reader.specs.Bodies.{IsKnownRow, lit_from, text_circuit};
 ghost use Rattle.aiger_reader.specs.Deltas.{and_from};
 ghost use Rattle.aiger_reader.specs.Numbered.{IsSound, circuit_from};
-ghost use Rattle.aiger_reader.specs.Symbols.{AreNames, IsSymbolFault};
+ghost use Rattle.aiger_reader.specs.Symbols.{AreNames, IsSymbolStop};
 ghost use Rattle.aiger_reader.specs.Aiger.{IsAigerFault, ReadAs};
 ghost use Rattle.aiger_reader.specs.Assembly.{IsBegun, AreLinesRead, IsNetOf, IsBinaryBody};
 
@@ -17,7 +18,7 @@ use crate::body::{Body, read_body};
 use crate::deltas::read_gates;
 use crate::header::read_header;
 use crate::limits::Header;
-use crate::numbering::{Numbered, find_undefined, number_circuit, offset_of_line};
+use crate::numbering::{find_undefined, number_gates, number_outputs, offset_of_line};
 use crate::symbols::{Symbols, read_symbols};
 use circuits::{Def, Lit};
 use items::Items;
@@ -39,6 +40,14 @@ pub fn read(alloc: Global, input: &[u8]) -> Result<Named, NetStop>
     ensures fault { (fault : NetFault) → result ≡ Err (NetStop.Fault fault)
         → IsAigerFault input.now fault.kind fault.at }
 {
+    read_file(alloc, input)
+}
+
+// The netlist of a file and the names of its ports.
+fn read_file(alloc: Global, input: &[u8]) -> Result<Named, NetStop>
+    ensures netlist { IfOk result (λ named. ReadAs input.now named.graph named.input_names named.output_names) }
+    ensures stop { IfErr result (IsStopBy (IsAigerFault input.now)) }
+{
     let header = read_front(input)?;
     let mut body = read_body(alloc, input, header)?;
     let net = read_net(alloc, input, header, &mut body)?;
@@ -50,8 +59,7 @@ pub fn read(alloc: Global, input: &[u8]) -> Result<Named, NetStop>
 // The header of the file.
 fn read_front(input: &[u8]) -> Result<Header, NetStop>
     ensures begun { IfOk result (λ header. IsBegun input.now header) }
-    ensures fault { (fault : NetFault) → result ≡ Err (NetStop.Fault fault)
-        → IsAigerFault input.now fault.kind fault.at }
+    ensures stop { IfErr result (IsStopBy (IsAigerFault input.now)) }
 {
     read_header(input).map_err(|kind| NetStop::Fault(NetFault { kind, at: 0 }))
 }
@@ -67,8 +75,7 @@ fn read_net(
     requires lines { AreLinesRead input.now header body.old.literals body.old.signals.items body.old.rest }
     ensures netlist { IfOk result (λ net. IsNetOf input.now header net body.new.rest.bytes) }
     ensures end { body.new.rest.at + length body.new.rest.bytes ≡ length input.now }
-    ensures fault { (fault : NetFault) → result ≡ Err (NetStop.Fault fault)
-        → IsAigerFault input.now fault.kind fault.at }
+    ensures stop { IfErr result (IsStopBy (IsAigerFault input.now)) }
 {
     if !header.binary {
         return text_net(alloc, input, header, body);
@@ -88,8 +95,7 @@ fn text_net(
     requires begun { IsBegun input.now header }
     requires lines { AreLinesRead input.now header body.now.literals body.now.signals.items body.now.rest }
     ensures netlist { IfOk result (λ net. IsNetOf input.now header net body.now.rest.bytes) }
-    ensures fault { (fault : NetFault) → result ≡ Err (NetStop.Fault fault)
-        → IsAigerFault input.now fault.kind fault.at }
+    ensures stop { IfErr result (IsStopBy (IsAigerFault input.now)) }
 {
     if let Some(at) = find_undefined(input, header, body) {
         return Err(NetStop::Fault(NetFault {
@@ -110,13 +116,13 @@ fn known_net(alloc: Global, header: Header, body: &Body<'_>) -> Result<PlainNet,
         → net ≡ text_circuit (header_of header properties) (rows_of body.now.literals)) }
     ensures memory { IfErr result (λ stop. stop ≡ NetStop.Memory) }
 {
-    let numbered = number_circuit(alloc, header, body)?;
-    let Numbered {
-        inputs,
-        defs,
-        outputs,
-    } = numbered;
-    Ok(PlainNet::new(inputs, Items::from_vec(defs), Items::from_vec(outputs)))
+    let defs = number_gates(alloc, &body.signals, &body.literals.gates)?;
+    let outputs = number_outputs(alloc, &body.signals, &body.literals.outputs)?;
+    Ok(PlainNet::new(
+        header.inputs,
+        Items::from_vec(defs),
+        Items::from_vec(outputs),
+    ))
 }
 
 // The netlist of the binary form.
@@ -169,8 +175,7 @@ fn put_in_order(
     ensures order { IfOk result (λ graph. IsOrderOf net.now graph) }
     ensures acyclic { IfOk result (λ _. IsAcyclic net.now) }
     ensures computes { IfOk result (λ graph. Computes graph net.now) }
-    ensures fault { (fault : NetFault) → result ≡ Err (NetStop.Fault fault)
-        → IsAigerFault input.now fault.kind fault.at }
+    ensures stop { IfErr result (IsStopBy (IsAigerFault input.now)) }
 {
     match order(alloc, net) {
         Ok(graph) => Ok(graph),
@@ -203,9 +208,7 @@ fn name_ports(
     ensures graph { IfOk result (λ named. named.graph ≡ graph) }
     ensures names { IfOk result (λ named.
         AreNames header.inputs header.outputs rest.old.bytes named.input_names named.output_names) }
-    ensures kind { (fault : NetFault) → result ≡ Err (NetStop.Fault fault) → fault.kind ≡ NetKind.BadSymbol }
-    ensures fault { (fault : NetFault) → result ≡ Err (NetStop.Fault fault)
-        → IsSymbolFault header.inputs header.outputs rest.old.at rest.old.bytes fault.at }
+    ensures stop { IfErr result (IsSymbolStop header.inputs header.outputs rest.old) }
 {
     let symbols = read_symbols(alloc, rest, header.inputs, header.outputs)?;
     let Symbols { inputs, outputs } = symbols;

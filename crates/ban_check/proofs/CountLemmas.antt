@@ -8,7 +8,7 @@ use Rattle.query_core.specs.declared.claims.Shape.{Shape}
 use Rattle.query_core.specs.declared.claims.Shape.TheVariants.{Up, Down, Swap}
 use Rattle.account_core.specs.Given.{Given}
 use Rattle.account_core.specs.Tallies.{shapes_of, AreBothOfEach, AreOfEach}
-use Rattle.ban_check.specs.Counted.{one_input, twin_input, AscendFrom, GoOverInputs, GoOverTwice}
+use Rattle.ban_check.specs.Counted.{one_input, twin_input, AscendFrom, GoOverInputs, GoOverTwice, IsNext}
 use Rattle.ban_check.proofs.AscentLemmas.{ascend_more, ascend_rest, none_ascend}
 
 some_is : (i j : ℕ) → Some i ≡ Some j → i ≡ j
@@ -26,22 +26,16 @@ pub record IsByFront (least : ℕ) (input : Option ℕ) (Left : Type 0) (Rest : 
   pub split : Left → HasFront least input Rest
   pub more : HasFront least input Rest → Left
 
--- one step more, none, and one that doesn't ascend
+-- one step more, and none
 module _ {least : ℕ} {input : Option ℕ} {Left : Type 0} {Rest : ℕ → Type 0} (P : Type 0) (front : IsByFront least input Left Rest) (so_far : Left ↔ P) where
-  pub front_step : (i : ℕ) → input ≡ Some i → least ≤ i → Rest (i + 1) ↔ P
-  front_step i is within = (
-    (λ rest. so_far.0 (front.more (record { i = i; is = is; within = within; rest = rest }))),
-    (λ p. let parts = front.split (so_far.1 p) in subst (λ n. Rest (n + 1)) (some_is parts.i i (sym parts.is ∙ is)) parts.rest),
+  pub front_step : (next : ℕ) → IsNext least input next → Rest next ↔ P
+  front_step next (i, is, within, next_is) = (
+    (λ rest. so_far.0 (front.more (record { i = i; is = is; within = within; rest = subst Rest next_is rest }))),
+    (λ p. let parts = front.split (so_far.1 p) in subst Rest (ap (λ n. n + 1) (some_is parts.i i (sym parts.is ∙ is)) ∙ sym next_is) parts.rest),
   )
 
-  pub front_stop : ((i : ℕ) → input ≡ Some i → ⊥) → P → ⊥
-  front_stop none p = let parts = front.split (so_far.1 p) in none parts.i parts.is
-
-  pub front_below : (i : ℕ) → input ≡ Some i → i < least → P → ⊥
-  front_below i is below p =
-      let parts = front.split (so_far.1 p) in
-      let same = some_is parts.i i (sym parts.is ∙ is) in
-      omega (arith, same, parts.within, below)
+  pub front_stop : ((i : ℕ) → input ≡ Some i → least ≤ i → ⊥) → P → ⊥
+  front_stop none p = let parts = front.split (so_far.1 p) in none parts.i parts.is parts.within
 
 -- shapes of one input each
 

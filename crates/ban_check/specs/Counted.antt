@@ -40,6 +40,10 @@ abbrev pub twin_input : Shape → Shape → Option ℕ
 twin_input (Up i) (Down j) = if i == j then Some i else None
 twin_input one other = None
 
+-- an input from `least` on, and the least that may follow
+abbrev pub IsNext : ℕ → Option ℕ → ℕ → Type 0
+IsNext least input next = (i : ℕ) × (input ≡ Some i) × (least ≤ i) × (next ≡ i + 1)
+
 -- A fact holds, or fails, and is of a claim's output.
 pub record SaysOf (given : Given) (number : ℕ) (holds : Bool) (claim : Claim) : Type 0 where
   pub says : (fact_at given number).holds ≡ holds

@@ -1,8 +1,8 @@
 //! Bans by counts of inputs: of two paired outputs one has, and the other one lacks, more inputs of a kind than fit.
 
-ghost use Rattle.std.specs.Prelude.{◌≡◌, ◌↔◌, Any, IsTrue};
+ghost use Rattle.std.specs.Prelude.{◌≡◌, ◌↔◌, ℕ, ◌+◌, ◌≤◌, Any, IfSome, IsTrue, Some};
 ghost use Rattle.account_core.specs.Tallies.{port_on, shapes_of, IsTally, SayOf};
-ghost use Rattle.ban_check.specs.Counted.{one_input, twin_input, ArePaired, AreTooMany, GoOverInputs, GoOverTwice, HaveTooMany, SaysOf};
+ghost use Rattle.ban_check.specs.Counted.{one_input, twin_input, ArePaired, AreTooMany, GoOverInputs, GoOverTwice, HaveTooMany, IsNext, SaysOf};
 
 use crate::given::Given;
 use account_core::Tallied;
@@ -105,13 +105,10 @@ fn go_over_inputs(given: &Given, numbers: &[u64]) -> bool
 {
     let mut least = 0;
     for number in numbers.iter() {
-        let Some(input) = one_input(given.fact(*number).claim.shape) else {
+        let Some(next) = next_from(least, one_input(given.fact(*number).claim.shape)) else {
             return false;
         };
-        if u64::from(input) < least {
-            return false;
-        }
-        least = u64::from(input) + 1;
+        least = next;
     }
     true
 }
@@ -125,16 +122,27 @@ fn go_over_twice(given: &Given, numbers: &[u64]) -> bool
     while let [up, down, rest @ ..] = left {
         let one = given.fact(*up).claim.shape;
         let other = given.fact(*down).claim.shape;
-        let Some(twin) = twin_input(one, other) else {
+        let Some(next) = next_from(least, twin_input(one, other)) else {
             return false;
         };
-        if u64::from(twin) < least {
-            return false;
-        }
-        least = u64::from(twin) + 1;
+        least = next;
         left = rest;
     }
     left.is_empty()
+}
+
+// The least input that may follow one, if there is one from `least` on.
+fn next_from(least: u64, input: Option<u32>) -> Option<u64>
+    ensures next { IfSome result (IsNext least input) }
+    ensures there { (i : ℕ) → input ≡ Some i → least ≤ i → result ≡ Some (i + 1) }
+{
+    let Some(input) = input else {
+        return None;
+    };
+    if u64::from(input) < least {
+        return None;
+    }
+    Some(u64::from(input) + 1)
 }
 
 // The input of a shape of one.

@@ -41,9 +41,10 @@ pub port_names-bytes : (kind : PortKind) (ports : List Port) → port_names kind
 port_names-bytes kind ports = sym (map-map (λ (w : Piece). w.bytes) (λ (p : Port). p.word) _)
 
 -- the ports are distinct, and these are the names of the inputs
-distinct_ports : (lines : List (List Piece)) (inputs outputs : List (List ℕ)) → AreDeclared lines → AreNamed (port_words lines) (length (port_words lines)) inputs outputs → AreDistinct lines × (inputs ≡ bytes_of (input_words lines))
-distinct_ports lines inputs outputs declared named =
-    (record { declared = declared; once = named.once }, named.inputs_are ∙ (ap (port_names Input) (take-length (port_words lines)) ∙ port_names-bytes Input (port_words lines)))
+pub inputs_named : (lines : List (List Piece)) (ports : List Port) (inputs outputs : List (List ℕ)) → AreDeclared lines → ports ≡ port_words lines → AreNamed ports (length ports) inputs outputs → AreDistinct lines × (inputs ≡ bytes_of (input_words lines))
+inputs_named lines ports inputs outputs declared same named =
+    let all = subst (λ ps. AreNamed ps (length ps) inputs outputs) same named in
+    (record { declared = declared; once = all.once }, all.inputs_are ∙ (ap (port_names Input) (take-length (port_words lines)) ∙ port_names-bytes Input (port_words lines)))
 
 pub repeated_port : (lines : List (List Piece)) (kind : NetKind) (at : ℕ) → AreDeclared lines → IsRepeatedPort (port_words lines) kind at → IsPortFault lines kind at
 repeated_port lines kind at declared found = record {
@@ -63,22 +64,15 @@ pub names_numbered : (lines : List (List Piece)) (ports : List Port) (defined : 
     → ((words : List Piece) → inputs ≡ bytes_of words → AreDefined words defined (length defined) names)
     → AreDefinedOnce lines × (names ≡ signal_names lines)
 names_numbered lines ports defined inputs outputs names declared p d named added =
-    let distinct = distinct_ports lines inputs outputs declared (subst (λ ps. AreNamed ps (length ps) inputs outputs) p named) in
+    let distinct = inputs_named lines ports inputs outputs declared p named in
     let all = subst (λ ds. AreDefined (input_words lines) ds (length ds) names) d (added (input_words lines) distinct.1) in
     (record { distinct = distinct.0; once = all.once }, all.names_are ∙ ap (λ ds. bytes_of (input_words lines ++ ds)) (take-length (defined_words lines)))
 
 -- one of them is an input's, or was defined before
-pub name_redefined : (lines : List (List Piece)) (ports : List Port) (defined : List Piece) (inputs outputs : List (List ℕ)) (kind : NetKind) (at : ℕ)
-    → AreDeclared lines
-    → ports ≡ port_words lines
-    → defined ≡ defined_words lines
-    → AreNamed ports (length ports) inputs outputs
-    → ((words : List Piece) → inputs ≡ bytes_of words → IsRepeatedName words defined kind at)
-    → IsRedefinedFault lines kind at
-name_redefined lines ports defined inputs outputs kind at declared p d named again =
-    let distinct = distinct_ports lines inputs outputs declared (subst (λ ps. AreNamed ps (length ps) inputs outputs) p named) in
-    let found = subst (λ ds. IsRepeatedName (input_words lines) ds kind at) d (again (input_words lines) distinct.1) in
-    record { distinct = distinct.0; is = found.is; why = found.why }
+pub name_redefined : (lines : List (List Piece)) (defined : List Piece) (kind : NetKind) (at : ℕ) → AreDistinct lines → defined ≡ defined_words lines → IsRepeatedName (input_words lines) defined kind at → IsRedefinedFault lines kind at
+name_redefined lines defined kind at distinct d again =
+    let found = subst (λ ds. IsRepeatedName (input_words lines) ds kind at) d again in
+    record { distinct = distinct; is = found.is; why = found.why }
 
 -- a name isn't known exactly where it is neither an input's nor defined
 not_either : (a b : Bool) → not (a || b) ≡ (not a && not b)

@@ -1,8 +1,10 @@
 -- For `covers`: what a second pass has of the netlist goes on to one word, or one line, more.
-use Rattle.std.proofs.Common.{◌≡◌, ◌==◌, ◌&&◌, ℕ, suc, ◌+◌, ◌-◌, Bool, true, false, cond, List, [], ◌∷◌, ◌++◌, length, map, take, All, Option, Some, None, refl, ap, sym, subst, ◌∙◌, arith, append_assoc}
-use Rattle.std.specs.List.{list_any, prefix_len}
+use Rattle.std.proofs.Common.{◌≡◌, ◌==◌, ◌&&◌, ℕ, suc, ◌-◌, Bool, true, false, cond, List, [], ◌∷◌, ◌++◌, length, map, take, All, Option, Some, None, refl, ap, sym, subst, ◌∙◌, arith, append_assoc}
+use Rattle.std.specs.List.{list_any}
 use Rattle.std.specs.Str.{bytes_eq}
+use Rattle.std.proofs.Math.Bool.{and_assoc}
 use Rattle.std.proofs.lemmas.List.{append-nil, map-append}
+use Rattle.std.proofs.lemmas.List.Sums.{take_while-cons}
 use Rattle.std.proofs.lemmas.List.Elements.{All-nil, All-cons, All-head, All-tail}
 use Rattle.text_core.specs.Piece.{Piece}
 use Rattle.circuits.specs.declared.definition.Trit.{Trit}
@@ -112,14 +114,11 @@ unknown_before names words rest at u = record {
 -- the rows that a text begins with
 pub no_rows : (line : List Piece) (left : List (List Piece)) → is_row (directive_of line) ≡ false → leading_rows (line ∷ left) ≡ []
 no_rows line left h =
-    let n = prefix_len (λ l. is_row (directive_of l)) left in
-    ap (λ t. take (cond t (1 + n) 0) (line ∷ left)) h
+    take_while-cons (λ l. is_row (directive_of l)) line left ∙ ap (λ t. cond t (line ∷ leading_rows left) []) h
 
 pub one_row : (line : List Piece) (left : List (List Piece)) → is_row (directive_of line) ≡ true → leading_rows (line ∷ left) ≡ line ∷ leading_rows left
 one_row line left h =
-    let n = prefix_len (λ l. is_row (directive_of l)) left in
-    let one : 1 + n ≡ suc n = omega arith in
-    ap (λ t. take (cond t (1 + n) 0) (line ∷ left)) h ∙ ap (λ m. take m (line ∷ left)) one
+    take_while-cons (λ l. is_row (directive_of l)) line left ∙ ap (λ t. cond t (line ∷ leading_rows left) []) h
 
 pub covers_skip : (names : List (List ℕ)) (line : List Piece) (left : List (List Piece)) → is_names (directive_of line) ≡ false → covers_of names (line ∷ left) ≡ covers_of names left
 covers_skip names line left h =
@@ -128,10 +127,6 @@ covers_skip names line left h =
 pub covers_take : (names : List (List ℕ)) (line : List Piece) (left : List (List Piece)) → is_names (directive_of line) ≡ true → covers_of names (line ∷ left) ≡ cover_of names line (leading_rows left) ∷ covers_of names left
 covers_take names line left h =
     ap (λ t. cond t (cover_of names line (leading_rows left) ∷ covers_of names left) (covers_of names left)) h
-
-and_assoc : (s t u : Bool) → (s && (t && u)) ≡ ((s && t) && u)
-and_assoc true t u = refl
-and_assoc false t u = refl
 
 -- a cover that no row follows
 ended : (names : List ℕ) (rows : List (List Trit)) (on : Bool) (defs : List Def) (lead : List (List Piece)) → lead ≡ [] → Cover names (rows ++ map trits_of lead) (on && are_on lead) ∷ defs ≡ Cover names rows on ∷ defs
@@ -154,7 +149,7 @@ row_on names (Some cover) line left k =
     let lead = one_row line left (ap is_row k) in
     let rest = covers_skip names line left (ap is_names k) in
     ap (λ rs. Cover cover.names rs ((cover.on && (output_byte line == 49)) && are_on (leading_rows left)) ∷ covers_of names left) rows
-    ∙ (ap (λ t. Cover cover.names (cover.rows ++ trits_of line ∷ map trits_of (leading_rows left)) t ∷ covers_of names left) (sym on)
+    ∙ (ap (λ t. Cover cover.names (cover.rows ++ trits_of line ∷ map trits_of (leading_rows left)) t ∷ covers_of names left) on
     ∙ (ap (λ (ls : List (List Piece)). Cover cover.names (cover.rows ++ map trits_of ls) (cover.on && are_on ls) ∷ covers_of names left) (sym lead)
     ∙ ap (λ ds. Cover cover.names (cover.rows ++ map trits_of (leading_rows (line ∷ left))) (cover.on && are_on (leading_rows (line ∷ left))) ∷ ds) (sym rest)))
 

@@ -7,6 +7,7 @@ use Rattle.circuits.specs.Expansion.{gates_in}
 use Rattle.circuits.specs.Levels.{IsAcyclic}
 use Rattle.circuits.proofs.OneOrder.{one_first_looped, acyclic_not_looped}
 use Rattle.net_file.specs.declared.fault.NetKind.{NetKind}
+use Rattle.net_file.proofs.OneFault.{IsOne, either}
 use Rattle.blif_reader.specs.declared.survey.Port.{Port}
 use Rattle.blif_reader.specs.JoinedLines.{word_of}
 use Rattle.blif_reader.specs.Firsts.{NoneIs}
@@ -22,17 +23,6 @@ pub one_netlist : (bytes : List ℕ) (a b : Circuit) (i o j p : List (List ℕ))
     → (a ≡ b) × (i ≡ j) × (o ≡ p)
 one_netlist bytes a b i o j p one other =
     (one.same ∙ sym other.same, one.input_names_are ∙ sym other.input_names_are, one.output_names_are ∙ sym other.output_names_are)
-
--- a fault is one at most
-abbrev IsOne : (NetKind → ℕ → Type 0) → Type 0
-IsOne A = (f g : NetKind) (a b : ℕ) → A f a → A g b → (f ≡ g) × (a ≡ b)
-
--- faults of a first sort, and of further ones that come only where there is none of the first
-one_of : (A R : NetKind → ℕ → Type 0) (Good : Type 0) → IsOne A → ((f : NetKind) (a : ℕ) → A f a → Good → ⊥) → ((f : NetKind) (a : ℕ) → R f a → Good) → IsOne R → IsOne (λ f a. A f a ⊎ R f a)
-one_of A R Good first bad good rest f g a b (inl x) (inl y) = first f g a b x y
-one_of A R Good first bad good rest f g a b (inl x) (inr y) = absurd (bad f a x (good g b y))
-one_of A R Good first bad good rest f g a b (inr x) (inl y) = absurd (bad g b y (good f a x))
-one_of A R Good first bad good rest f g a b (inr x) (inr y) = rest f g a b x y
 
 nothing : Piece
 nothing = record { bytes = []; at = 0 }
@@ -157,14 +147,14 @@ module _ (end : ℕ) (lines : List (List Piece)) where
 
   pub one_fault_of_lines : IsOne (IsFaultOfLines end lines)
   one_fault_of_lines =
-      one_of (IsLineFault lines) FromPortLines (NoneIs is_faulty lines) (one_line lines) no_line sound
-      (one_of (IsPortLineFault end lines) FromPorts (AreDeclared lines) (one_port_line end lines) (λ f a fault. fault.missing) declared
-      (one_of (IsPortFault lines) FromRedefined (AreDistinct lines) (one_port lines) no_port distinct
-      (one_of (IsRedefinedFault lines) FromUndefined (AreDefinedOnce lines) (one_redefined lines) no_redefined single
-      (one_of (IsUndefinedFault lines) FromInputs (AreKnown lines) (one_undefined lines) no_undefined known
-      (one_of (IsInputsFault lines) FromOutputs (length (input_words lines) ≤ 1024) (one_inputs lines) no_inputs few_inputs
-      (one_of (IsOutputsFault lines) FromCycle (AreFew lines) (one_outputs lines) no_outputs few
-      (one_of (IsCycleFault lines) (IsGatesFault end lines) (IsAcyclic (blif_circuit lines)) (one_cycle lines) no_cycle (λ f a fault. fault.acyclic)
+      either (IsLineFault lines) FromPortLines (λ f g a b bad later. no_line f a bad (sound g b later)) (one_line lines)
+      (either (IsPortLineFault end lines) FromPorts (λ f g a b bad later. bad.missing (declared g b later)) (one_port_line end lines)
+      (either (IsPortFault lines) FromRedefined (λ f g a b bad later. no_port f a bad (distinct g b later)) (one_port lines)
+      (either (IsRedefinedFault lines) FromUndefined (λ f g a b bad later. no_redefined f a bad (single g b later)) (one_redefined lines)
+      (either (IsUndefinedFault lines) FromInputs (λ f g a b bad later. no_undefined f a bad (known g b later)) (one_undefined lines)
+      (either (IsInputsFault lines) FromOutputs (λ f g a b bad later. no_inputs f a bad (few_inputs g b later)) (one_inputs lines)
+      (either (IsOutputsFault lines) FromCycle (λ f g a b bad later. no_outputs f a bad (few g b later)) (one_outputs lines)
+      (either (IsCycleFault lines) (IsGatesFault end lines) (λ f g a b bad later. no_cycle f a bad later.acyclic) (one_cycle lines)
       (one_gates end lines))))))))
 
   pub lines_or_fault : (circuit : Circuit) (i o : List (List ℕ)) (f : NetKind) (a : ℕ) → AreBlif lines circuit i o → IsFaultOfLines end lines f a → ⊥

@@ -1,18 +1,14 @@
 -- For `survey`: what is known of lines goes on to one line more.
-use Rattle.std.proofs.Common.{◌≡◌, ◌==◌, ℕ, suc, ◌+◌, Bool, true, false, not, ◌||◌, cond, List, [], ◌∷◌, ◌++◌, length, take, get_or, All, Option, Some, None, Err, refl, ap, sym, subst, ◌∙◌, arith, append_assoc, eqb-true}
-use Rattle.std.specs.Prelude.{Result, reverse, is_some, take_while}
-use Rattle.std.specs.List.{list_any, flat_map, prefix_len}
-use Rattle.std.specs.Result.{IsErrAnd}
-use Rattle.std.proofs.lemmas.Result.{err_from_is_err_and}
+use Rattle.std.proofs.Common.{◌≡◌, ◌==◌, ℕ, Bool, true, false, not, ◌||◌, cond, List, [], ◌∷◌, ◌++◌, length, get_or, All, Option, Some, None, refl, ap, sym, subst, ◌∙◌, append_assoc, eqb-true}
+use Rattle.std.specs.Prelude.{reverse, is_some}
+use Rattle.std.specs.List.{list_any, flat_map}
 use Rattle.std.proofs.lemmas.List.{reverse-append, append-nil}
 use Rattle.std.proofs.lemmas.Grind.{flat_map-append}
 use Rattle.std.proofs.lemmas.List.Folds.{list_any-append}
+use Rattle.std.proofs.Math.Bool.{or_self}
 use Rattle.std.proofs.Math.Seq.{get_or-append_seam}
 use Rattle.std.proofs.lemmas.List.Elements.{All-cons, All-nil, All-head, All-tail}
 use Rattle.text_core.specs.Piece.{Piece}
-use Rattle.net_file.specs.declared.fault.NetFault.{NetFault}
-use Rattle.net_file.specs.declared.fault.NetStop.{NetStop}
-use Rattle.net_file.specs.declared.fault.NetStop.TheVariants as stop
 use Rattle.net_file.specs.declared.fault.NetKind.{NetKind}
 use Rattle.net_file.specs.declared.fault.NetKind.TheVariants as fault
 use Rattle.blif_reader.specs.declared.directive.Directive.{Directive}
@@ -24,14 +20,12 @@ use Rattle.blif_reader.specs.Directives.{directive_of, is_row, is_names, is_mode
 use Rattle.blif_reader.specs.Rows.{output_byte, operand_count, has_widths, has_good_bytes, rows_before, opening, differs_from, fault_in_cover, row_fault}
 use Rattle.blif_reader.specs.Names.{ports_on, defined_on}
 use Rattle.blif_reader.specs.Faults.{has_line, fault_by_directive, fault_before_end, fault_after_end, line_fault, is_faulty, IsLineFault}
-use Rattle.blif_reader.specs.Surveys.{is_mixed, fault_by_cover, fault_known, fault_of, cover_after, Advances, HaveOutput, IsOpen, IsSurveyed, IsUnderWay}
+use Rattle.blif_reader.specs.Surveys.{is_mixed, fault_by_cover, fault_known, fault_of, cover_after, Advances, HaveOutput, IsOpenBy, IsOpen, IsSurveyed, IsUnderWay}
+pub use Rattle.blif_reader.specs.Rows.{rows_of, opening_of}
+use Rattle.blif_reader.proofs.BuildingLemmas.{no_rows, one_row}
 use Rattle.blif_reader.proofs.FirstLemmas.{found-seam, NoneIs-push, IsFirst-seam}
 use Rattle.circuits.proofs.Expansions.{or_false}
 use borrow.Author.Tests.{not-false}
-
-or_same : (b : Bool) → (b || b) ≡ b
-or_same true = refl
-or_same false = refl
 
 differs-all : (byte other : ℕ) (row : List Piece) (rows : List (List Piece)) → All (λ r. output_byte r ≡ other) (row ∷ rows) → list_any (differs_from byte) (row ∷ rows) ≡ not (other == byte)
 differs-all byte other row [] all =
@@ -40,7 +34,7 @@ differs-all byte other row [] all =
 differs-all byte other row (next ∷ rows) all =
     let head = All-head (λ r. output_byte r ≡ other) row (next ∷ rows) all in
     let tail = differs-all byte other next rows (All-tail (λ r. output_byte r ≡ other) row (next ∷ rows) all) in
-    ap (λ n. not (n == byte) || list_any (differs_from byte) (next ∷ rows)) head ∙ (ap (λ t. not (other == byte) || t) tail ∙ or_same (not (other == byte)))
+    ap (λ n. not (n == byte) || list_any (differs_from byte) (next ∷ rows)) head ∙ (ap (λ t. not (other == byte) || t) tail ∙ or_self (not (other == byte)))
 
 differs-mixed : (output : Option ℕ) (byte : ℕ) (rows : List (List Piece)) → HaveOutput output rows → list_any (differs_from byte) rows ≡ is_mixed output byte
 differs-mixed None byte rows none = ap (list_any (differs_from byte)) none
@@ -74,37 +68,23 @@ fault_same earlier line survey s =
 pub reversed_push : (earlier : List (List Piece)) (line : List Piece) → reverse (earlier ++ line ∷ []) ≡ line ∷ reverse earlier
 reversed_push earlier line = reverse-append earlier (line ∷ [])
 
--- the open cover by the lines before, from the nearest
-abbrev pub rows_of : List (List Piece) → List (List Piece)
-rows_of nearest = take_while (λ line. is_row (directive_of line)) nearest
-
-abbrev pub opening_of : List (List Piece) → List Piece
-opening_of nearest = get_or nearest (length (rows_of nearest)) []
-
-abbrev OpenBy : List (List Piece) → Option OpenCover → Type 0
-OpenBy nearest None = is_names (directive_of (opening_of nearest)) ≡ false
-OpenBy nearest (Some cover) = (is_names (directive_of (opening_of nearest)) ≡ true) × (cover.operands ≡ operand_count (opening_of nearest)) × HaveOutput cover.output (rows_of nearest)
-
 -- a line that is no row
 pub not_row : (nearest : List (List Piece)) (line : List Piece) → is_row (directive_of line) ≡ false → (rows_of (line ∷ nearest) ≡ []) × (opening_of (line ∷ nearest) ≡ line)
 not_row nearest line h =
-    let n = prefix_len (λ l. is_row (directive_of l)) nearest in
-    let none : rows_of (line ∷ nearest) ≡ [] = ap (λ t. take (cond t (1 + n) 0) (line ∷ nearest)) h in
+    let none = no_rows line nearest h in
     (none, ap (λ (rows : List (List Piece)). get_or (line ∷ nearest) (length rows) []) none)
 
 -- a row
 pub row_more : (nearest : List (List Piece)) (line : List Piece) → is_row (directive_of line) ≡ true → (rows_of (line ∷ nearest) ≡ line ∷ rows_of nearest) × (opening_of (line ∷ nearest) ≡ opening_of nearest)
 row_more nearest line h =
-    let n = prefix_len (λ l. is_row (directive_of l)) nearest in
-    let one : 1 + n ≡ suc n = omega arith in
-    let more : rows_of (line ∷ nearest) ≡ line ∷ rows_of nearest = ap (λ t. take (cond t (1 + n) 0) (line ∷ nearest)) h ∙ ap (λ m. take m (line ∷ nearest)) one in
+    let more = one_row line nearest h in
     (more, ap (λ (rows : List (List Piece)). get_or (line ∷ nearest) (length rows) []) more)
 
-closed : (nearest : List (List Piece)) (line : List Piece) → is_row (directive_of line) ≡ false → is_names (directive_of line) ≡ false → OpenBy (line ∷ nearest) None
+closed : (nearest : List (List Piece)) (line : List Piece) → is_row (directive_of line) ≡ false → is_names (directive_of line) ≡ false → IsOpenBy (line ∷ nearest) None
 closed nearest line h n = ap (λ l. is_names (directive_of l)) (not_row nearest line h).1 ∙ n
 
 -- a directive that is no row and opens no cover
-closed_as : (nearest : List (List Piece)) (line : List Piece) (directive : Directive) → directive_of line ≡ directive → is_row directive ≡ false → is_names directive ≡ false → OpenBy (line ∷ nearest) None
+closed_as : (nearest : List (List Piece)) (line : List Piece) (directive : Directive) → directive_of line ≡ directive → is_row directive ≡ false → is_names directive ≡ false → IsOpenBy (line ∷ nearest) None
 closed_as nearest line directive k h n = closed nearest line (ap is_row k ∙ h) (ap is_names k ∙ n)
 
 -- a row's byte is that of the rows before
@@ -121,7 +101,7 @@ no_mixed true true false h = refl
 no_mixed true false mixed h = cc h
 no_mixed false bytes mixed h = cc h
 
-opened_more : (nearest : List (List Piece)) (line : List Piece) (cover : Option OpenCover) (directive : Directive) → directive_of line ≡ directive → OpenBy nearest cover → fault_by_cover cover line ≡ None → directive ≡ Row → OpenBy (line ∷ nearest) (cover_after cover Row line)
+opened_more : (nearest : List (List Piece)) (line : List Piece) (cover : Option OpenCover) (directive : Directive) → directive_of line ≡ directive → IsOpenBy nearest cover → fault_by_cover cover line ≡ None → directive ≡ Row → IsOpenBy (line ∷ nearest) (cover_after cover Row line)
 opened_more nearest line None directive k o f r = ap (λ l. is_names (directive_of l)) (row_more nearest line (ap is_row (k ∙ r))).1 ∙ o
 opened_more nearest line (Some cover) directive k o f r =
     let more = row_more nearest line (ap is_row (k ∙ r)) in
@@ -131,12 +111,12 @@ opened_more nearest line (Some cover) directive k o f r =
       subst (HaveOutput (Some (output_byte line))) (sym more.0) ((λ e. cc e), All-cons (λ r. output_byte r ≡ output_byte line) line (rows_of nearest) refl same),
     )
 
-opened_names : (nearest : List (List Piece)) (line : List Piece) → directive_of line ≡ Names → OpenBy (line ∷ nearest) (Some (record { operands = operand_count line; output = None }))
+opened_names : (nearest : List (List Piece)) (line : List Piece) → directive_of line ≡ Names → IsOpenBy (line ∷ nearest) (Some (record { operands = operand_count line; output = None }))
 opened_names nearest line k =
     let new = not_row nearest line (ap is_row k) in
     (ap (λ l. is_names (directive_of l)) new.1 ∙ ap is_names k, ap operand_count (sym new.1), new.0)
 
-cover_more : (nearest : List (List Piece)) (line : List Piece) (cover : Option OpenCover) (directive : Directive) → directive_of line ≡ directive → OpenBy nearest cover → (directive ≡ Row → fault_by_cover cover line ≡ None) → OpenBy (line ∷ nearest) (cover_after cover directive line)
+cover_more : (nearest : List (List Piece)) (line : List Piece) (cover : Option OpenCover) (directive : Directive) → directive_of line ≡ directive → IsOpenBy nearest cover → (directive ≡ Row → fault_by_cover cover line ≡ None) → IsOpenBy (line ∷ nearest) (cover_after cover directive line)
 cover_more nearest line cover Names k o f = opened_names nearest line k
 cover_more nearest line cover Row k o f = opened_more nearest line cover Row k o (f refl) refl
 cover_more nearest line cover other k o f = closed_as nearest line other k refl refl
@@ -149,14 +129,6 @@ not_ended false kind other h = h
 row_known : (survey : Survey) (line : List Piece) (directive : Directive) → fault_of survey line directive ≡ None → directive ≡ Row → fault_by_cover survey.cover line ≡ None
 row_known survey line directive h r =
     not_ended survey.ended fault.Directive (fault_by_cover survey.cover line) (ap (fault_of survey line) (sym r) ∙ h)
-
-open_by : (earlier : List (List Piece)) (cover : Option OpenCover) → IsOpen earlier cover → OpenBy (reverse earlier) cover
-open_by earlier None h = h
-open_by earlier (Some cover) h = h
-
-is_open : (earlier : List (List Piece)) (cover : Option OpenCover) → OpenBy (reverse earlier) cover → IsOpen earlier cover
-is_open earlier None h = h
-is_open earlier (Some cover) h = h
 
 flat_map-push : {X A : Type 0} (f : X → List A) (xs : List X) (x : X) → flat_map f (xs ++ x ∷ []) ≡ flat_map f xs ++ f x
 flat_map-push f xs x = flat_map-append f xs (x ∷ []) ∙ ap (λ ys. flat_map f xs ++ ys) (append-nil (f x))
@@ -177,7 +149,7 @@ surveyed_more earlier line old new s a =
       inputs = a.inputs ∙ (ap (λ t. t || is_inputs directive) s.inputs ∙ sym (has_line-push is_inputs earlier line));
       outputs = a.outputs ∙ (ap (λ t. t || is_outputs directive) s.outputs ∙ sym (has_line-push is_outputs earlier line));
       end = a.end ∙ (ap (λ t. t || is_end directive) s.end ∙ sym (has_line-push is_end earlier line));
-      cover = is_open (earlier ++ line ∷ []) new.cover (subst (λ lines. OpenBy lines new.cover) (sym (reversed_push earlier line)) (subst (OpenBy (line ∷ reverse earlier)) (sym a.cover) (cover_more (reverse earlier) line old.cover directive refl (open_by earlier old.cover s.cover) (row_known old line directive a.no_fault))));
+      cover = subst (λ lines. IsOpenBy lines new.cover) (sym (reversed_push earlier line)) (subst (IsOpenBy (line ∷ reverse earlier)) (sym a.cover) (cover_more (reverse earlier) line old.cover directive refl s.cover (row_known old line directive a.no_fault)));
     }
 
 -- the lines go on by one
@@ -199,14 +171,3 @@ first_fault all left first words survey kind u f =
       why = found-seam line_fault u.earlier line left [] ∙ fault;
       offset = ap (λ l. (word_of l 0).at) (sym (get_or-append_seam u.earlier line left []));
     })
-
-abbrev pub failed : {T : Type 0} → NetStop → Result T NetStop
-failed answer = Err answer
-
--- a fault that is answered
-pub fault_told : {T : Type 0} (made told : NetFault) → failed {T = T} (stop.Fault made) ≡ failed {T = T} (stop.Fault told) → made ≡ told
-fault_told made told h = cc h
-
--- a fault that is passed on is one that the call answered
-pub passed_on : {S T : Type 0} (call : Result S NetStop) (answer : Result T NetStop) (why : NetStop) (told : NetFault) → call ≡ Err why → IsErrAnd answer (λ e. e ≡ why) → answer ≡ Err (stop.Fault told) → call ≡ Err (stop.Fault told)
-passed_on call answer why told was from same = let p = err_from_is_err_and answer from in cc (p.1, p.2, was, same)

@@ -41,12 +41,19 @@ output_byte row = slice_index_or (word_of row (length row - 1)).bytes 0 0
 abbrev pub has_good_bytes : List Piece → Bool
 has_good_bytes row = list_all is_literal_byte (literal_bytes row) && is_bit_byte (output_byte row)
 
--- of the lines before a row: the rows directly before it, the nearest first, and the line before those
+-- of lines from the nearest: the rows directly before, the nearest first, and the line before those
+abbrev pub rows_of : List (List Piece) → List (List Piece)
+rows_of nearest = take_while (λ line. is_row (directive_of line)) nearest
+
+abbrev pub opening_of : List (List Piece) → List Piece
+opening_of nearest = slice_index_or nearest (length (rows_of nearest)) []
+
+-- the same of the lines before a row
 abbrev pub rows_before : List (List Piece) → List (List Piece)
-rows_before earlier = take_while (λ line. is_row (directive_of line)) (reverse earlier)
+rows_before earlier = rows_of (reverse earlier)
 
 abbrev pub opening : List (List Piece) → List Piece
-opening earlier = slice_index_or (reverse earlier) (length (rows_before earlier)) []
+opening earlier = opening_of (reverse earlier)
 
 -- what is wrong with a row of a cover of n operands, by whether the rows before have the other byte for the
 -- output: the first of these

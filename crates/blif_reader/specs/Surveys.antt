@@ -1,8 +1,10 @@
 -- What a first pass over a BLIF file knows of the lines that it has read.
-use Rattle.std.specs.Prelude.{◌≡◌, ◌≢◌, ℕ, ◌==◌, ◌||◌, Bool, true, false, not, List, [], ◌∷◌, ◌++◌, All, Option, None, Some, if◌then◌else◌}
+use Rattle.std.specs.Prelude.{◌≡◌, ◌≢◌, ℕ, ◌==◌, ◌||◌, Bool, true, false, not, List, [], ◌∷◌, ◌++◌, reverse, All, Option, None, Some, if◌then◌else◌}
 use Rattle.text_core.specs.Piece.{Piece}
 use Rattle.net_file.specs.declared.fault.NetKind.{NetKind}
 use Rattle.net_file.specs.declared.fault.NetKind.TheVariants as fault
+use Rattle.net_file.specs.declared.fault.NetStop.{NetStop}
+use Rattle.net_file.specs.Stops.{IsStopBy}
 use Rattle.blif_reader.specs.declared.directive.Directive.{Directive}
 use Rattle.blif_reader.specs.declared.directive.Directive.TheVariants.{Names, Row}
 use Rattle.blif_reader.specs.declared.rows.OpenCover.{OpenCover}
@@ -10,7 +12,7 @@ use Rattle.blif_reader.specs.declared.rows.RowWords.{RowWords}
 use Rattle.blif_reader.specs.declared.survey.Survey.{Survey}
 use Rattle.blif_reader.specs.Directives.{directive_of, is_model, is_inputs, is_outputs, is_names, is_end}
 use Rattle.blif_reader.specs.Firsts.{NoneIs}
-use Rattle.blif_reader.specs.Rows.{operand_count, output_byte, fault_in_cover, rows_before, opening}
+use Rattle.blif_reader.specs.Rows.{operand_count, output_byte, fault_in_cover, rows_of, opening_of}
 use Rattle.blif_reader.specs.Names.{ports_on, port_words, defined_on, defined_words}
 use Rattle.blif_reader.specs.Faults.{has_line, is_faulty, fault_by_directive, fault_after_end}
 
@@ -40,6 +42,10 @@ fault_known survey line directive =
 abbrev pub fault_of : Survey → List Piece → Directive → Option NetKind
 fault_of survey line directive = if survey.ended then fault_after_end directive else fault_known survey line directive
 
+-- what a stop says of the line with this first word: this fault, at that word
+abbrev pub IsStopAt : Piece → Option NetKind → NetStop → Type 0
+IsStopAt first wrong = IsStopBy (λ kind at. (wrong ≡ Some kind) × (at ≡ first.at))
+
 -- the cover that is open after a line
 abbrev pub cover_after : Option OpenCover → Directive → List Piece → Option OpenCover
 cover_after cover Names line = Some (record { operands = operand_count line; output = None })
@@ -64,12 +70,15 @@ HaveOutput None rows = rows ≡ []
 HaveOutput (Some byte) rows = (rows ≢ []) × All (λ row. output_byte row ≡ byte) rows
 
 -- the cover that is open after these lines, if there is one
+abbrev pub IsOpenBy : List (List Piece) → Option OpenCover → Type 0
+IsOpenBy nearest None = is_names (directive_of (opening_of nearest)) ≡ false
+IsOpenBy nearest (Some cover) =
+    (is_names (directive_of (opening_of nearest)) ≡ true)
+    × (cover.operands ≡ operand_count (opening_of nearest))
+    × HaveOutput cover.output (rows_of nearest)
+
 abbrev pub IsOpen : List (List Piece) → Option OpenCover → Type 0
-IsOpen earlier None = is_names (directive_of (opening earlier)) ≡ false
-IsOpen earlier (Some cover) =
-    (is_names (directive_of (opening earlier)) ≡ true)
-    × (cover.operands ≡ operand_count (opening earlier))
-    × HaveOutput cover.output (rows_before earlier)
+IsOpen earlier cover = IsOpenBy (reverse earlier) cover
 
 -- What is known of the lines read, none of which has a fault.
 pub record IsSurveyed (earlier : List (List Piece)) (survey : Survey) : Type 0 where

@@ -4,11 +4,11 @@ ghost use Rattle.std.specs.Prelude.{◌≡◌, ◌≢◌, ◌+◌, ◌-◌, ◌<
 ghost use Rattle.std.specs.List.{list_any, position_or_len};
 ghost use Rattle.std.specs.Str.{bytes_eq};
 ghost use Rattle.circuits.specs.declared.netlist.Lit.{Lit};
-ghost use Rattle.net_file.specs.declared.fault.NetFault.{NetFault};
+ghost use Rattle.net_file.specs.Stops.{IsStopBy};
 ghost use Rattle.blif_reader.specs.JoinedLines.{word_of};
 ghost use Rattle.blif_reader.specs.Directives.{directive_of};
 ghost use Rattle.blif_reader.specs.Names.{read_on};
-ghost use Rattle.blif_reader.specs.Faults.{AreDefinedOnce, AreKnown, IsUndefinedFault};
+ghost use Rattle.blif_reader.specs.Faults.{AreDefinedOnce, IsUndefinedFault};
 ghost use Rattle.blif_reader.specs.Reading.{words_left, lines_left, line_from};
 ghost use Rattle.blif_reader.specs.Covers.{trit_of, trits_of, signal_names, signal_named, literal_named};
 ghost use Rattle.blif_reader.specs.Numbers.{names_of};
@@ -60,9 +60,7 @@ pub(crate) fn read_covers(
     requires few { length (names_of names.now) < 2 ^ 30 }
     ensures built { IfOk result
         (λ covers. IsBuilt (signal_names (blif_lines input.now)) (blif_lines input.now) covers) }
-    ensures known { OnOk result (AreKnown (blif_lines input.now)) }
-    ensures fault { (fault : NetFault) → result ≡ Err (NetStop.Fault fault)
-        → IsUndefinedFault (blif_lines input.now) fault.kind fault.at }
+    ensures stop { IfErr result (IsStopBy (IsUndefinedFault (blif_lines input.now))) }
 {
     let mut covers = Covers::new(alloc);
     covers.read_all(alloc, input, names)?;
@@ -93,9 +91,7 @@ impl Covers {
         requires few { length (names_of names.now) < 2 ^ 30 }
         requires nothing { self.old ≡ record { defs = []; places = []; outputs = []; current = None } }
         ensures built { OnOk result (IsBuilt (signal_names (blif_lines input.now)) (blif_lines input.now) self.new) }
-        ensures known { OnOk result (AreKnown (blif_lines input.now)) }
-        ensures fault { (fault : NetFault) → result ≡ Err (NetStop.Fault fault)
-            → IsUndefinedFault (blif_lines input.now) fault.kind fault.at }
+        ensures stop { IfErr result (IsStopBy (IsUndefinedFault (blif_lines input.now))) }
     {
         let mut lines = JoinedLines::new(input);
         while let Some(first) = lines.next_line() {
@@ -116,9 +112,8 @@ impl Covers {
         requires { length (names_of names.now) < 2 ^ 30 }
         ensures builds { OnOk result (Builds (names_of names.now)
             (directive_of (line_from first.entry lines.old)) (line_from first.entry lines.old) self.old self.new) }
-        ensures fault { (fault : NetFault) → result ≡ Err (NetStop.Fault fault) → IsUnknownFault (names_of names.now)
-            (read_on (directive_of (line_from first.entry lines.old)) (line_from first.entry lines.old))
-            fault.kind fault.at }
+        ensures stop { IfErr result (IsStopBy (IsUnknownFault (names_of names.now)
+            (read_on (directive_of (line_from first.entry lines.old)) (line_from first.entry lines.old)))) }
         ensures lines { OnOk result (lines_left lines.new ≡ lines_left lines.old) }
     {
         match Directive::from_word(first.bytes()) {
@@ -140,8 +135,8 @@ impl Covers {
         requires { length (names_of names.now) < 2 ^ 30 }
         ensures builds { OnOk result
             (Builds (names_of names.now) Directive.Names (line_from first.entry lines.old) self.old self.new) }
-        ensures fault { (fault : NetFault) → result ≡ Err (NetStop.Fault fault) → IsUnknownFault (names_of names.now)
-            (read_on Directive.Names (line_from first.entry lines.old)) fault.kind fault.at }
+        ensures stop { IfErr result (IsStopBy (IsUnknownFault (names_of names.now)
+            (read_on Directive.Names (line_from first.entry lines.old)))) }
         ensures lines { OnOk result (lines_left lines.new ≡ lines_left lines.old) }
     {
         self.close()?;
@@ -164,8 +159,8 @@ impl Covers {
         requires { length (names_of names.now) < 2 ^ 30 }
         ensures builds { OnOk result
             (Builds (names_of names.now) Directive.Outputs (line_from first.entry lines.old) self.old self.new) }
-        ensures fault { (fault : NetFault) → result ≡ Err (NetStop.Fault fault) → IsUnknownFault (names_of names.now)
-            (read_on Directive.Outputs (line_from first.entry lines.old)) fault.kind fault.at }
+        ensures stop { IfErr result (IsStopBy (IsUnknownFault (names_of names.now)
+            (read_on Directive.Outputs (line_from first.entry lines.old)))) }
         ensures lines { OnOk result (lines_left lines.new ≡ lines_left lines.old) }
     {
         self.close()?;
@@ -269,8 +264,7 @@ fn read_outputs(
     ensures known { OnOk result (All (IsKnownIn (names_of names.now))
         (words_left lines.old)) }
     ensures lines { OnOk result (lines_left lines.new ≡ lines_left lines.old) }
-    ensures fault { (fault : NetFault) → result ≡ Err (NetStop.Fault fault) → IsUnknownFault (names_of names.now)
-        (words_left lines.old) fault.kind fault.at }
+    ensures stop { IfErr result (IsStopBy (IsUnknownFault (names_of names.now) (words_left lines.old))) }
 {
     while let Some(word) = lines.next_word() {
         let signal = signal_of(names, &word)?;
@@ -291,8 +285,7 @@ fn operand_signals(
     ensures known { OnOk result (All (IsKnownIn (names_of names.now))
         (but_last (words_left lines.old))) }
     ensures lines { OnOk result (lines_left lines.new ≡ lines_left lines.old) }
-    ensures fault { (fault : NetFault) → result ≡ Err (NetStop.Fault fault) → IsUnknownFault (names_of names.now)
-        (but_last (words_left lines.old)) fault.kind fault.at }
+    ensures stop { IfErr result (IsStopBy (IsUnknownFault (names_of names.now) (but_last (words_left lines.old)))) }
 {
     let mut signals = Items::new(alloc);
     // A word is an operand only if another stands after it, so it is looked up one word later.
@@ -313,9 +306,8 @@ fn signal_of(names: &IndexSet<&[u8]>, word: &Span<'_>) -> Result<u32, NetStop>
     ensures signal { IfOk result (λ signal. signal ≡ signal_named (names_of names.now) word.now) }
     ensures small { IfOk result (λ signal. signal < 2 ^ 30 + 1) }
     ensures known { OnOk result (IsKnownIn (names_of names.now) word.now) }
-    ensures fault { (fault : NetFault) → result ≡ Err (NetStop.Fault fault)
-        → (fault.kind ≡ NetKind.NameUndefined) × (fault.at ≡ word.now.at)
-        × (list_any (bytes_eq word.now.bytes) (names_of names.now) ≡ false) }
+    ensures stop { IfErr result (IsStopBy (λ kind at. (kind ≡ NetKind.NameUndefined) × (at ≡ word.now.at)
+        × (list_any (bytes_eq word.now.bytes) (names_of names.now) ≡ false))) }
     ensures no_memory { result ≢ Err NetStop.Memory }
 {
     match find_name(names, word.bytes()) {

@@ -1,10 +1,10 @@
 //! Names, numbered in the order in which they come.
 
-ghost use Rattle.std.specs.Prelude.{◌≡◌, ◌<◌, List, true, false, length, map, MatchOption, IfOk, OnOk};
+ghost use Rattle.std.specs.Prelude.{◌≡◌, ◌<◌, List, true, false, length, map, MatchOption, IfOk, IfErr, OnOk};
 ghost use Rattle.std.specs.List.{list_any, position_or_len};
 ghost use Rattle.std.specs.Str.{bytes_eq};
 ghost use Rattle.text_core.specs.Piece.{Piece};
-ghost use Rattle.net_file.specs.declared.fault.NetFault.{NetFault};
+ghost use Rattle.net_file.specs.Stops.{IsStopBy};
 ghost use Rattle.blif_reader.specs.Numbers.{names_of, bytes_of, IsAdded, AreNamed, AreDefined, IsRepeatedPort, IsRepeatedName};
 
 use crate::survey::Port;
@@ -25,8 +25,7 @@ pub(crate) struct PortNames<'a> {
 pub(crate) fn name_ports<'a>(alloc: Global, ports: &[Port<'a>]) -> Result<PortNames<'a>, NetStop>
     ensures named { IfOk result (λ named.
         AreNamed ports.now (length ports.now) (names_of named.inputs) (names_of named.outputs)) }
-    ensures fault { (fault : NetFault) → result ≡ Err (NetStop.Fault fault)
-        → IsRepeatedPort ports.now fault.kind fault.at }
+    ensures stop { IfErr result (IsStopBy (IsRepeatedPort ports.now)) }
 {
     let mut named = PortNames {
         inputs: IndexSet::new(alloc),
@@ -41,8 +40,7 @@ fn name_all<'a>(ports: &[Port<'a>], named: &mut PortNames<'a>) -> Result<(), Net
     requires { AreNamed ports.now 0 (names_of named.old.inputs) (names_of named.old.outputs) }
     ensures named { OnOk result
         (AreNamed ports.now (length ports.now) (names_of named.new.inputs) (names_of named.new.outputs)) }
-    ensures fault { (fault : NetFault) → result ≡ Err (NetStop.Fault fault)
-        → IsRepeatedPort ports.now fault.kind fault.at }
+    ensures stop { IfErr result (IsStopBy (IsRepeatedPort ports.now)) }
 {
     for port in ports.iter() {
         if !add_port(named, port)? {
@@ -77,9 +75,8 @@ pub(crate) fn add_defined<'a>(
 ) -> Result<(), NetStop>
     ensures defined { (inputs : List Piece) → names_of names.old ≡ bytes_of inputs
         → OnOk result (AreDefined inputs defined.now (length defined.now) (names_of names.new)) }
-    ensures fault { (inputs : List Piece) → names_of names.old ≡ bytes_of inputs
-        → (fault : NetFault) → result ≡ Err (NetStop.Fault fault)
-        → IsRepeatedName inputs defined.now fault.kind fault.at }
+    ensures stop { (inputs : List Piece) → names_of names.old ≡ bytes_of inputs
+        → IfErr result (IsStopBy (IsRepeatedName inputs defined.now)) }
 {
     for word in defined.iter() {
         if !add_name(names, word.bytes())? {

@@ -1,21 +1,21 @@
 //! A first pass over the lines: their faults, the ports, and the names that covers define.
 
-ghost use Rattle.std.specs.Prelude.{◌≡◌, ◌≢◌, ℕ, ◌∷◌, ◌++◌, List, [], length, map, true, false, None, Some, OnOk, OnErr, IsOk, IfOk, IfErr};
+ghost use Rattle.std.specs.Prelude.{◌≡◌, ◌≢◌, ℕ, ◌∷◌, ◌++◌, List, [], length, map, true, false, None, Some, OnOk, IsOk, IfOk, IfErr};
 ghost use Rattle.text_core.specs.Piece.{Piece};
-ghost use Rattle.net_file.specs.declared.fault.NetFault.{NetFault};
+ghost use Rattle.net_file.specs.Stops.{IsStopBy};
 ghost use Rattle.blif_reader.specs.Blif.{blif_lines};
 ghost use Rattle.blif_reader.specs.Directives.{directive_of};
 ghost use Rattle.blif_reader.specs.Faults.{fault_after_end, IsLineFault};
 ghost use Rattle.blif_reader.specs.Names.{named_ports};
 ghost use Rattle.blif_reader.specs.Reading.{words_left, lines_left, line_from};
-ghost use Rattle.blif_reader.specs.Surveys.{fault_of, fault_by_cover, Advances, IsSurveyed};
+ghost use Rattle.blif_reader.specs.Surveys.{fault_of, IsStopAt, Advances, IsSurveyed};
 
 use crate::directive::Directive;
 use crate::lines::JoinedLines;
 use crate::rows::{OpenCover, words_of_row};
 use circuits::PortKind;
 use net_file::{NetFault, NetKind, NetStop};
-use std::alloc::{AllocError, AllocFailed, Global};
+use std::alloc::{AllocError, Global};
 use text_core::Span;
 
 /// A word that names a port.
@@ -63,24 +63,24 @@ impl<'a> Survey<'a> {
         alloc: Global,
         first: Span<'a>,
         lines: &mut JoinedLines<'a>,
-    ) -> Result<(), LineStop>
+    ) -> Result<(), NetStop>
         ensures advances { OnOk result (Advances (directive_of (line_from first.entry lines.old))
             (line_from first.entry lines.old) self.old self.new) }
-        ensures fault { (kind : NetKind) → result ≡ Err (LineStop.Fault kind)
-            → fault_of self.old (line_from first.entry lines.old) (directive_of (line_from first.entry lines.old))
-            ≡ Some kind }
+        ensures stop { IfErr result (IsStopAt first.entry (fault_of self.old (line_from first.entry lines.old)
+            (directive_of (line_from first.entry lines.old)))) }
         ensures lines { OnOk result (lines_left lines.new ≡ lines_left lines.old) }
     {
         let directive = Directive::from_word(first.bytes());
+        let at = first.at();
         if self.ended {
-            return Err(LineStop::Fault(kind_after_end(directive)));
+            return Err(fault_at(at, kind_after_end(directive)));
         }
         match directive {
             Directive::Row => self.read_row(first, lines),
             Directive::Names => self.read_names(alloc, first, lines),
             Directive::Inputs => self.read_inputs(first, lines),
             Directive::Outputs => self.read_outputs(first, lines),
-            Directive::Model => self.read_model(),
+            Directive::Model => self.read_model(first),
             Directive::End => {
                 self.read_end();
                 Ok(())
@@ -89,34 +89,39 @@ impl<'a> Survey<'a> {
                 self.pass_over();
                 Ok(())
             }
-            Directive::Latch => Err(LineStop::Fault(NetKind::Latch)),
-            Directive::DontCares => Err(LineStop::Fault(NetKind::DontCare)),
-            Directive::Unknown => Err(LineStop::Fault(NetKind::Directive)),
+            Directive::Latch => Err(fault_at(at, NetKind::Latch)),
+            Directive::DontCares => Err(fault_at(at, NetKind::DontCare)),
+            Directive::Unknown => Err(fault_at(at, NetKind::Directive)),
         }
     }
 
     // Reads a row.
-    fn read_row(&mut self, first: Span<'a>, lines: &mut JoinedLines<'a>) -> Result<(), LineStop>
+    fn read_row(&mut self, first: Span<'a>, lines: &mut JoinedLines<'a>) -> Result<(), NetStop>
         requires { self.old.ended ≡ false }
         ensures advances { OnOk result (Advances Directive.Row (line_from first.entry lines.old) self.old self.new) }
-        ensures fault { (kind : NetKind) → result ≡ Err (LineStop.Fault kind)
-            → fault_by_cover self.old.cover (line_from first.entry lines.old) ≡ Some kind }
-        ensures no_memory { result ≢ Err LineStop.Memory }
+        ensures stop { IfErr result
+            (IsStopAt first.entry (fault_of self.old (line_from first.entry lines.old) Directive.Row)) }
+        ensures no_memory { result ≢ Err NetStop.Memory }
         ensures lines { lines_left lines.new ≡ lines_left lines.old }
     {
+        let at = first.at();
         // Only the cover tells how wide a row should be, so that a row is in one is asked first.
         let Some(cover) = self.cover else {
-            return Err(LineStop::Fault(NetKind::RowOutside));
+            return Err(fault_at(at, NetKind::RowOutside));
         };
         let Some(row) = words_of_row(first, lines) else {
-            return Err(LineStop::Fault(NetKind::RowWidth));
+            return Err(fault_at(at, NetKind::RowWidth));
         };
-        let output = cover.check_row(&row).map_err(LineStop::Fault)?;
-        self.cover = Some(OpenCover {
-            operands: cover.operands,
-            output: Some(output),
-        });
-        Ok(())
+        match cover.check_row(&row) {
+            Ok(output) => {
+                self.cover = Some(OpenCover {
+                    operands: cover.operands,
+                    output: Some(output),
+                });
+                Ok(())
+            }
+            Err(kind) => Err(fault_at(at, kind)),
+        }
     }
 
     // Reads a `.names` line.
@@ -125,16 +130,16 @@ impl<'a> Survey<'a> {
         alloc: Global,
         first: Span<'a>,
         lines: &mut JoinedLines<'a>,
-    ) -> Result<(), LineStop>
+    ) -> Result<(), NetStop>
         requires { self.old.ended ≡ false }
         ensures advances { OnOk result (Advances Directive.Names (line_from first.entry lines.old) self.old self.new) }
-        ensures fault { (kind : NetKind) → result ≡ Err (LineStop.Fault kind)
-            → fault_of self.old (line_from first.entry lines.old) Directive.Names ≡ Some kind }
+        ensures stop { IfErr result
+            (IsStopAt first.entry (fault_of self.old (line_from first.entry lines.old) Directive.Names)) }
         ensures lines { OnOk result (lines_left lines.new ≡ lines_left lines.old) }
     {
         let mut words = take_words(alloc, lines)?;
         let Some(name) = words.pop() else {
-            return Err(LineStop::Fault(NetKind::Directive));
+            return Err(fault_at(first.at(), NetKind::Directive));
         };
         self.defined.push(name)?;
         self.cover = Some(OpenCover {
@@ -145,10 +150,11 @@ impl<'a> Survey<'a> {
     }
 
     // Reads an `.inputs` line.
-    fn read_inputs(&mut self, first: Span<'a>, lines: &mut JoinedLines<'a>) -> Result<(), LineStop>
+    fn read_inputs(&mut self, first: Span<'a>, lines: &mut JoinedLines<'a>) -> Result<(), NetStop>
         requires { self.old.ended ≡ false }
         ensures advances { OnOk result (Advances Directive.Inputs (line_from first.entry lines.old) self.old self.new) }
-        ensures no_fault { IfErr result (λ stop. stop ≡ LineStop.Memory) }
+        ensures stop { IfErr result
+            (IsStopAt first.entry (fault_of self.old (line_from first.entry lines.old) Directive.Inputs)) }
         ensures lines { OnOk result (lines_left lines.new ≡ lines_left lines.old) }
     {
         self.has_inputs = true;
@@ -157,11 +163,12 @@ impl<'a> Survey<'a> {
     }
 
     // Reads an `.outputs` line.
-    fn read_outputs(&mut self, first: Span<'a>, lines: &mut JoinedLines<'a>) -> Result<(), LineStop>
+    fn read_outputs(&mut self, first: Span<'a>, lines: &mut JoinedLines<'a>) -> Result<(), NetStop>
         requires { self.old.ended ≡ false }
         ensures advances { OnOk result
             (Advances Directive.Outputs (line_from first.entry lines.old) self.old self.new) }
-        ensures no_fault { IfErr result (λ stop. stop ≡ LineStop.Memory) }
+        ensures stop { IfErr result
+            (IsStopAt first.entry (fault_of self.old (line_from first.entry lines.old) Directive.Outputs)) }
         ensures lines { OnOk result (lines_left lines.new ≡ lines_left lines.old) }
     {
         self.has_outputs = true;
@@ -170,14 +177,14 @@ impl<'a> Survey<'a> {
     }
 
     // Reads a `.model` line, of which there may be one.
-    fn read_model(&mut self) -> Result<(), LineStop>
+    fn read_model(&mut self, first: Span<'a>) -> Result<(), NetStop>
         requires { self.old.ended ≡ false }
         ensures advances { (line : List Piece) → OnOk result (Advances Directive.Model line self.old self.new) }
-        ensures fault { IfErr result (λ stop. stop ≡ LineStop.Fault NetKind.SecondModel) }
-        ensures second { OnErr result (self.old.has_model ≡ true) }
+        ensures stop { (line : List Piece)
+            → IfErr result (IsStopAt first.entry (fault_of self.old line Directive.Model)) }
     {
         if self.has_model {
-            return Err(LineStop::Fault(NetKind::SecondModel));
+            return Err(fault_at(first.at(), NetKind::SecondModel));
         }
         self.has_model = true;
         self.cover = None;
@@ -230,52 +237,24 @@ fn take_ports<'a>(
     Ok(())
 }
 
-/// Why a line was not read. Its fault has no offset: that of the line's first word is known where the line is begun.
-#[derive(Clone, Copy)]
-pub(crate) enum LineStop {
-    Fault(NetKind),
-    Memory,
-}
-
-impl From<AllocError> for LineStop {
-    ghost use Rattle.std.specs.Prelude.{◌≡◌};
-    ghost use Rattle.blif_reader.specs.declared.survey.LineStop.TheVariants.{Memory};
-
-    ghost from_gives = { λ _ stop. stop ≡ Memory };
-
-    fn from(_error: AllocError) -> LineStop {
-        LineStop::Memory
-    }
-}
-
-impl<T: Drop> From<AllocFailed<T>> for LineStop {
-    ghost use Rattle.std.specs.Prelude.{◌≡◌};
-    ghost use Rattle.blif_reader.specs.declared.survey.LineStop.TheVariants.{Memory};
-
-    ghost from_gives = { λ _ stop. stop ≡ Memory };
-
-    fn from(_error: AllocFailed<T>) -> LineStop {
-        LineStop::Memory
-    }
-}
-
 /// Reads all lines of a file. The fault is that of the first line that has one, at its first word.
 pub(crate) fn survey_lines<'a>(alloc: Global, input: &'a [u8]) -> Result<Survey<'a>, NetStop>
     ensures surveyed { IfOk result (λ survey. IsSurveyed (blif_lines input.now) survey) }
-    ensures fault { (fault : NetFault) → result ≡ Err (NetStop.Fault fault)
-        → IsLineFault (blif_lines input.now) fault.kind fault.at }
+    ensures stop { IfErr result (IsStopBy (IsLineFault (blif_lines input.now))) }
 {
     let mut lines = JoinedLines::new(input);
     let mut survey = Survey::new(alloc);
     while let Some(first) = lines.next_line() {
-        let at = first.at();
-        match survey.read_line(alloc, first, &mut lines) {
-            Ok(()) => {}
-            Err(LineStop::Memory) => return Err(NetStop::Memory),
-            Err(LineStop::Fault(kind)) => return Err(NetStop::Fault(NetFault { kind, at })),
-        }
+        survey.read_line(alloc, first, &mut lines)?;
     }
     Ok(survey)
+}
+
+// The stop for what is wrong with a line, at its first word.
+fn fault_at(at: u64, kind: NetKind) -> NetStop
+    ensures { result ≡ NetStop.Fault (record { kind = kind; at = at }) }
+{
+    NetStop::Fault(NetFault { kind, at })
 }
 
 // What is wrong with a line after `.end`.

@@ -1,9 +1,10 @@
 //! Whole files.
 
-ghost use Rattle.std.specs.Prelude.{◌≡◌, ◌+◌, ◌<◌, ◌≤◌, ◌^◌, length, IfOk, OnOk};
+ghost use Rattle.std.specs.Prelude.{◌≡◌, ◌+◌, ◌<◌, ◌≤◌, ◌^◌, length, IfOk, IfErr, OnOk};
 ghost use Rattle.circuits.specs.Expansion.{gates_in};
 ghost use Rattle.circuits.specs.Levels.{IsAcyclic, IsOrderOf};
 ghost use Rattle.net_file.specs.declared.fault.NetFault.{NetFault};
+ghost use Rattle.net_file.specs.Stops.{IsStopBy};
 ghost use Rattle.blif_reader.specs.Names.{input_words};
 ghost use Rattle.blif_reader.specs.Numbers.{names_of};
 ghost use Rattle.blif_reader.specs.Covers.{blif_circuit, signal_names};
@@ -26,8 +27,7 @@ use std::alloc::Global;
 fn check_port_lines(input: &[u8], survey: &Survey<'_>) -> Result<(), NetStop>
     requires { IsSurveyed (blif_lines input.now) survey.now }
     ensures declared { OnOk result (AreDeclared (blif_lines input.now)) }
-    ensures fault { (fault : NetFault) → result ≡ Err (NetStop.Fault fault)
-        → IsBlifFault input.now fault.kind fault.at }
+    ensures stop { IfErr result (IsStopBy (IsBlifFault input.now)) }
 {
     if survey.has_inputs & survey.has_outputs {
         return Ok(());
@@ -48,10 +48,9 @@ fn number_names<'a>(
 ) -> Result<IndexSet<&'a [u8]>, NetStop>
     requires surveyed { IsSurveyed (blif_lines input.now) survey.now }
     requires declared { AreDeclared (blif_lines input.now) }
-    ensures once { OnOk result (AreDefinedOnce (blif_lines input.now)) }
-    ensures names { IfOk result (λ names. names_of names ≡ signal_names (blif_lines input.now)) }
-    ensures fault { (fault : NetFault) → result ≡ Err (NetStop.Fault fault)
-        → IsBlifFault input.now fault.kind fault.at }
+    ensures numbered { IfOk result (λ names. AreDefinedOnce (blif_lines input.now)
+        × (names_of names ≡ signal_names (blif_lines input.now))) }
+    ensures stop { IfErr result (IsStopBy (IsBlifFault input.now)) }
 {
     let PortNames {
         inputs: mut names,
@@ -66,8 +65,7 @@ fn check_limits(input: &[u8], survey: &Survey<'_>) -> Result<(), NetStop>
     requires surveyed { IsSurveyed (blif_lines input.now) survey.now }
     requires known { AreKnown (blif_lines input.now) }
     ensures few { OnOk result (AreFew (blif_lines input.now)) }
-    ensures fault { (fault : NetFault) → result ≡ Err (NetStop.Fault fault)
-        → IsBlifFault input.now fault.kind fault.at }
+    ensures stop { IfErr result (IsStopBy (IsBlifFault input.now)) }
 {
     if let Some(at) = find_excess(&survey.ports, PortKind::Input) {
         return Err(NetStop::Fault(NetFault {
@@ -93,8 +91,7 @@ fn order_covers(alloc: Global, input: &[u8], inputs: u32, covers: Covers) -> Res
     ensures acyclic { OnOk result (IsAcyclic (blif_circuit (blif_lines input.now))) }
     ensures few_gates { OnOk result (gates_in (blif_circuit (blif_lines input.now)) ≤ 1000000) }
     ensures ordered { IfOk result (λ graph. IsOrderOf (blif_circuit (blif_lines input.now)) graph) }
-    ensures fault { (fault : NetFault) → result ≡ Err (NetStop.Fault fault)
-        → IsBlifFault input.now fault.kind fault.at }
+    ensures stop { IfErr result (IsStopBy (IsBlifFault input.now)) }
 {
     let Covers {
         defs,
@@ -129,8 +126,7 @@ fn name_net(
     requires built { IsBuilt (signal_names (blif_lines input.now)) (blif_lines input.now) covers }
     requires signals { 1 + length (signal_names (blif_lines input.now)) < 2 ^ 30 }
     ensures netlist { IfOk result (λ named. ReadAs input.now named.graph named.input_names named.output_names) }
-    ensures fault { (fault : NetFault) → result ≡ Err (NetStop.Fault fault)
-        → IsBlifFault input.now fault.kind fault.at }
+    ensures stop { IfErr result (IsStopBy (IsBlifFault input.now)) }
 {
     let input_names = names_of_kind(alloc, &survey.ports, PortKind::Input)?;
     let output_names = names_of_kind(alloc, &survey.ports, PortKind::Output)?;
@@ -156,6 +152,15 @@ pub fn read(alloc: Global, input: &[u8]) -> Result<Named, NetStop>
     ensures netlist { IfOk result (λ named. ReadAs input.now named.graph named.input_names named.output_names) }
     ensures fault { (fault : NetFault) → result ≡ Err (NetStop.Fault fault)
         → IsBlifFault input.now fault.kind fault.at }
+{
+    read_file(alloc, input)
+}
+
+// The netlist of a file and the names of its ports.
+fn read_file(alloc: Global, input: &[u8]) -> Result<Named, NetStop>
+    requires { length input.now ≤ 67108864 }
+    ensures netlist { IfOk result (λ named. ReadAs input.now named.graph named.input_names named.output_names) }
+    ensures stop { IfErr result (IsStopBy (IsBlifFault input.now)) }
 {
     // A line's fault comes before any of names, wherever the line stands, so all lines are read before a name is
     // looked at.

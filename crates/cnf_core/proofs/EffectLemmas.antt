@@ -1,7 +1,11 @@
 -- What the effect of a clause says of its literals, and what it takes.
-use Rattle.std.proofs.Common.{◌≡◌, ◌≢◌, ℕ, suc, ◌<◌, ◌&&◌, ◌||◌, not, cond, Bool, true, false, List, [], ◌∷◌, drop, filter, All, Option, None, Some, IfSome, inl, inr, refl, sym, ◌∙◌, ap, subst, arith}
+use Rattle.std.proofs.Common.{◌≡◌, ◌≢◌, ℕ, ◌<◌, ◌&&◌, ◌||◌, not, cond, Bool, true, false, List, [], ◌∷◌, drop, filter, All, Option, None, Some, IfSome, slice_index_or, inl, inr, refl, sym, ◌∙◌, ap, subst}
 use Rattle.std.specs.List.{list_any, list_all}
-use Rattle.std.proofs.lemmas.Bool.{false≢true, or_cases, or_left, or_right, and_parts, and_from, cases_Bool, cond-true, not-true, both_ways}
+use Rattle.std.proofs.lemmas.Bool.{false≢true, or_cases, or_left, and_parts, and_from, cases_Bool, cond-true, not-true, true_from_ne_false}
+use Rattle.std.proofs.lemmas.List.Elements.{All-contains}
+use Rattle.std.proofs.lemmas.List.Folds.{list_any_at}
+use Rattle.std.proofs.lemmas.List.Recursion.{and_from_places}
+use Rattle.std.proofs.lemmas.Map.Views.{Contains-from_any, any-filter_same}
 use Rattle.cnf_core.specs.declared.literal.SatLit.{SatLit}
 use Rattle.cnf_core.specs.declared.effect.Effect.{Effect}
 use Rattle.cnf_core.specs.declared.effect.Effect.TheVariants.{Conflict, Makes, Neither}
@@ -36,62 +40,23 @@ all_open made p (y ∷ clause) =
           ∙ (ap (λ t. p y && t) (all_open made p clause) ∙ sym (ap (λ t. (t || p y) && list_all (λ y'. is_false made y' || p y') clause) e))
     ]
 
--- what is found among those that aren't false is in the clause
-pub any_of_open : (made : List SatLit) (p : SatLit → Bool) (clause : List SatLit) → list_any p (open_ones made clause) ≡ true → list_any p clause ≡ true
-any_of_open made p [] e = e
-any_of_open made p (y ∷ clause) e =
-    elim (cases_Bool (is_false made y)) [
-      | inl is ↦ or_right (p y) (list_any p clause) (any_of_open made p clause (sym (ap (λ t. list_any p (cond (not t) (y ∷ open_ones made clause) (open_ones made clause))) is) ∙ e))
-      | inr is ↦
-          let found = sym (ap (λ t. list_any p (cond (not t) (y ∷ open_ones made clause) (open_ones made clause))) is) ∙ e in
-          elim (or_cases (p y) (list_any p (open_ones made clause)) found) [
-            | inl here ↦ or_left (p y) (list_any p clause) here
-            | inr after ↦ or_right (p y) (list_any p clause) (any_of_open made p clause after)
-          ]
-    ]
+-- a literal is among those that aren't false where the clause has it and it isn't
+any_open : (made : List SatLit) (l : SatLit) (clause : List SatLit) → list_any (is_same l) (open_ones made clause) ≡ (not (is_false made l) && list_any (is_same l) clause)
+any_open made l clause =
+    any-filter_same (is_same l) (λ m. not (is_false made m)) (not (is_false made l)) (λ m same. ap (λ x. not (is_false made x)) (sym (same_literal l m same))) clause
 
--- a literal of the clause that isn't false is among those that aren't
 pub any_in_open : (made : List SatLit) (l : SatLit) (clause : List SatLit) → is_false made l ≡ false → list_any (is_same l) clause ≡ true → list_any (is_same l) (open_ones made clause) ≡ true
-any_in_open made l [] free e = e
-any_in_open made l (y ∷ clause) free e =
-    elim (cases_Bool (is_false made y)) [
-      | inl is ↦
-          elim (or_cases (is_same l y) (list_any (is_same l) clause) e) [
-            | inl here ↦ absurd (both_ways (is_false made l) free (ap (is_false made) (same_literal l y here) ∙ is))
-            | inr after ↦ ap (λ t. list_any (is_same l) (cond (not t) (y ∷ open_ones made clause) (open_ones made clause))) is ∙ any_in_open made l clause free after
-          ]
-      | inr is ↦
-          ap (λ t. list_any (is_same l) (cond (not t) (y ∷ open_ones made clause) (open_ones made clause))) is
-          ∙ elim (or_cases (is_same l y) (list_any (is_same l) clause) e) [
-            | inl here ↦ or_left (is_same l y) (list_any (is_same l) (open_ones made clause)) here
-            | inr after ↦ or_right (is_same l y) (list_any (is_same l) (open_ones made clause)) (any_in_open made l clause free after)
-          ]
-    ]
-
--- of what isn't false nothing is false
-pub first_open : (made : List SatLit) (clause : List SatLit) (x : SatLit) (others : List SatLit) → open_ones made clause ≡ x ∷ others → is_false made x ≡ false
-first_open made [] x others e = absurd (let c : [] ≡ x ∷ others = e in cc)
-first_open made (y ∷ clause) x others e =
-    elim (cases_Bool (is_false made y)) [
-      | inl is ↦ first_open made clause x others (sym (ap (λ t. cond (not t) (y ∷ open_ones made clause) (open_ones made clause)) is) ∙ e)
-      | inr is ↦
-          let found : y ∷ open_ones made clause ≡ x ∷ others = sym (ap (λ t. cond (not t) (y ∷ open_ones made clause) (open_ones made clause)) is) ∙ e in
-          let same : y ≡ x = cc in
-          ap (is_false made) (sym same) ∙ is
-    ]
+any_in_open made l clause free e =
+    any_open made l clause ∙ and_from (not (is_false made l)) (list_any (is_same l) clause) (ap not free) e
 
 -- all literals of a conflict are false, and the other way round
 pub conflict_says : (made clause : List SatLit) → effect_of made clause ≡ Conflict → list_all (is_false made) clause ≡ true
 conflict_says made clause e = by_open (open_ones made clause) refl
   where
     by_open : (os : List SatLit) → open_ones made clause ≡ os → list_all (is_false made) clause ≡ true
-    by_open [] is = weaker clause (sym (all_open made (λ y. false) clause) ∙ ap (list_all (λ y. false)) is)
-      where
-        weaker : (ys : List SatLit) → list_all (λ y. is_false made y || false) ys ≡ true → list_all (is_false made) ys ≡ true
-        weaker [] h = refl
-        weaker (y ∷ ys) h =
-            let parts = and_parts (is_false made y || false) (list_all (λ y'. is_false made y' || false) ys) h in
-            and_from (is_false made y) (list_all (is_false made) ys) (elim (or_cases (is_false made y) false parts.0) [ inl t ↦ t | inr f ↦ absurd (false≢true f) ]) (weaker ys parts.1)
+    by_open [] is = and_from_places (list_all (is_false made)) (is_false made) refl (λ _ _. refl) clause (record { 0 = 0 }) (λ k within.
+        let l = slice_index_or clause k (record { 0 = 0 }) in
+        true_from_ne_false (is_false made l) (λ free. false≢true (sym (ap (list_any (is_same l)) is) ∙ any_in_open made l clause free (list_any_at (is_same l) clause k (record { 0 = 0 }) within (same_itself l)))))
     by_open (x ∷ others) is = absurd (no_conflict (list_all (is_same x) others && not (is_true made x)) (sym (ap (effect_by made) is) ∙ e))
       where
         no_conflict : (t : Bool) → cond t (Makes x) Neither ≡ Conflict → ⊥
@@ -127,11 +92,13 @@ makes_says made clause l e = by_open (open_ones made clause) refl
         let found = by_test x others (list_all (is_same x) others && not (is_true made x)) (sym (ap (effect_by made) is) ∙ e) in
         let parts = and_parts (list_all (is_same x) others) (not (is_true made x)) found.0 in
         let all = and_from (is_same x x) (list_all (is_same x) others) (same_itself x) parts.0 in
+        let found_x = ap (list_any (is_same x)) is ∙ or_left (is_same x x) (list_any (is_same x) others) (same_itself x) in
+        let inside = and_parts (not (is_false made x)) (list_any (is_same x) clause) (sym (any_open made x clause) ∙ found_x) in
         let maker : IsMaker made clause x = record {
           others = sym (all_open made (is_same x) clause) ∙ (ap (list_all (is_same x)) is ∙ all);
           not_true = not-true (is_true made x) parts.1;
-          not_false = first_open made clause x others is;
-          there = any_of_open made (is_same x) clause (ap (list_any (is_same x)) is ∙ or_left (is_same x x) (list_any (is_same x) others) (same_itself x));
+          not_false = not-true (is_false made x) inside.0;
+          there = inside.1;
         } in
         subst (IsMaker made clause) found.1 maker
 
@@ -200,11 +167,7 @@ neither_true made clause l holds free inside =
 
 -- a literal of a clause is known where all are
 pub known_at : (n : ℕ) (clause : List SatLit) (l : SatLit) → All (λ m. variable_of m < n) clause → list_any (is_same l) clause ≡ true → variable_of l < n
-known_at n [] l known e = absurd (false≢true e)
-known_at n (m ∷ clause) l known e = elim (or_cases (is_same l m) (list_any (is_same l) clause) e) [
-  | inl here ↦ subst (λ x. variable_of x < n) (sym (same_literal l m here)) (known 0 l (omega arith))
-  | inr after ↦ known_at n clause l (λ k d within. known (suc k) d (omega (arith, within))) after
-]
+known_at n clause l known e = All-contains (λ m. variable_of m < n) clause l known (Contains-from_any same_literal l clause e)
 
 -- where that one is false too, all are
 pub all_false : (made clause : List SatLit) (l : SatLit) → is_false made l ≡ true → list_all (λ y. is_false made y || is_same l y) clause ≡ true → list_all (is_false made) clause ≡ true

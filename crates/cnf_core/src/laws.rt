@@ -7,6 +7,7 @@ ghost use Rattle.cnf_core.specs.Clauses.{Formula, Meets, is_met};
 ghost use Rattle.cnf_core.specs.Derivations.{line_fault, IsRefutation};
 
 /// A derived clause follows: what meets the formula and the clauses that were derived before meets it too.
+#[tactic(auto, using(crate::proofs::DerivationLaws::derived_met))]
 pub fn derived_clause_follows()
     ensures { (formula : Formula) (taken : List (List SatLit)) (line : LogLine) (assignment : List Bool)
         → line_fault formula taken line ≡ None → Meets assignment (formula.clauses ++ taken)

@@ -159,41 +159,43 @@ before_more a b i j k le before = elim before [ inl less ↦ inl less | inr same
 before_later : (a b i j k m : ℕ) → i < k → IsBefore a b i j → IsBefore a b k m
 before_later a b i j k m lt before = elim before [ inl less ↦ inl (omega (arith, less, lt)) | inr same ↦ inl (omega (arith, same.0, lt)) ]
 
--- no input of the support lies between
+-- the same pairs up to other inputs, where what stands before these and is to be listed stands before the old ones
+pairs_within : (n : ℕ) (f : List Bool → Bool) (i j k m : ℕ) (pairs : List (ℕ × ℕ × Sym))
+    → ListsPairs n f i j pairs
+    → ((a b : ℕ) → IsBefore a b i j → IsBefore a b k m)
+    → ((a b : ℕ) → IsBefore a b k m → b < n → a < b → InSupport n f a → InSupport n f b → IsSymmetric n f a b ⊎ IsSkew n f a b → IsBefore a b i j)
+    → ListsPairs n f k m pairs
+pairs_within n f i j k m pairs lists later back = record {
+  right = lists.right;
+  below = λ t d h. later (get_or pairs t d).0 (get_or pairs t d).1 (lists.below t d h);
+  ascending = lists.ascending;
+  whole = λ a b before order there first second alike. lists.whole a b (back a b before there order first second alike) order there first second alike;
+}
+
+-- no input of the support that may be exchanged with the first one lies between
 pub pairs_skip : (n : ℕ) (f : List Bool → Bool) (i j k : ℕ) (pairs : List (ℕ × ℕ × Sym))
     → ListsPairs n f i j pairs
     → j ≤ k
-    → ((b : ℕ) → i < b → j ≤ b → b < k → InSupport n f b → ⊥)
+    → ((b : ℕ) → i < b → j ≤ b → b < k → InSupport n f b → IsSymmetric n f i b ⊎ IsSkew n f i b → ⊥)
     → ListsPairs n f i k pairs
-pairs_skip n f i j k pairs lists le none = record {
-  right = lists.right;
-  below = λ t d h. before_more (get_or pairs t d).0 (get_or pairs t d).1 i j k le (lists.below t d h);
-  ascending = lists.ascending;
-  whole = λ a b before order there first second alike.
-      elim before [
-        | inl less ↦ lists.whole a b (inl less) order there first second alike
-        | inr same ↦ elim (cases_lt b j) [
-          | inl less ↦ lists.whole a b (inr (same.0, less)) order there first second alike
-          | inr past ↦ absurd (none b (omega (arith, same.0, order)) past same.1 second)
-        ]
-      ];
-}
+pairs_skip n f i j k pairs lists le none =
+    pairs_within n f i j i k pairs lists (λ a b. before_more a b i j k le) (λ a b before there order first second alike.
+    elim before [
+      | inl less ↦ inl less
+      | inr same ↦ elim (cases_lt b j) [
+        | inl less ↦ inr (same.0, less)
+        | inr past ↦ absurd (none b (omega (arith, same.0, order)) past same.1 second (subst (λ a. IsSymmetric n f a b ⊎ IsSkew n f a b) same.0 alike))
+      ]
+    ])
 
 -- all pairs of an input
 pub pairs_next : (n : ℕ) (f : List Bool → Bool) (i : ℕ) (pairs : List (ℕ × ℕ × Sym)) → ListsPairs n f i n pairs → ListsPairs n f (i + 1) 0 pairs
-pairs_next n f i pairs lists = record {
-  right = lists.right;
-  below = λ t d h. before_later (get_or pairs t d).0 (get_or pairs t d).1 i n (i + 1) 0 (omega arith) (lists.below t d h);
-  ascending = lists.ascending;
-  whole = λ a b before order there.
-      elim before [
-        | inl less ↦ elim (cases_lt a i) [
-          | inl lower ↦ lists.whole a b (inl lower) order there
-          | inr past ↦ lists.whole a b (inr (omega (arith, less, past), there)) order there
-        ]
-        | inr same ↦ absurd (omega (arith, same.1))
-      ];
-}
+pairs_next n f i pairs lists =
+    pairs_within n f i n (i + 1) 0 pairs lists (λ a b. before_later a b i n (i + 1) 0 (omega arith)) (λ a b before there order first second alike.
+    elim before [
+      | inl less ↦ elim (cases_lt a i) [ inl lower ↦ inl lower | inr past ↦ inr (omega (arith, less, past), there) ]
+      | inr same ↦ absurd (omega (arith, same.1))
+    ])
 
 -- no input of the support lies between
 pub pairs_jump : (n : ℕ) (f : List Bool → Bool) (i k : ℕ) (pairs : List (ℕ × ℕ × Sym))
@@ -201,23 +203,14 @@ pub pairs_jump : (n : ℕ) (f : List Bool → Bool) (i k : ℕ) (pairs : List (�
     → i ≤ k
     → ((a : ℕ) → i ≤ a → a < k → InSupport n f a → ⊥)
     → ListsPairs n f k 0 pairs
-pairs_jump n f i k pairs lists le none = record {
-  right = lists.right;
-  below = λ t d h.
-      elim (lists.below t d h) [
-        | inl less ↦ inl (omega (arith, less, le))
-        | inr same ↦ absurd (omega (arith, same.1))
-      ];
-  ascending = lists.ascending;
-  whole = λ a b before order there first second alike.
-      elim before [
-        | inl less ↦ elim (cases_lt a i) [
-          | inl lower ↦ lists.whole a b (inl lower) order there first second alike
-          | inr past ↦ absurd (none a past less first)
-        ]
-        | inr same ↦ absurd (omega (arith, same.1))
-      ];
-}
+pairs_jump n f i k pairs lists le none =
+    pairs_within n f i 0 k 0 pairs lists
+    (λ a b before. elim before [ inl less ↦ inl (omega (arith, less, le)) | inr same ↦ absurd (omega (arith, same.1)) ])
+    (λ a b before there order first second alike.
+    elim before [
+      | inl less ↦ elim (cases_lt a i) [ inl lower ↦ inl lower | inr past ↦ absurd (none a past less first) ]
+      | inr same ↦ absurd (omega (arith, same.1))
+    ])
 
 -- how two inputs may be exchanged says that they may
 apart : (n : ℕ) (f : List Bool → Bool) (i j : ℕ) → (IsSymmetric n f i j → ⊥) × (IsSkew n f i j → ⊥) → IsSymmetric n f i j ⊎ IsSkew n f i j → ⊥
@@ -233,21 +226,9 @@ pub pairs_more : (n : ℕ) (f : List Bool → Bool) (i j : ℕ) (pairs : List (�
     → IsSymmetry n f i j way
     → ListsPairs n f i (j + 1) (pairs ++ pair_of i j way)
 pairs_more n f i j pairs None lists order there first second never =
-    subst (ListsPairs n f i (j + 1)) (sym (append-nil pairs)) (record {
-      right = lists.right;
-      below = λ t d h. before_more (get_or pairs t d).0 (get_or pairs t d).1 i j (j + 1) (omega arith) (lists.below t d h);
-      ascending = lists.ascending;
-      whole = λ a b before order' there' first' second' alike.
-          elim before [
-            | inl less ↦ lists.whole a b (inl less) order' there' first' second' alike
-            | inr same ↦ elim (cases_lt b j) [
-              | inl less ↦ lists.whole a b (inr (same.0, less)) order' there' first' second' alike
-              | inr past ↦
-                  let is : b ≡ j = omega (arith, past, same.1) in
-                  absurd (apart n f i j never (subst (λ a. IsSymmetric n f a j ⊎ IsSkew n f a j) same.0 (subst (λ b. IsSymmetric n f a b ⊎ IsSkew n f a b) is alike)))
-            ]
-          ];
-    })
+    subst (ListsPairs n f i (j + 1)) (sym (append-nil pairs)) (pairs_skip n f i j (j + 1) pairs lists (omega arith) (λ b after low high inside alike.
+    let is : b ≡ j = omega (arith, low, high) in
+    apart n f i j never (subst (λ b. IsSymmetric n f i b ⊎ IsSkew n f i b) is alike)))
 pairs_more n f i j pairs (Some way) lists order there first second is =
     let pair : ℕ × ℕ × Sym = (i, j, way) in
     record {
@@ -309,7 +290,7 @@ pair_step n f first others t second pairs new way lists there read inside so_far
     let more = pairs_more n f first second pairs way (subst (λ j. ListsPairs n f first j pairs) (sym here) so_far) order (omega (arith, entry.there, here)) inside also decided in
     pairs_skip n f first (second + 1) (input_at n others (t + 1)) new (subst (ListsPairs n f first (second + 1)) (sym is) more)
     (omega (arith, here, support_above n f (first + 1) others t lists there))
-    (λ b after low before. support_next n f (first + 1) others t b lists there (omega (arith, low, here)) before)
+    (λ b after low before inside alike. support_next n f (first + 1) others t b lists there (omega (arith, low, here)) before inside)
 
 -- all pairs of an input were decided
 pub pairs_end : (n : ℕ) (f : List Bool → Bool) (first : ℕ) (others : List (ℕ × Unate)) (t : ℕ) (pairs : List (ℕ × ℕ × Sym)) → length others ≤ t → ListsPairs n f first (input_at n others t) pairs → ListsPairs n f (first + 1) 0 pairs

@@ -1,8 +1,8 @@
 -- The clauses of a claim whose inputs the output doesn't reach: those of the two outputs contradict each other.
-use Rattle.std.proofs.Common.{◌≡◌, ◌≢◌, ◌⊎◌, ℕ, zero, suc, ◌+◌, ◌*◌, ◌<◌, ◌≤◌, eqb, cond, ◌||◌, ◌&&◌, not, Bool, true, false, None, List, [], ◌∷◌, ◌++◌, length, take, slice_index_or, inl, inr, refl, sym, ap, ◌∙◌, arith, eq-eqb}
+use Rattle.std.proofs.Common.{◌≡◌, ◌≢◌, ◌⊎◌, ℕ, zero, suc, ◌+◌, ◌*◌, ◌<◌, eqb, cond, ◌||◌, ◌&&◌, not, Bool, true, false, None, List, [], ◌∷◌, ◌++◌, length, take, slice_index_or, inl, inr, refl, sym, ap, ◌∙◌, arith, eq-eqb}
 use Rattle.std.specs.Bool.{beq}
-use Rattle.std.proofs.lemmas.Bool.{cases_eq, cases_lt, false≢true, or_cases, or_left, or_right}
-use Rattle.std.proofs.lemmas.List.{get_or_append_left, get_or-append-add, get_or_past, get_or-set_other, length-append, append-nil}
+use Rattle.std.proofs.lemmas.Bool.{cases_eq, cases_lt, false_from_ne_true, false≢true, or_cases, or_left, or_right}
+use Rattle.std.proofs.lemmas.List.{get_or_append_left, get_or_past, get_or_push, get_or-set_other, length_push, append-nil}
 use Rattle.std.proofs.lemmas.List.FromFn.{get_or-map-range_with_len, length-map-range_with_len}
 use Rattle.circuits.specs.declared.netlist.Gate.{Gate}
 use Rattle.circuits.specs.declared.netlist.Lit.{Lit}
@@ -33,8 +33,10 @@ use Rattle.query_core.specs.ClaimQueries.{claim_query, opposite_shape, values_fe
 use Rattle.query_core.specs.Formulas.{feeds_differ, formula_of, query_clauses, reaching, same_feed, same_side, stand_in, stands_for, left_literals, right_literals, half_clauses}
 use Rattle.query_core.proofs.ClaimQueryLemmas.{values_count}
 use Rattle.query_core.proofs.EqualLemmas.{bool_decides}
+use Rattle.query_core.proofs.ReachingLemmas.{differ_at}
+use Rattle.net_core.proofs.ConeLemmas.{within_bit}
 use Rattle.query_core.proofs.FormulaLemmas.{count_of, first_output, second_output, gate_clause_count, length-feeds_differ}
-use Rattle.net_supports.specs.Supports.{only_input, output_reaches, reaches_input}
+use Rattle.net_supports.specs.Supports.{only_input, output_reaches}
 use Rattle.fact_tests.specs.Supports.{IsOutside, closing_line}
 use Rattle.joint_hash.proofs.SharedLemmas.{same_literals}
 
@@ -44,70 +46,67 @@ use Rattle.joint_hash.proofs.SharedLemmas.{same_literals}
 abbrev Covered : List Bool → List Bool → List Bool → Type 0
 Covered xs ys zs = (s : ℕ) → bit xs s ≡ true → (bit ys s ≡ true) ⊎ (bit zs s ≡ true)
 
-bit_here : (xs : List Bool) (b : Bool) → bit (xs ++ b ∷ []) (length xs) ≡ b
-bit_here xs b =
-    let n : length xs ≡ length xs + 0 = omega arith in
-    ap (bit (xs ++ b ∷ [])) n ∙ get_or-append-add xs (b ∷ []) 0 false
+-- a mark at the end
+pushed_cases : (xs : List Bool) (b : Bool) (s : ℕ) → bit (xs ++ b ∷ []) s ≡ true → (bit xs s ≡ true) ⊎ ((s ≡ length xs) × (b ≡ true))
+pushed_cases xs b s is =
+    elim (cases_lt s (length xs)) [
+      | inl less ↦ inl (sym (get_or_append_left xs (b ∷ []) false s less) ∙ is)
+      | inr past ↦
+          let end : s ≡ length xs = omega (arith, past, within_bit (xs ++ b ∷ []) s is, length_push xs b) in
+          inr (end, sym (get_or_push xs b false s (sym end)) ∙ is)
+    ]
 
-covered_more : (xs ys zs : List Bool) (gate : Gate) → length ys ≡ length xs → length zs ≡ length xs → Covered xs ys zs → Covered (xs ++ (bit xs (signal_of gate.a) || bit xs (signal_of gate.b)) ∷ []) (ys ++ (bit ys (signal_of gate.a) || bit ys (signal_of gate.b)) ∷ []) (zs ++ (bit zs (signal_of gate.a) || bit zs (signal_of gate.b)) ∷ [])
+marked_before : (xs : List Bool) (b : Bool) (s : ℕ) → bit xs s ≡ true → bit (xs ++ b ∷ []) s ≡ true
+marked_before xs b s is = get_or_append_left xs (b ∷ []) false s (within_bit xs s is) ∙ is
+
+marked_last : (xs : List Bool) (b : Bool) (s : ℕ) → s ≡ length xs → b ≡ true → bit (xs ++ b ∷ []) s ≡ true
+marked_last xs b s end is = get_or_push xs b false s (sym end) ∙ is
+
+-- the mark that a gate gets
+abbrev operand_marked : List Bool → Gate → Bool
+operand_marked marks gate = bit marks (signal_of gate.a) || bit marks (signal_of gate.b)
+
+operands_covered : (xs ys zs : List Bool) (gate : Gate) → Covered xs ys zs → operand_marked xs gate ≡ true → (operand_marked ys gate ≡ true) ⊎ (operand_marked zs gate ≡ true)
+operands_covered xs ys zs gate covered is =
+    let a = signal_of gate.a in
+    let b = signal_of gate.b in
+    elim (or_cases (bit xs a) (bit xs b) is) [
+      | inl p ↦ elim (covered a p) [ inl q ↦ inl (or_left (bit ys a) (bit ys b) q) | inr q ↦ inr (or_left (bit zs a) (bit zs b) q) ]
+      | inr p ↦ elim (covered b p) [ inl q ↦ inl (or_right (bit ys a) (bit ys b) q) | inr q ↦ inr (or_right (bit zs a) (bit zs b) q) ]
+    ]
+
+covered_more : (xs ys zs : List Bool) (gate : Gate) → length ys ≡ length xs → length zs ≡ length xs → Covered xs ys zs → Covered (xs ++ operand_marked xs gate ∷ []) (ys ++ operand_marked ys gate ∷ []) (zs ++ operand_marked zs gate ∷ [])
 covered_more xs ys zs gate l m covered s is =
-    by_place (cases_lt s (length xs)) (cases_eq s (length xs))
-  where
-    a : ℕ
-    a = signal_of gate.a
-
-    b : ℕ
-    b = signal_of gate.b
-
-    new : List Bool → Bool
-    new ws = bit ws (signal_of gate.a) || bit ws (signal_of gate.b)
-
-    of_operand : (bit xs (signal_of gate.a) ≡ true) ⊎ (bit xs (signal_of gate.b) ≡ true) → ((bit ys (signal_of gate.a) || bit ys (signal_of gate.b)) ≡ true) ⊎ ((bit zs (signal_of gate.a) || bit zs (signal_of gate.b)) ≡ true)
-    of_operand (inl p) =
-        elim (covered (signal_of gate.a) p) [
-          | inl q ↦ inl (or_left (bit ys (signal_of gate.a)) (bit ys (signal_of gate.b)) q)
-          | inr q ↦ inr (or_left (bit zs (signal_of gate.a)) (bit zs (signal_of gate.b)) q)
-        ]
-    of_operand (inr p) =
-        elim (covered (signal_of gate.b) p) [
-          | inl q ↦ inl (or_right (bit ys (signal_of gate.a)) (bit ys (signal_of gate.b)) q)
-          | inr q ↦ inr (or_right (bit zs (signal_of gate.a)) (bit zs (signal_of gate.b)) q)
-        ]
-
-    by_place : (s < length xs) ⊎ (length xs ≤ s) → (s ≡ length xs) ⊎ (s ≢ length xs) → (bit (ys ++ (bit ys (signal_of gate.a) || bit ys (signal_of gate.b)) ∷ []) s ≡ true) ⊎ (bit (zs ++ (bit zs (signal_of gate.a) || bit zs (signal_of gate.b)) ∷ []) s ≡ true)
-    by_place (inl less) same =
-        let before = sym (get_or_append_left xs ((bit xs (signal_of gate.a) || bit xs (signal_of gate.b)) ∷ []) false s less) ∙ is in
-        elim (covered s before) [
-          | inl q ↦ inl (get_or_append_left ys ((bit ys (signal_of gate.a) || bit ys (signal_of gate.b)) ∷ []) false s (omega (arith, less, l)) ∙ q)
-          | inr q ↦ inr (get_or_append_left zs ((bit zs (signal_of gate.a) || bit zs (signal_of gate.b)) ∷ []) false s (omega (arith, less, m)) ∙ q)
-        ]
-    by_place (inr past) (inl same) =
-        let here = sym (bit_here xs (bit xs (signal_of gate.a) || bit xs (signal_of gate.b))) ∙ (ap (bit (xs ++ (bit xs (signal_of gate.a) || bit xs (signal_of gate.b)) ∷ [])) (sym same) ∙ is) in
-        let at_y : s ≡ length ys = omega (arith, same, l) in
-        let at_z : s ≡ length zs = omega (arith, same, m) in
-        elim (of_operand (or_cases (bit xs (signal_of gate.a)) (bit xs (signal_of gate.b)) here)) [
-          | inl q ↦ inl (ap (bit (ys ++ (bit ys (signal_of gate.a) || bit ys (signal_of gate.b)) ∷ [])) at_y ∙ (bit_here ys (bit ys (signal_of gate.a) || bit ys (signal_of gate.b)) ∙ q))
-          | inr q ↦ inr (ap (bit (zs ++ (bit zs (signal_of gate.a) || bit zs (signal_of gate.b)) ∷ [])) at_z ∙ (bit_here zs (bit zs (signal_of gate.a) || bit zs (signal_of gate.b)) ∙ q))
-        ]
-    by_place (inr past) (inr other) =
-        let w = (bit xs (signal_of gate.a) || bit xs (signal_of gate.b)) ∷ [] in
-        absurd (false≢true (sym (get_or_past (xs ++ w) s false (omega (arith, past, other, length-append xs w))) ∙ is))
+    elim (pushed_cases xs (operand_marked xs gate) s is) [
+      | inl old ↦ elim (covered s old) [
+        | inl q ↦ inl (marked_before ys (operand_marked ys gate) s q)
+        | inr q ↦ inr (marked_before zs (operand_marked zs gate) s q)
+      ]
+      | inr last ↦ elim (operands_covered xs ys zs gate covered last.1) [
+        | inl q ↦ inl (marked_last ys (operand_marked ys gate) s (last.0 ∙ sym l) q)
+        | inr q ↦ inr (marked_last zs (operand_marked zs gate) s (last.0 ∙ sym m) q)
+      ]
+    ]
 
 covered_through : (xs ys zs : List Bool) (gates : List Gate) → length ys ≡ length xs → length zs ≡ length xs → Covered xs ys zs → Covered (reaching xs gates) (reaching ys gates) (reaching zs gates)
 covered_through xs ys zs [] l m covered = covered
 covered_through xs ys zs (gate ∷ gates) l m covered =
-    let x = (bit xs (signal_of gate.a) || bit xs (signal_of gate.b)) ∷ [] in
-    let y = (bit ys (signal_of gate.a) || bit ys (signal_of gate.b)) ∷ [] in
-    let z = (bit zs (signal_of gate.a) || bit zs (signal_of gate.b)) ∷ [] in
-    covered_through (xs ++ x) (ys ++ y) (zs ++ z) gates (omega (arith, l, length-append xs x, length-append ys y)) (omega (arith, m, length-append xs x, length-append zs z)) (covered_more xs ys zs gate l m covered)
+    let x = operand_marked xs gate in
+    let y = operand_marked ys gate in
+    let z = operand_marked zs gate in
+    covered_through (xs ++ x ∷ []) (ys ++ y ∷ []) (zs ++ z ∷ []) gates (omega (arith, l, length_push xs x, length_push ys y)) (omega (arith, m, length_push xs x, length_push zs z)) (covered_more xs ys zs gate l m covered)
 
 -- ---- the feeds of a claim's query
 
-feeds_at : (left right : List Feed) (k : ℕ) (d : Feed) → length left ≡ length right → k < length left → bit (feeds_differ left right) k ≡ not (same_feed (slice_index_or left k d) (slice_index_or right k d))
-feeds_at [] right k d same below = absurd (omega (arith, below))
-feeds_at (feed ∷ left) [] k d same below = absurd (omega (arith, same))
-feeds_at (feed ∷ left) (other ∷ right) zero d same below = refl
-feeds_at (feed ∷ left) (other ∷ right) (suc k) d same below = feeds_at left right k d (omega (arith, same)) (omega (arith, below))
+-- which inputs of a claim's query get other feeds on one side than on the other
+abbrev differing : ℕ → Shape → List Bool
+differing n shape = feeds_differ (values_feed n shape) (values_feed n (opposite_shape shape))
+
+counts_same : (n : ℕ) (shape : Shape) → length (values_feed n shape) ≡ length (values_feed n (opposite_shape shape))
+counts_same n shape = values_count n shape ∙ sym (values_count n (opposite_shape shape))
+
+length-differing : (n : ℕ) (shape : Shape) → length (differing n shape) ≡ n
+length-differing n shape = length-feeds_differ (values_feed n shape) (values_feed n (opposite_shape shape)) (counts_same n shape) ∙ values_count n shape
 
 same_self : (feed : Feed) → same_feed feed feed ≡ true
 same_self (Fixed b) = (bool_decides b b).1 refl
@@ -130,13 +129,13 @@ own_bit n k (Up i) d apart = get_or-set_other (straight n) i k (Fixed false) d a
 own_bit n k (Down i) d apart = get_or-set_other (straight n) i k (Fixed true) d apart
 own_bit n k (Swap i j a b) d apart = get_or-set_other (with_fixed i a (straight n)) j k (Fixed b) d apart.1 ∙ get_or-set_other (straight n) i k (Fixed a) d apart.0
 
-same_feeds : (n k : ℕ) (shape : Shape) → k < n → IsApart k shape → bit (feeds_differ (values_feed n shape) (values_feed n (opposite_shape shape))) k ≡ false
+same_feeds : (n k : ℕ) (shape : Shape) → k < n → IsApart k shape → bit (differing n shape) k ≡ false
 same_feeds n k shape below apart =
     let left = values_feed n shape in
     let right = values_feed n (opposite_shape shape) in
     let d : Feed = Fixed false in
     let same : slice_index_or left k d ≡ slice_index_or right k d = own_bit n k shape d apart ∙ sym (own_bit n k (opposite_shape shape) d (apart_opposite k shape apart)) in
-    feeds_at left right k d (values_count n shape ∙ sym (values_count n (opposite_shape shape))) (omega (arith, below, values_count n shape)) ∙ (ap (λ f. not (same_feed f (slice_index_or right k d))) same ∙ ap not (same_self (slice_index_or right k d)))
+    differ_at left right k d d (counts_same n shape) (omega (arith, below, values_count n shape)) ∙ (ap (λ f. not (same_feed f (slice_index_or right k d))) same ∙ ap not (same_self (slice_index_or right k d)))
 
 pub only_at : (n i k : ℕ) → k < n → k ≡ i → bit (only_input n i) k ≡ true
 only_at n i k below is =
@@ -158,14 +157,11 @@ apart_from k (Up i) one other = one
 apart_from k (Down i) one other = one
 apart_from k (Swap i j a b) one other = (one, other)
 
-feeds_covered : (n : ℕ) (shape : Shape) → Covered (false ∷ feeds_differ (values_feed n shape) (values_feed n (opposite_shape shape))) (false ∷ only_input n (first_of shape)) (false ∷ only_input n (second_of shape))
+feeds_covered : (n : ℕ) (shape : Shape) → Covered (false ∷ differing n shape) (false ∷ only_input n (first_of shape)) (false ∷ only_input n (second_of shape))
 feeds_covered n shape zero is = absurd (false≢true is)
 feeds_covered n shape (suc k) is =
-    let left = values_feed n shape in
-    let right = values_feed n (opposite_shape shape) in
-    let size : length (feeds_differ left right) ≡ n = length-feeds_differ left right (values_count n shape ∙ sym (values_count n (opposite_shape shape))) ∙ values_count n shape in
     elim (cases_lt k n) [
-      | inr past ↦ absurd (false≢true (sym (get_or_past (feeds_differ left right) k false (omega (arith, past, size))) ∙ is))
+      | inr past ↦ absurd (false≢true (sym (get_or_past (differing n shape) k false (omega (arith, past, length-differing n shape))) ∙ is))
       | inl below ↦
           elim (cases_eq k (first_of shape)) [
             | inl one ↦ inl (only_at n (first_of shape) k below one)
@@ -186,23 +182,16 @@ outside_both net k (Down i) outside = (outside, outside)
 outside_both net k (Swap i j a b) outside = outside
 
 -- the output's signal reaches no input whose feeds differ
-pub unreached : (net : Net) (k : ℕ) (shape : Shape) → IsOutside net k shape → bit (reaching (false ∷ feeds_differ (values_feed net.inputs shape) (values_feed net.inputs (opposite_shape shape))) net.gates) (output_signal net k) ≡ false
+pub unreached : (net : Net) (k : ℕ) (shape : Shape) → IsOutside net k shape → bit (reaching (false ∷ differing net.inputs shape) net.gates) (output_signal net k) ≡ false
 unreached net k shape outside =
     let n = net.inputs in
-    let left = values_feed n shape in
-    let right = values_feed n (opposite_shape shape) in
-    let size : length (feeds_differ left right) ≡ n = length-feeds_differ left right (values_count n shape ∙ sym (values_count n (opposite_shape shape))) ∙ values_count n shape in
-    let covered = covered_through (false ∷ feeds_differ left right) (false ∷ only_input n (first_of shape)) (false ∷ only_input n (second_of shape)) net.gates (omega (arith, size, length-only_input n (first_of shape))) (omega (arith, size, length-only_input n (second_of shape))) (feeds_covered n shape) in
+    let size = length-differing n shape in
+    let covered = covered_through (false ∷ differing n shape) (false ∷ only_input n (first_of shape)) (false ∷ only_input n (second_of shape)) net.gates (omega (arith, size, length-only_input n (first_of shape))) (omega (arith, size, length-only_input n (second_of shape))) (feeds_covered n shape) in
     let both = outside_both net k shape outside in
-    by_bit (bit (reaching (false ∷ feeds_differ left right) net.gates) (output_signal net k)) refl covered both
-  where
-    by_bit : (b : Bool) → bit (reaching (false ∷ feeds_differ (values_feed net.inputs shape) (values_feed net.inputs (opposite_shape shape))) net.gates) (output_signal net k) ≡ b → Covered (reaching (false ∷ feeds_differ (values_feed net.inputs shape) (values_feed net.inputs (opposite_shape shape))) net.gates) (reaches_input net (first_of shape)) (reaches_input net (second_of shape)) → (output_reaches net k (first_of shape) ≡ false) × (output_reaches net k (second_of shape) ≡ false) → bit (reaching (false ∷ feeds_differ (values_feed net.inputs shape) (values_feed net.inputs (opposite_shape shape))) net.gates) (output_signal net k) ≡ false
-    by_bit false is covered both = is
-    by_bit true is covered both =
-        elim (covered (output_signal net k) is) [
-          | inl p ↦ absurd (false≢true (sym both.0 ∙ p))
-          | inr p ↦ absurd (false≢true (sym both.1 ∙ p))
-        ]
+    false_from_ne_true (bit (reaching (false ∷ differing n shape) net.gates) (output_signal net k)) (λ is. elim (covered (output_signal net k) is) [
+      | inl p ↦ false≢true (sym both.0 ∙ p)
+      | inr p ↦ false≢true (sym both.1 ∙ p)
+    ])
 
 -- ---- the two clauses
 

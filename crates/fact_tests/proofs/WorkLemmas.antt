@@ -77,47 +77,52 @@ pub record IsUnanswered (known : Known) (query : Query) : Type 0 where
 
 -- Such a query was asked: the ledger is that before with one entry more, after those for which lines were learned.
 module _ (known : Known) (query : Query) (before after : Ledgered) (fresh : IsUnanswered known query) (new : IsAsked known.graphs query before after) where
-  front_same : (front : IsFront before.asked (charged_front before.asked)) (k : ℕ) → k < front.count → IsAsBefore before.asked after.asked k
-  front_same front k below =
-      let size : length (take front.count before.asked) ≡ front.count = omega (arith, length-take front.count before.asked, front.within) in
-      let whole = new.asked ∙ ap (λ (xs : List Asked). xs ++ entry_with query new.lemmas new.lines ∷ []) front.is in
-      let here : k < length before.asked = omega (arith, below, front.within) in
-      let there : k < length after.asked = omega (arith, ap length whole, length-append (take front.count before.asked) (entry_with query new.lemmas new.lines ∷ []), size, below) in
-      (here, there, ap (λ (xs : List Asked). entry_at xs k) whole ∙ (get_or_append_left (take front.count before.asked) (entry_with query new.lemmas new.lines ∷ []) nothing_asked k (omega (arith, size, below)) ∙ get_or-take front.count before.asked k nothing_asked below))
+  abbrev entry : Asked
+  entry = entry_with query new.lemmas new.lines
+
+  abbrev front : IsFront before.asked (charged_front before.asked)
+  front = front_is before.asked
+
+  abbrev shown : List Asked
+  shown = take front.count before.asked
+
+  size : length shown ≡ front.count
+  size = omega (arith, length-take front.count before.asked, front.within)
+
+  whole : after.asked ≡ shown ++ entry ∷ []
+  whole = new.asked ∙ ap (λ (xs : List Asked). xs ++ entry ∷ []) front.is
+
+  count : length after.asked ≡ front.count + 1
+  count = omega (arith, ap length whole, length-append shown (entry ∷ []), size)
+
+  front_same : (k : ℕ) → k < front.count → IsAsBefore before.asked after.asked k
+  front_same k below =
+      (omega (arith, below, front.within), omega (arith, count, below), ap (λ (xs : List Asked). entry_at xs k) whole ∙ (get_or_append_left shown (entry ∷ []) nothing_asked k (omega (arith, size, below)) ∙ get_or-take front.count before.asked k nothing_asked below))
 
   pub asked_keeps : Keeps known before after
-  asked_keeps =
-      let front = front_is before.asked in
-      record {
-        budget = new.budget;
-        charged = λ k below charged. front_same front k (front.charged k below charged);
-        opened = λ k below. by_place front k below (cases_lt k front.count);
-      }
-    where
-      by_place : (front : IsFront before.asked (charged_front before.asked)) (k : ℕ) → k < length after.asked → (k < front.count) ⊎ (front.count ≤ k) → IsAsBefore before.asked after.asked k ⊎ (IsAnswered known (entry_at after.asked k).query → ⊥)
-      by_place front k below (inl less) = inl (front_same front k less)
-      by_place front k below (inr past) =
-          let size : length (take front.count before.asked) ≡ front.count = omega (arith, length-take front.count before.asked, front.within) in
-          let whole = new.asked ∙ ap (λ (xs : List Asked). xs ++ entry_with query new.lemmas new.lines ∷ []) front.is in
-          let n : k ≡ length (take front.count before.asked) + 0 = omega (arith, ap length whole, length-append (take front.count before.asked) (entry_with query new.lemmas new.lines ∷ []), size, below, past) in
-          let e : entry_at after.asked k ≡ entry_with query new.lemmas new.lines = ap (λ (xs : List Asked). entry_at xs k) whole ∙ (ap (entry_at (take front.count before.asked ++ entry_with query new.lemmas new.lines ∷ [])) n ∙ get_or-append-add (take front.count before.asked) (entry_with query new.lemmas new.lines ∷ []) 0 nothing_asked) in
+  asked_keeps = record {
+    budget = new.budget;
+    charged = λ k below charged. front_same k (front.charged k below charged);
+    opened = λ k below. elim (cases_lt k front.count) [
+      | inl less ↦ inl (front_same k less)
+      | inr past ↦
+          let n : k ≡ length shown + 0 = omega (arith, count, size, below, past) in
+          let e : entry_at after.asked k ≡ entry = ap (λ (xs : List Asked). entry_at xs k) whole ∙ (ap (entry_at (shown ++ entry ∷ [])) n ∙ get_or-append-add shown (entry ∷ []) 0 nothing_asked) in
           inr (λ answered. fresh.never (subst (IsAnswered known) (ap (λ (x : Asked). x.query) e) answered))
+    ];
+  }
 
   -- what holds of the entries before and of the new one holds of all
-  all_of : (P : Asked → Type 0) → All P before.asked → P (entry_with query new.lemmas new.lines) → All P after.asked
-  all_of P each last =
-      let front = front_is before.asked in
-      subst (All P) (sym new.asked) (All-push P (charged_front before.asked) (entry_with query new.lemmas new.lines) (subst (All P) (sym front.is) (All-take P front.count before.asked each)) last)
+  all_of : (P : Asked → Type 0) → All P before.asked → P entry → All P after.asked
+  all_of P each last = subst (All P) (sym whole) (All-push P shown entry (All-take P front.count before.asked each) last)
 
   pub asked_work : Suits known before → IsWorkOfClaimsAndMatches known.graphs after
   asked_work suits = record {
     work = record {
       entries = all_of (IsWorkOn known.graphs) suits.work.work.entries new.work;
       once =
-          let front = front_is before.asked in
-          let e = entry_with query new.lemmas new.lines in
-          let answered = subst (All (λ (x : Asked). IsCharged x → IsAnswered known x.query)) (sym front.is) (All-take (λ (x : Asked). IsCharged x → IsAnswered known x.query) front.count before.asked suits.answered) in
-          subst (AllPairs AreApart) (sym new.asked) (all_pairs_push AreApart (charged_front before.asked) e (subst (AllPairs AreApart) (sym front.is) (pairs_take front.count before.asked front.within suits.work.work.once)) (λ k d below one other same. fresh.never (subst (IsAnswered known) same (answered k d below one))));
+          let answered = All-take (λ (x : Asked). IsCharged x → IsAnswered known x.query) front.count before.asked suits.answered in
+          subst (AllPairs AreApart) (sym whole) (all_pairs_push AreApart shown entry (pairs_take front.count before.asked front.within suits.work.work.once) (λ k d below one other same. fresh.never (subst (IsAnswered known) same (answered k d below one))));
     };
     queries = all_of (λ (x : Asked). IsOfClaim known.graphs x.query ⊎ IsOfMatch known.graphs x.query) suits.work.queries fresh.of_known;
   }

@@ -1,9 +1,9 @@
 -- A search that begins, what is left to do for it, and the lines that it adds.
-use Rattle.std.proofs.Common.{◌≡◌, ℕ, suc, ◌+◌, ◌-◌, ◌*◌, ◌<◌, ◌≤◌, ◌||◌, false, List, [], ◌∷◌, ◌++◌, length, take, filter, Option, None, Some, nat_le, slice_index_or, inl, inr, refl, sym, ◌∙◌, ap, subst, arith}
+use Rattle.std.proofs.Common.{◌≡◌, ℕ, suc, ◌+◌, ◌-◌, ◌*◌, ◌<◌, ◌≤◌, ◌||◌, false, List, [], ◌∷◌, ◌++◌, length, take, Option, None, slice_index_or, inl, inr, refl, sym, ◌∙◌, ap, subst, arith}
 use Rattle.std.specs.List.{list_any}
 use Rattle.std.proofs.Math.Nat.{mul-suc}
-use Rattle.std.proofs.lemmas.Bool.{cases_lt, leb-true, or_from}
-use Rattle.std.proofs.lemmas.List.{get_or_append_left, get_or-take, length-append, length-take, take-take, take_all}
+use Rattle.std.proofs.lemmas.Bool.{cases_lt, or_from}
+use Rattle.std.proofs.lemmas.List.{get_or-take, take-take, take_all}
 use Rattle.std.proofs.lemmas.List.Folds.{list_any-append}
 use Rattle.cnf_core.specs.declared.log.LogLine.{LogLine}
 use Rattle.cnf_core.specs.declared.stop.Stop.{Stop}
@@ -14,7 +14,7 @@ use Rattle.cnf_core.specs.Charges.{Charging, IsCharged}
 use Rattle.watch_lists.specs.Propagations.{IsSound}
 use Rattle.learn_solver.specs.declared.search.Search.{Search}
 use Rattle.learn_solver.specs.Searches.{IsLearnt, IsRunning, remaining}
-use Rattle.learn_solver.specs.Solvers.{IsAdded, IsAsking, IsExtended, IsSolver, IsStopped, Solving, active}
+use Rattle.learn_solver.specs.Solvers.{IsAdded, IsAsking, IsExtended, IsSolver, IsStopped, Solving}
 use Rattle.learn_solver.specs.Starts.{AreTools, IsBegun, IsFitting, IsStarting}
 use Rattle.learn_solver.proofs.SolverLemmas.{clauses_more}
 use Rattle.learn_solver.proofs.StepLemmas.{asking_charged, extended_charged}
@@ -98,16 +98,12 @@ asking_learnt {O} old new first after t back asking learnt =
 -- what a search that is under way is
 pub running_from : (s : Solving) (search : Search) → IsFitting search.watches search.trail → IsSolver s.formula s.ids s.lines search.watches.clauses → search.trail.variables ≡ s.formula.variables → list_any is_empty (clauses_of s.lines) ≡ false → AreTools s.formula s.ids search.tools → IsRunning s search.trail search.watches search.tools
 running_from s search fitting solver variables unrefuted tools_are = record {
-  searching = record {
-    variables = variables;
-    unrefuted = unrefuted;
-    sound = subst (λ cs. IsSound cs search.trail) solver.stored fitting.sound;
+  learning = record {
+    searching = record { variables = variables; unrefuted = unrefuted; sound = subst (λ cs. IsSound cs search.trail) solver.stored fitting.sound };
+    solver = solver;
+    tools_are = tools_are;
   };
-  solver = solver;
-  fits = fitting.fits;
-  present = fitting.present;
-  covered = fitting.covered;
-  tools_are = tools_are;
+  fitting = fitting;
 }
 
 -- a search begins

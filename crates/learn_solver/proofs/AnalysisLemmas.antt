@@ -1,9 +1,9 @@
 -- Where an analysis begins, and how it goes on from place to place.
-use Rattle.std.proofs.Common.{◌≡◌, ◌≢◌, ℕ, zero, suc, ◌+◌, ◌-◌, ◌<◌, ◌≤◌, ◌==◌, ◌&&◌, ◌||◌, cond, Bool, true, false, List, [], ◌∷◌, ◌++◌, length, take, drop, reverse, replicate, None, slice_index_or, inl, inr, refl, sym, ◌∙◌, ap, subst, arith}
+use Rattle.std.proofs.Common.{◌≡◌, ◌≢◌, ℕ, zero, suc, ◌+◌, ◌-◌, ◌<◌, ◌≤◌, ◌==◌, ◌&&◌, ◌||◌, cond, Bool, true, false, List, [], ◌∷◌, ◌++◌, length, take, reverse, replicate, None, slice_index_or, inl, inr, refl, sym, ◌∙◌, ap, subst, arith}
 use Rattle.std.specs.List.{list_all}
 use Rattle.std.proofs.lemmas.Bool.{cases_eq, and_from, and_left, eq-eqb, ne_eqb, or_cases}
 use Rattle.std.proofs.lemmas.Bool.Decides.{eqb_tells, leb_tells}
-use Rattle.std.proofs.lemmas.List.{length-take, take_at}
+use Rattle.std.proofs.lemmas.List.{length-take}
 use Rattle.std.proofs.lemmas.List.Sums.{count_by-le-length, sum_by_more}
 use Rattle.std.proofs.lemmas.List.Recursion.{and_at, and_from_places}
 use Rattle.circuits.specs.Literals.{bit}
@@ -112,10 +112,6 @@ pub places_further : (es : List Assigned) (p q : ℕ) (clause : List SatLit) →
 places_further es p q clause order places k d within =
     let h = places k d within in
     record { at = h.at; early = omega (arith, h.early, order); within = h.within; there = h.there }
-
--- marks lent to be written to, once they are given back
-pub given_back : (size : ℕ) (old lent now : List Bool) → lent ≡ old → length now ≡ length lent → length old ≡ size → take size (now ++ drop (length now) old) ≡ now
-given_back size old lent now value same full = take_at now (drop (length now) old) size (same ∙ (ap length value ∙ full))
 
 -- the first step of an analysis
 pub analysed_start : (clauses : List (List SatLit)) (t : Trailing) → IsTrail t → IsSound clauses t → (marked : List Bool) (id here below : ℕ) (steps : List ℕ) → id < length clauses → effect_of (literals t.entries) (clause_at clauses id) ≡ Conflict → AreMarked marked (clause_at clauses id) → length marked ≡ t.variables → here ≡ here_in t marked (length t.entries) → below ≡ length t.entries → steps ≡ id ∷ [] → IsAnalysed clauses t marked below here steps

@@ -1,5 +1,5 @@
 -- How many lines can be learned over n variables: each is another clause without a repeated variable, and there are 3^n of these.
-use Rattle.std.proofs.Common.{◌≡◌, ◌≢◌, ℕ, zero, suc, ◌+◌, ◌-◌, ◌*◌, ◌/◌, ◌%◌, ◌^◌, ◌<◌, ◌≤◌, ◌==◌, ◌⊎◌, eqb, cond, not, Bool, true, false, List, [], ◌∷◌, length, map, drop, take, All, AllPairs, Result, Ok, Err, IfOk, IfErr, slice_index_or, inl, inr, refl, sym, ◌∙◌, ap, subst, arith}
+use Rattle.std.proofs.Common.{◌≡◌, ◌≢◌, ℕ, zero, suc, ◌+◌, ◌-◌, ◌*◌, ◌^◌, ◌<◌, ◌≤◌, ◌==◌, ◌⊎◌, eqb, cond, not, Bool, true, false, List, [], ◌∷◌, length, map, drop, take, All, AllPairs, slice_index_or, inl, inr, refl, sym, ◌∙◌, ap, subst, arith}
 use native.Mathlib.Nat.{pow-suc}
 use Rattle.std.specs.List.{IsDistinct, list_any, list_all}
 use Rattle.std.proofs.lemmas.Bool.{cases_eq, cases_Bool, both_ways, eq-eqb, eqb-true, false≢true, false_from_ne_true, or_cases, or_left, or_parts, or_right}
@@ -21,7 +21,7 @@ use Rattle.watch_lists.specs.Propagations.{AreKnown}
 use Rattle.cnf_core.proofs.LiteralLemmas.{itself, same_itself, same_literal}
 use Rattle.learn_solver.specs.Analyses.{has_all}
 use Rattle.learn_solver.specs.Searches.{no_line}
-use Rattle.learn_solver.specs.Solvers.{IsBounded, IsBoundedStop, IsExtended, IsStopped, Solving, wanted}
+use Rattle.learn_solver.specs.Solvers.{IsBoundedStop, IsExtended, IsStopped, Solving, wanted}
 use Rattle.learn_solver.proofs.PlaceLemmas.{no_literal}
 use Rattle.learn_solver.proofs.SolverLemmas.{line_known, line_says}
 
@@ -197,12 +197,7 @@ added_unlike {O} old new before after extended = record {
 pub bounded_by : {O : Type 0} (old new : Solving) (before after : Charging O) → IsExtended old new before after → after.made ≤ before.made + 3 ^ old.formula.variables
 bounded_by {O} old new before after extended = omega (arith, few_lines old.formula.variables (length old.lines) new.lines (added_unlike old new before after extended), extended.counted, extended.longer)
 
--- so it is of an answer, and where the budget is spent
-pub bounded_answer : {O V : Type 0} (old new : Solving) (before after : Charging O) (result : Result V Stop) → IfOk result (λ _. IsExtended old new before after) → IfOk result (λ _. IsBounded old.formula.variables before after)
-bounded_answer {O} {V} old new before after (Ok verdict) extended = bounded_by old new before after extended
-bounded_answer {O} {V} old new before after (Err stop) extended = tt
-
-pub bounded_stops : {O V : Type 0} (old new : Solving) (before after : Charging O) (result : Result V Stop) → IfErr result (IsStopped old new before after) → IfErr result (IsBoundedStop old.formula.variables before after)
-bounded_stops {O} {V} old new before after (Ok verdict) stopped = tt
-bounded_stops {O} {V} old new before after (Err Memory) stopped = tt
-bounded_stops {O} {V} old new before after (Err (Spent learned)) stopped = bounded_by old new before after stopped.extended
+-- so it is where the budget is spent
+pub bounded_stop : {O : Type 0} (old new : Solving) (before after : Charging O) (stop : Stop) → IsStopped old new before after stop → IsBoundedStop old.formula.variables before after stop
+bounded_stop {O} old new before after Memory stopped = tt
+bounded_stop {O} old new before after (Spent learned) stopped = bounded_by old new before after stopped.extended

@@ -1,7 +1,7 @@
 -- A search goes back with a learned line.
 use Rattle.std.proofs.Common.{◌≡◌, ℕ, zero, suc, ◌*◌, ◌<◌, ◌≤◌, cond, Bool, true, List, [], ◌∷◌, ◌++◌, length, filter, take, nat_le, slice_index_or, inl, inr, refl, sym, ◌∙◌, ap, subst, arith}
 use Rattle.std.specs.List.{list_all}
-use Rattle.std.proofs.lemmas.Bool.{and_parts, cases_Bool, cases_eq, cases_lt, false≢true, le-leb, leb-true, or_cases}
+use Rattle.std.proofs.lemmas.Bool.{cases_Bool, cases_eq, cases_lt, le-leb, leb-true}
 use Rattle.std.proofs.lemmas.List.{get_or_append_left, get_or_at, get_or-take, length-append, length-take, take-map, take-take}
 use Rattle.std.proofs.lemmas.List.Elements.{All-contains, filter_passes}
 use Rattle.std.proofs.lemmas.List.Recursion.{and_at}
@@ -9,10 +9,10 @@ use Rattle.std.proofs.lemmas.Map.Views.{Contains-from_any}
 use Rattle.cnf_core.specs.declared.literal.SatLit.{SatLit}
 use Rattle.cnf_core.specs.Clauses.{clause_at, opposite, variable_of}
 use Rattle.cnf_core.specs.declared.effect.Effect.TheVariants.{Conflict}
-use Rattle.cnf_core.specs.Derivations.{effect_of, is_false, is_same, is_true}
+use Rattle.cnf_core.specs.Derivations.{effect_of, is_false, is_true}
 use Rattle.trail_core.specs.declared.assigned.Assigned.{Assigned}
 use Rattle.trail_core.specs.Trails.{IsTrail, Trailing, entry_at, literals, nothing}
-use Rattle.trail_core.proofs.TrailLemmas.{place_of_true}
+use Rattle.trail_core.proofs.TrailLemmas.{place_of_true, same_place}
 use Rattle.watch_lists.specs.Feet.{IsReached}
 use Rattle.watch_lists.specs.Propagations.{IsGrown, IsJustified, IsSound, before}
 use Rattle.watch_lists.specs.Threads.{IsAttached}
@@ -145,13 +145,8 @@ freed old back level clause trail is asserting above conflict =
     let variable : variable_of (entry_at old.entries j.0).literal ≡ variable_of e.literal = omega (arith, ap (λ (x : Assigned). x.literal.0) same, j.2) in
     let low = low_at old back level is j.0 j.1 in
     let lower = asserting.lower above in
-    elim (cases_eq j.0 u.place) [
-      | inl here ↦ omega (arith, low, ap (λ (x : Assigned). x.level) same, ap (λ k. (entry_at old.entries k).level) here, u.level_there, lower)
-      | inr other ↦ elim (cases_lt j.0 u.place) [
-        | inl before ↦ trail.distinct j.0 u.place before u.within variable
-        | inr after ↦ trail.distinct u.place j.0 (omega (arith, after, other)) inside (sym variable)
-      ]
-    ]
+    let here = same_place old trail j.0 u.place inside u.within variable in
+    omega (arith, low, ap (λ (x : Assigned). x.level) same, ap (λ k. (entry_at old.entries k).level) here, u.level_there, lower)
 
 -- the clause that was added
 pub added_at : (w : Watching) (clause : List SatLit) → clause_at (w.clauses ++ clause ∷ []) (length w.clauses) ≡ clause

@@ -1,7 +1,6 @@
 -- Marks of variables, and how many marked literals are of the present level.
 use Rattle.std.proofs.Common.{◌≡◌, ◌≢◌, ℕ, zero, suc, ◌+◌, ◌<◌, ◌≤◌, ◌==◌, ◌&&◌, cond, Bool, true, false, List, [], ◌∷◌, length, take, count_by, slice_index_or, slice_set, refl, sym, ◌∙◌, ap, subst, inl, inr, arith}
 use Rattle.std.proofs.lemmas.Bool.{cases_eq, cases_Bool}
-use Rattle.std.proofs.lemmas.Bool.Decides.{leb_tells}
 use Rattle.std.proofs.lemmas.List.{get_or_default, get_or-set_same, get_or-set_other, get_or-take, length-take, length-set}
 use Rattle.std.proofs.lemmas.List.Elements.{All-from_get_or}
 use Rattle.std.proofs.lemmas.List.Sums.{get_or-le-sum_by, sum_by-cons, sum_by-le}
@@ -10,6 +9,7 @@ use Rattle.cnf_core.specs.declared.literal.SatLit.{SatLit}
 use Rattle.cnf_core.specs.Clauses.{variable_of}
 use Rattle.trail_core.specs.declared.assigned.Assigned.{Assigned}
 use Rattle.trail_core.specs.Trails.{IsPlace, IsTrail, Trailing, entry_at, nothing}
+use Rattle.trail_core.proofs.TrailLemmas.{same_place}
 use Rattle.learn_solver.specs.Analyses.{AreBefore, AreOnTrail, HasPlace, StayFrom, StayMarked, here_in}
 
 -- the variables of the first n literals were marked
@@ -86,11 +86,7 @@ one_at_most true = omega arith
 one_at_most false = omega arith
 
 pub apart : (t : Trailing) → IsTrail t → (i j : ℕ) → i < length t.entries → j < length t.entries → i ≢ j → variable_of (entry_at t.entries i).literal ≢ variable_of (entry_at t.entries j).literal
-apart t trail i j hi hj ne same =
-    elim (leb_tells i j) [
-      | inl (found, low) ↦ trail.distinct i j (omega (arith, low, ne)) hj same
-      | inr (found, high) ↦ trail.distinct j i high hi (sym same)
-    ]
+apart t trail i j hi hj ne same = ne (same_place t trail i j hi hj same)
 
 -- one mark more counts where its literal is of the present level
 counted_more : (t : Trailing) → IsTrail t → (now : List Bool) (v more place : ℕ) → v < length now → bit now v ≡ false → HasPlace t.entries place v → ((q : ℕ) → IsPlace t.entries v q → more ≡ cond ((entry_at t.entries q).level == t.level) 1 0) → here_in t (slice_set now v true) place ≡ here_in t now place + more

@@ -1,16 +1,15 @@
 -- A learned clause is minimized: from its last literal down, a marked one gives way to the other literals of its reason.
-use Rattle.std.proofs.Common.{◌≡◌, ◌≢◌, ℕ, ◌+◌, ◌<◌, ◌≤◌, ◌==◌, ◌&&◌, ◌||◌, ◌⊎◌, Bool, true, false, List, [], ◌∷◌, ◌++◌, length, reverse, slice_index_or, slice_set, take, None, inl, inr, refl, sym, ◌∙◌, ap, arith}
+use Rattle.std.proofs.Common.{◌≡◌, ◌≢◌, ℕ, ◌+◌, ◌<◌, ◌≤◌, ◌==◌, ◌&&◌, Bool, false, List, [], ◌∷◌, ◌++◌, length, slice_index_or, slice_set, take, inl, inr, sym, ◌∙◌, ap, arith}
 use Rattle.std.proofs.lemmas.Bool.{and_right, ne_eqb}
 use Rattle.std.proofs.lemmas.Bool.Decides.{leb_tells}
 use Rattle.std.proofs.lemmas.List.{get_or-set_same, get_or-set_other, get_or-take, length-set, length-take}
 use Rattle.circuits.specs.Literals.{bit}
 use Rattle.cnf_core.specs.declared.literal.SatLit.{SatLit}
 use Rattle.cnf_core.specs.Clauses.{clause_at, opposite, variable_of}
-use Rattle.cnf_core.specs.Derivations.{hint_fault, is_false, is_true}
 use Rattle.trail_core.specs.Trails.{IsTrail, Trailing, entry_at, nothing}
 use Rattle.learn_solver.specs.declared.conflict.Analysis.{Analysis}
 use Rattle.watch_lists.specs.Propagations.{IsReason, before}
-use Rattle.learn_solver.specs.Analyses.{AreMarked, AreOnTrail, IsAnalysed, IsLeft, IsReduced, IsReducing, StayFrom, StayMarked, here_in, is_marked, kept_here, kept_literals}
+use Rattle.learn_solver.specs.Analyses.{AreMarked, AreOnTrail, IsAnalysed, IsReduced, IsReducing, StayFrom, StayMarked, here_in, is_marked, kept_here}
 use Rattle.learn_solver.proofs.DeriveLemmas.{IsAway, derive_away}
 use Rattle.learn_solver.proofs.MarkLemmas.{apart, same_count}
 use Rattle.learn_solver.proofs.PlaceLemmas.{ascend, is_counted, no_literal, stands, true_further, variable_of-opposite}

@@ -1,7 +1,7 @@
 -- Values that make the literals of a trail true meet clauses that leave nothing open.
-use Rattle.std.proofs.Common.{◌≡◌, ℕ, suc, ◌<◌, cond, not, Bool, true, false, List, [], ◌∷◌, length, All, None, Some, slice_index_or, inl, inr, refl, sym, ◌∙◌, ap, subst, arith}
+use Rattle.std.proofs.Common.{◌≡◌, ℕ, suc, ◌<◌, not, Bool, true, false, List, [], ◌∷◌, length, All, None, slice_index_or, inl, inr, refl, sym, ◌∙◌, ap, subst, arith}
 use Rattle.std.specs.List.{list_any, list_all}
-use Rattle.std.proofs.lemmas.Bool.{and_from, cases_Bool, both_ways, or_parts, true_from_ne_false}
+use Rattle.std.proofs.lemmas.Bool.{and_from, cases_Bool, or_parts, true_from_ne_false}
 use Rattle.std.proofs.lemmas.List.{get_or_append_left, length-append}
 use Rattle.std.proofs.lemmas.List.Elements.{All-contains}
 use Rattle.circuits.specs.Literals.{bit, differ}

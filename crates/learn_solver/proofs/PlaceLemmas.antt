@@ -1,10 +1,11 @@
 -- Where literals stand on a trail, and at which levels.
 use Rattle.std.proofs.Common.{◌≡◌, ℕ, zero, suc, ◌+◌, ◌<◌, ◌≤◌, ◌==◌, ◌&&◌, cond, Bool, true, List, [], ◌∷◌, length, take, Option, None, Some, is_none, slice_index_or, inl, inr, refl, sym, ◌∙◌, ap, arith}
 use Rattle.std.specs.List.{list_all}
-use Rattle.std.proofs.lemmas.Bool.{cases_eq, false≢true, eq-eqb, eqb-true, or_cases, or_left, or_right, and_parts, and_from}
+use Rattle.std.proofs.lemmas.Bool.{cases_eq, eq-eqb, eqb-true, or_left, or_right, and_parts, and_from}
 use Rattle.std.proofs.lemmas.Bool.Decides.{leb_tells}
-use Rattle.std.proofs.lemmas.List.{get_or-take, length-take, take-take, take_all, length-map}
-use Rattle.std.proofs.lemmas.List.Sums.{sum_by-take-le, sum_by_more}
+use Rattle.std.proofs.lemmas.Map.Views.{Contains-from_any}
+use Rattle.std.proofs.lemmas.List.{get_or-map, get_or-take, length-take, take-take, take_all, length-map}
+use Rattle.std.proofs.lemmas.List.Sums.{sum_by-take-le}
 use Rattle.std.proofs.lemmas.List.Recursion.{and_at}
 use Rattle.cnf_core.specs.declared.literal.SatLit.{SatLit}
 use Rattle.cnf_core.specs.declared.effect.Effect.TheVariants.{Conflict}
@@ -14,10 +15,12 @@ use Rattle.trail_core.specs.declared.assigned.Assigned.{Assigned}
 use Rattle.trail_core.specs.Trails.{IsTrail, Trailing, decisions, entry_at, literals, nothing}
 use Rattle.watch_lists.specs.Propagations.{before}
 use Rattle.learn_solver.specs.Analyses.{AreBefore, HasPlace, here_in, is_marked}
-use Rattle.learn_solver.proofs.MarkLemmas.{apart, counts_one, counts_two, passes_somewhere}
+use Rattle.learn_solver.proofs.MarkLemmas.{counts_one, counts_two, passes_somewhere}
 use Rattle.watch_lists.proofs.EffectLemmas.{conflict_says, same_itself, same_literal}
 pub use Rattle.cnf_core.proofs.LiteralLemmas.{opposite_twice, variable_of-opposite}
 pub use Rattle.trail_core.proofs.CutLemmas.{ascend}
+use Rattle.trail_core.proofs.TrailLemmas.{decisions_more}
+pub use Rattle.trail_core.proofs.TrailLemmas.{same_place}
 
 abbrev pub no_literal : SatLit
 no_literal = record { 0 = 0 }
@@ -31,16 +34,11 @@ pub record Stands (entries : List Assigned) (place : ℕ) (literal : SatLit) : T
 
 -- a literal that is true before a place stands there, and the other way round
 pub stands : (es : List Assigned) (p : ℕ) (l : SatLit) → is_true (before es p) l ≡ true → Stands es p l
-stands [] zero l e = absurd (false≢true e)
-stands [] (suc p) l e = absurd (false≢true e)
-stands (x ∷ es) zero l e = absurd (false≢true e)
-stands (x ∷ es) (suc p) l e =
-    elim (or_cases (is_same l x.literal) (is_true (before es p) l) e) [
-      | inl here ↦ record { at = 0; early = omega arith; within = omega arith; is = sym (same_literal l x.literal here) }
-      | inr after ↦
-          let rest = stands es p l after in
-          record { at = suc rest.at; early = omega (arith, rest.early); within = omega (arith, rest.within); is = rest.is }
-    ]
+stands es p l e =
+    let found = Contains-from_any same_literal l (before es p) e in
+    let within : found.0 < length es = omega (arith, found.1, length-take p (literals es), length-map es (λ (x : Assigned). x.literal)) in
+    let early : found.0 < p = omega (arith, found.1, length-take p (literals es)) in
+    record { at = found.0; early = early; within = within; is = sym (get_or-map (λ (x : Assigned). x.literal) es found.0 nothing l within) ∙ (sym (get_or-take p (literals es) found.0 l early) ∙ found.2) }
 
 pub true_before : (es : List Assigned) (p j : ℕ) → j < p → j < length es → is_true (before es p) (entry_at es j).literal ≡ true
 true_before [] p j early within = absurd (omega (arith, within))
@@ -57,10 +55,6 @@ true_further es p q l order e =
     let s = stands es p l e in
     ap (is_true (before es q)) (sym s.is) ∙ true_before es q s.at (omega (arith, s.early, order)) s.within
 
--- a literal that stands before a place at which it is true again stands there once
-pub same_place : (t : Trailing) → IsTrail t → (i j : ℕ) → i < length t.entries → j < length t.entries → variable_of (entry_at t.entries i).literal ≡ variable_of (entry_at t.entries j).literal → i ≡ j
-same_place t trail i j hi hj same = elim (cases_eq i j) [ inl e ↦ e | inr ne ↦ absurd (apart t trail i j hi hj ne same) ]
-
 -- a literal whose opposite stands before a place is false there
 pub place_of_false : (es : List Assigned) (p : ℕ) (l : SatLit) → is_false (before es p) l ≡ true → HasPlace es p (variable_of l)
 place_of_false es p l e =
@@ -76,7 +70,7 @@ conflict_places es clause e k d within =
 
 pub decision_counts : (es : List Assigned) (q : ℕ) → q < length es → (entry_at es q).reason ≡ None → decisions (take (q + 1) es) ≡ decisions (take q es) + 1
 decision_counts es q within none =
-    let more : decisions (take (q + 1) es) ≡ decisions (take q es) + cond (is_none (entry_at es q).reason) 1 0 = sum_by_more (λ (x : Assigned). cond (is_none x.reason) 1 0) es q nothing within in
+    let more = decisions_more es q within in
     let counted : cond (is_none (entry_at es q).reason) 1 0 ≡ 1 = ap (λ (r : Option ℕ). cond {A = ℕ} (is_none r) 1 0) none in
     omega (arith, more, counted)
 
@@ -104,7 +98,7 @@ last_decision t is some = search_down (length t.entries) (omega arith) (omega (a
     by_reason : (n : ℕ) → n < length t.entries → (r : Option ℕ) → (entry_at t.entries n).reason ≡ r → decisions (take (n + 1) t.entries) ≡ t.level → (decisions (take n t.entries) ≡ t.level → IsLast t) → IsLast t
     by_reason n within None e same below = record { at = n; within = within; decision = e; level_there = is.levels n within ∙ same }
     by_reason n within (Some r) e same below =
-        let more : decisions (take (n + 1) t.entries) ≡ decisions (take n t.entries) + cond (is_none (entry_at t.entries n).reason) 1 0 = sum_by_more (λ (x : Assigned). cond (is_none x.reason) 1 0) t.entries n nothing within in
+        let more = decisions_more t.entries n within in
         let counted : cond (is_none (entry_at t.entries n).reason) 1 0 ≡ 0 = ap (λ (x : Option ℕ). cond {A = ℕ} (is_none x) 1 0) e in
         below (omega (arith, more, counted, same))
 

@@ -13,7 +13,7 @@ use Rattle.learn_solver.proofs.StepLemmas.{passed_on}
 
 -- the variables that are decided are those of the trail
 pub decided_known : (s : Solving) (search : Search) → IsRunning s search.trail search.watches search.tools → All (λ v. v < search.trail.variables) search.tools.occurring.items
-decided_known s search is = subst (λ n. All (λ v. v < n) search.tools.occurring.items) (sym is.searching.variables) is.tools_are.variables.known
+decided_known s search is = subst (λ n. All (λ v. v < n) search.tools.occurring.items) (sym is.learning.searching.variables) is.learning.tools_are.variables.known
 
 -- ---- a search that went on, without an answer so far
 

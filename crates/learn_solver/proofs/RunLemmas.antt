@@ -22,12 +22,12 @@ use Rattle.learn_solver.specs.declared.restarts.Restarts.{Restarts}
 use Rattle.learn_solver.specs.declared.search.Search.{Search}
 use Rattle.learn_solver.specs.declared.search.Tools.{Tools}
 use Rattle.learn_solver.specs.Orders.{IsOrder}
-use Rattle.learn_solver.specs.Searches.{CanReturn, CanTurn, HasReturned, HasTurned, IsDecided, IsLearning, IsLesson, IsRunning, IsSame, IsSearching}
+use Rattle.learn_solver.specs.Searches.{CanReturn, CanTurn, HasReturned, HasTurned, IsDecided, IsLesson, IsRunning, IsSame, IsSearching}
 use Rattle.learn_solver.specs.Solvers.{HaveVariables, IsSolver, Solving, active, wanted}
 use Rattle.learn_solver.specs.Starts.{IsFitting, IsSoundBack, StayTools}
 use Rattle.learn_solver.proofs.AdvanceLemmas.{running_from, unrefuted_more}
 use Rattle.learn_solver.proofs.GoneLemmas.{covered_grown, front_at, front_within, justified_back, low_at}
-use Rattle.learn_solver.proofs.SolverLemmas.{active_more, line_known, solver_more}
+use Rattle.learn_solver.proofs.SolverLemmas.{line_known, solver_more}
 
 -- where the attached clauses are quiet, all are
 pub all_quiet_if : (watching : Watching) (t : Trailing) (r : Option ℕ) → IsTrail t → ((id : ℕ) → id < length watching.clauses → IsCovered watching t.entries id) → IfNone r (AreQuiet watching (literals t.entries)) → IfNone r (IsQuiet watching.clauses (literals t.entries))
@@ -50,28 +50,16 @@ fitting_on before after old new is rewatched fits present sound grown = record {
   covered = λ id within. covered_grown before after old new id (omega (arith, within, ap length rewatched.clauses)) rewatched grown (is.covered id (omega (arith, within, ap length rewatched.clauses)));
 }
 
--- what is under way fits
-pub fitting_of : (s : Solving) (t : Trailing) (w : Watching) (tools : Tools) → IsRunning s t w tools → IsFitting w t
-fitting_of s t w tools is = record {
-  fits = is.fits;
-  present = is.present;
-  sound = subst (λ cs. IsSound cs t) (sym is.solver.stored) is.searching.sound;
-  covered = is.covered;
-}
-
-pub learning_of : (s : Solving) (t : Trailing) (w : Watching) (tools : Tools) → IsRunning s t w tools → IsLearning s t w tools
-learning_of s t w tools is = record { searching = is.searching; solver = is.solver; tools_are = is.tools_are }
-
 -- it is under way after going back, or staying where it was
 pub running_again : (s : Solving) (old new : Search) → IsRunning s old.trail old.watches old.tools → HasTurned old new → IsRunning s new.trail new.watches new.tools
 running_again s old new is turned =
-    running_from s new turned.fitting (subst (IsSolver s.formula s.ids s.lines) (sym turned.clauses) is.solver) (turned.variables ∙ is.searching.variables) is.searching.unrefuted (turned.tools s.formula s.ids is.tools_are)
+    running_from s new turned.fitting (subst (IsSolver s.formula s.ids s.lines) (sym turned.clauses) is.learning.solver) (turned.variables ∙ is.learning.searching.variables) is.learning.searching.unrefuted (turned.tools s.formula s.ids is.learning.tools_are)
 
 -- and may go back
 pub can_turn : (s : Solving) (search : Search) → IsRunning s search.trail search.watches search.tools → CanTurn search
 can_turn s search is = record {
-  fitting = fitting_of s search.trail search.watches search.tools is;
-  order = subst (λ n. IsOrder n search.tools.order) (sym is.searching.variables) is.tools_are.order;
+  fitting = is.fitting;
+  order = subst (λ n. IsOrder n search.tools.order) (sym is.learning.searching.variables) is.learning.tools_are.order;
 }
 
 -- what it is after, and when it begins anew, are none of what is kept of the variables
@@ -86,7 +74,7 @@ turned_beside old new focus restarts turned = record {
 -- so it is where it stayed as it was
 pub running_same : (s : Solving) (old new : Search) → IsRunning s old.trail old.watches old.tools → IsSame old new → IsRunning s new.trail new.watches new.tools
 running_same s old new is same = running_again s old new is (record {
-  fitting = subst (λ (t : Trailing). IsFitting new.watches t) (sym same.trail) (subst (λ (w : Watching). IsFitting w old.trail) (sym same.watches) (fitting_of s old.trail old.watches old.tools is));
+  fitting = subst (λ (t : Trailing). IsFitting new.watches t) (sym same.trail) (subst (λ (w : Watching). IsFitting w old.trail) (sym same.watches) is.fitting);
   clauses = ap (λ (w : Watching). w.clauses) same.watches;
   variables = ap (λ (t : Trailing). t.variables) same.trail;
   tools = same.tools;
@@ -95,18 +83,13 @@ running_same s old new is same = running_again s old new is (record {
 -- after a decision
 pub decided_on : (s : Solving) (old new : Trailing) (w : Watching) (tools tools_new : Tools) (l : SatLit) → IsRunning s old w tools → StayTools tools tools_new → IsQuiet (active s.formula s.ids s.lines) (literals old.entries) → old.walked ≡ length old.entries → new ≡ record old { entries = old.entries ++ record { literal = l; level = old.level + 1; reason = None } ∷ []; level = old.level + 1 } → length old.entries < old.variables → IsDecided s old new w tools_new
 decided_on s old new w tools tools_new l is stay quiet walked new_is room = subst (λ (t : Trailing). IsDecided s old t w tools_new) (sym new_is) (record {
-  running = record {
-    searching = record {
-      variables = is.searching.variables;
-      unrefuted = is.searching.unrefuted;
-      sound = sound_more (active s.formula s.ids s.lines) old decided e is.searching.sound quiet refl;
-    };
-    solver = is.solver;
+  running = running_from s (record { trail = decided; watches = w; tools = tools_new }) (record {
     fits = record { variables = fits.variables; watched = fits.watched };
     present = record {
       present = λ k late within. ap (λ (x : Assigned). x.level) (get_or_at old.entries e [] nothing k (omega (arith, late, within, size, walked)));
     };
-    covered = λ id within. elim (is.covered id within) [
+    sound = sound_more w.clauses old decided e is.fitting.sound (subst (λ cs. IsQuiet cs (literals old.entries)) (sym is.learning.solver.stored) quiet) refl;
+    covered = λ id within. elim (is.fitting.covered id within) [
       | inl attached ↦ inl attached
       | inr rooted ↦
           let same = get_or_append_left old.entries (e ∷ []) nothing rooted.at rooted.within in
@@ -117,8 +100,7 @@ decided_on s old new w tools tools_new l is stay quiet walked new_is room = subs
             lowest = ap (λ (x : Assigned). x.level) same ∙ rooted.lowest;
           })
     ];
-    tools_are = stay s.formula s.ids is.tools_are;
-  };
+  }) is.learning.solver is.learning.searching.variables is.learning.searching.unrefuted (stay s.formula s.ids is.learning.tools_are);
   longer = omega (arith, size);
   most = omega (arith, size, room);
 })
@@ -133,7 +115,7 @@ decided_on s old new w tools tools_new l is stay quiet walked new_is room = subs
     size = length-append old.entries (e ∷ [])
 
     fits : Fits w (record old { entries = old.entries ++ e ∷ [] })
-    fits = fits_grown w old (record old { entries = old.entries ++ e ∷ [] }) e is.fits (omega (arith, walked)) refl
+    fits = fits_grown w old (record old { entries = old.entries ++ e ∷ [] }) e is.fitting.fits (omega (arith, walked)) refl
 
 -- what is kept of the variables, with another order
 pub stay_from : (n : ℕ) (old new : Tools) → new.occurring.items ≡ old.occurring.items → new.marks.items ≡ old.marks.items → IsOrder n old.order → IsOrder n new.order → StayTools old new
@@ -166,19 +148,19 @@ sound_back s line t w level searching solver lesson back is = record {
 pub can_return : (s : Solving) (line : LogLine) (search : Search) (level : ℕ) → IsRunning s search.trail search.watches search.tools → IsLesson s search.trail line level → is_empty line.clause ≡ false → CanReturn search line.clause level
 can_return s line search level is lesson filled = record {
   turn = can_turn s search is;
-  known = subst (λ n. AreKnown n line.clause) (sym is.searching.variables ∙ is.fits.variables) (line_known s.formula (clauses_of s.lines) line lesson.good);
+  known = subst (λ n. AreKnown n line.clause) (sym is.learning.searching.variables ∙ is.fitting.fits.variables) (line_known s.formula (clauses_of s.lines) line lesson.good);
   filled = filled;
   above = elim (cases_lt 0 search.trail.level) [
     | inl above ↦ above
     | inr lowest ↦ absurd (both_ways (is_empty line.clause) filled (lesson.closing (omega (arith, lowest))))
   ];
   asserting = lesson.asserting;
-  sound = sound_back s line search.trail search.watches level is.searching is.solver lesson;
+  sound = sound_back s line search.trail search.watches level is.learning.searching is.learning.solver lesson;
 }
 
 pub running_back : (old new : Solving) (line : LogLine) (mid next : Search) → IsRunning old mid.trail mid.watches mid.tools → new ≡ record old { lines = old.lines ++ line ∷ [] } → line_fault old.formula (clauses_of old.lines) line ≡ None → is_empty line.clause ≡ false → HasReturned mid next line.clause → IsRunning new next.trail next.watches next.tools
 running_back old new line mid next is new_is good filled back =
     let more : Solving = record old { lines = old.lines ++ line ∷ [] } in
-    let solver = solver_more old.formula old.ids old.lines more.lines mid.watches.clauses next.watches.clauses line is.solver good refl back.clauses in
-    let unrefuted = unrefuted_more old.lines line is.searching.unrefuted filled in
-    subst (λ s. IsRunning s next.trail next.watches next.tools) (sym new_is) (running_from more next back.fitting solver (back.variables ∙ is.searching.variables) unrefuted (back.tools old.formula old.ids is.tools_are))
+    let solver = solver_more old.formula old.ids old.lines more.lines mid.watches.clauses next.watches.clauses line is.learning.solver good refl back.clauses in
+    let unrefuted = unrefuted_more old.lines line is.learning.searching.unrefuted filled in
+    subst (λ s. IsRunning s next.trail next.watches next.tools) (sym new_is) (running_from more next back.fitting solver (back.variables ∙ is.learning.searching.variables) unrefuted (back.tools old.formula old.ids is.learning.tools_are))

@@ -1,45 +1,21 @@
 -- Lines that are added to a solver, and the numbers of its clauses.
-use Rattle.std.proofs.Common.{◌≡◌, ℕ, zero, suc, ◌+◌, ◌-◌, ◌<◌, not, cond, Bool, true, false, List, [], ◌∷◌, ◌++◌, length, map, take, drop, All, Option, None, Some, nat_lt, slice_index_or, inl, inr, refl, sym, ◌∙◌, ap, subst, arith}
-use Rattle.std.specs.List.{list_any, list_all}
-use Rattle.std.proofs.lemmas.Bool.{cases_lt, cond-false, le-ltb, lt-ltb, ltb-true}
-use Rattle.std.proofs.lemmas.List.{append_assoc, get_or_append_left, get_or-append_right, get_or-map, length-append, length-map}
+use Rattle.std.proofs.Common.{◌≡◌, ℕ, zero, suc, ◌+◌, ◌-◌, ◌<◌, cond, false, List, [], ◌∷◌, ◌++◌, length, map, take, drop, All, Option, None, Some, nat_lt, slice_index_or, ◌⊎◌, inl, inr, refl, sym, ◌∙◌, ap, subst, arith}
+use Rattle.std.specs.List.{list_all}
+use Rattle.std.proofs.lemmas.Bool.{cases_lt, le-ltb, lt-ltb, ltb-true}
+use Rattle.std.proofs.lemmas.List.{append_assoc, get_or_append_left, get_or-append_right, get_or-map, length-append, length-map, nil_from_length}
 use Rattle.std.proofs.lemmas.List.Elements.{All-append, All-map, All-push}
 use Rattle.std.proofs.lemmas.List.Recursion.{and_at}
 use Rattle.cnf_core.specs.declared.literal.SatLit.{SatLit}
 use Rattle.cnf_core.specs.declared.log.LogLine.{LogLine}
 use Rattle.cnf_core.specs.declared.effect.Effect.{Effect}
 use Rattle.cnf_core.specs.declared.effect.Effect.TheVariants.{Conflict, Makes, Neither}
-use Rattle.cnf_core.specs.declared.fault.LineFault.{LineFault}
 use Rattle.cnf_core.specs.declared.fault.LineFault.TheVariants as fault
-use Rattle.cnf_core.specs.Clauses.{Formula, clause_at, opposite, variable_of}
-use Rattle.cnf_core.specs.Derivations.{AreDerived, clauses_of, effect_of, fault_after, hint_fault, is_empty, line_fault, repeats_variable}
+use Rattle.cnf_core.specs.Clauses.{Formula, clause_at, variable_of}
+use Rattle.cnf_core.specs.Derivations.{AreDerived, clauses_of, effect_of, fault_after, hint_fault, is_empty, line_fault}
 use Rattle.watch_lists.specs.Propagations.{AreKnown}
-pub use Rattle.cnf_core.proofs.LineLemmas.{clauses_more, derived_more}
+pub use Rattle.cnf_core.proofs.LineLemmas.{IsLine, clauses_more, derived_more, line_from, line_says}
+use Rattle.learn_solver.proofs.DeriveLemmas.{step_conflict, step_makes}
 use Rattle.learn_solver.specs.Solvers.{ArePut, IsSolver, active, id_at, wanted}
-
--- What it says that a line has no fault.
-pub record IsLine (formula : Formula) (taken : List (List SatLit)) (line : LogLine) : Type 0 where
-  pub unclosed : list_any is_empty taken ≡ false
-  pub known : list_all (λ l. nat_lt (variable_of l) formula.variables) line.clause ≡ true
-  pub once : repeats_variable line.clause ≡ false
-  pub hints : hint_fault (formula.clauses ++ taken) (map opposite line.clause) line.hints ≡ None
-
-pub line_says : (formula : Formula) (taken : List (List SatLit)) (line : LogLine) → line_fault formula taken line ≡ None → IsLine formula taken line
-line_says formula taken line e =
-    let parts = by_tests (list_any is_empty taken) (list_all (λ l. nat_lt (variable_of l) formula.variables) line.clause) (repeats_variable line.clause) (hint_fault (formula.clauses ++ taken) (map opposite line.clause) line.hints) e in
-    record { unclosed = parts.0; known = parts.1; once = parts.2; hints = parts.3 }
-  where
-    by_tests : (a b c : Bool) (h : Option LineFault) → cond a (Some fault.Closed) (cond (not b) (Some fault.UnknownVariable) (cond c (Some fault.TwiceVariable) h)) ≡ None → (a ≡ false) × (b ≡ true) × (c ≡ false) × (h ≡ None)
-    by_tests true b c h e = absurd (let x : Some fault.Closed ≡ None = e in cc)
-    by_tests false false c h e = absurd (let x : Some fault.UnknownVariable ≡ None = e in cc)
-    by_tests false true true h e = absurd (let x : Some fault.TwiceVariable ≡ None = e in cc)
-    by_tests false true false h e = (refl, refl, refl, e)
-
-pub line_from : (formula : Formula) (taken : List (List SatLit)) (line : LogLine) → IsLine formula taken line → line_fault formula taken line ≡ None
-line_from formula taken line is =
-    cond-false (list_any is_empty taken) (Some fault.Closed) (cond (not (list_all (λ l. nat_lt (variable_of l) formula.variables) line.clause)) (Some fault.UnknownVariable) (cond (repeats_variable line.clause) (Some fault.TwiceVariable) (hint_fault (formula.clauses ++ taken) (map opposite line.clause) line.hints))) is.unclosed
-    ∙ (ap (λ b. cond (not b) (Some fault.UnknownVariable) (cond (repeats_variable line.clause) (Some fault.TwiceVariable) (hint_fault (formula.clauses ++ taken) (map opposite line.clause) line.hints))) is.known
-    ∙ (ap (λ b. cond b (Some fault.TwiceVariable) (hint_fault (formula.clauses ++ taken) (map opposite line.clause) line.hints)) is.once ∙ is.hints))
 
 pub line_known : (formula : Formula) (taken : List (List SatLit)) (line : LogLine) → line_fault formula taken line ≡ None → AreKnown formula.variables line.clause
 line_known formula taken line e k d within =
@@ -93,49 +69,44 @@ at_number formula ids lines there k within =
           (omega (arith, number, within, late, size, length-append formula.clauses (clauses_of lines), length-append (wanted formula ids) (clauses_of lines)), ap (clause_at (formula.clauses ++ clauses_of lines)) number ∙ (first ∙ (ap (λ n. slice_index_or (clauses_of lines) n []) index ∙ sym second)))
     ]
 
--- Steps that go through are clauses that are there.
-pub steps_there : (clauses : List (List SatLit)) (made : List SatLit) (steps : List ℕ) → hint_fault clauses made steps ≡ None → (k d : ℕ) → k < length steps → slice_index_or steps k d < length clauses
-steps_there clauses made [] e k d within = absurd (omega (arith, within))
-steps_there clauses made (s ∷ steps) e k d within =
+-- What it says that steps go through: the first is a clause that is there, which is a conflict and the last, or makes a literal
+-- true, with which the others go on.
+pub hint_says : (clauses : List (List SatLit)) (made : List SatLit) (s : ℕ) (steps : List ℕ) → hint_fault clauses made (s ∷ steps) ≡ None → (s < length clauses) × (((effect_of made (clause_at clauses s) ≡ Conflict) × (steps ≡ [])) ⊎ ((m : SatLit) × (effect_of made (clause_at clauses s) ≡ Makes m) × (hint_fault clauses (made ++ m ∷ []) steps ≡ None)))
+hint_says clauses made s steps e =
     elim (cases_lt s (length clauses)) [
-      | inr late ↦ let found = le-ltb s (length clauses) late in absurd (let x : Some fault.UnknownHint ≡ None = sym (ap (λ b. cond b (fault_after (effect_of made (clause_at clauses s)) steps (λ m. hint_fault clauses (made ++ m ∷ []) steps)) (Some fault.UnknownHint)) found) ∙ e in cc)
-      | inl low ↦ let found = lt-ltb s (length clauses) low in by_place k low (λ m. steps_there clauses (made ++ m ∷ []) steps) (effect_of made (clause_at clauses s)) (sym (ap (λ b. cond b (fault_after (effect_of made (clause_at clauses s)) steps (λ m. hint_fault clauses (made ++ m ∷ []) steps)) (Some fault.UnknownHint)) found) ∙ e) within
+      | inr late ↦ absurd (let x : Some fault.UnknownHint ≡ None = sym (ap (λ b. cond b (fault_after (effect_of made (clause_at clauses s)) steps (λ m. hint_fault clauses (made ++ m ∷ []) steps)) (Some fault.UnknownHint)) (le-ltb s (length clauses) late)) ∙ e in cc)
+      | inl low ↦ (low, by_effect (effect_of made (clause_at clauses s)) steps (sym (ap (λ b. cond b (fault_after (effect_of made (clause_at clauses s)) steps (λ m. hint_fault clauses (made ++ m ∷ []) steps)) (Some fault.UnknownHint)) (lt-ltb s (length clauses) low)) ∙ e))
     ]
   where
-    by_place : (n : ℕ) → s < length clauses → ((m : SatLit) → hint_fault clauses (made ++ m ∷ []) steps ≡ None → (j e : ℕ) → j < length steps → slice_index_or steps j e < length clauses) → (effect : Effect) → fault_after effect steps (λ m. hint_fault clauses (made ++ m ∷ []) steps) ≡ None → n < length (s ∷ steps) → slice_index_or (s ∷ steps) n d < length clauses
-    by_place zero low rest effect goes h = low
-    by_place (suc n) low rest (Makes m) goes h = rest m goes n d (omega (arith, h))
-    by_place (suc n) low rest Neither goes h = absurd (let x : Some fault.NotUnit ≡ None = goes in cc)
-    by_place (suc n) low rest Conflict goes h = ends steps goes (omega (arith, h))
-      where
-        ends : (left : List ℕ) → fault_after Conflict left (λ m. hint_fault clauses (made ++ m ∷ []) left) ≡ None → n < length left → slice_index_or left n d < length clauses
-        ends [] goes' h' = absurd (omega (arith, h'))
-        ends (x ∷ left) goes' h' = absurd (let y : Some fault.AfterConflict ≡ None = goes' in cc)
+    by_effect : (effect : Effect) (left : List ℕ) → fault_after effect left (λ m. hint_fault clauses (made ++ m ∷ []) steps) ≡ None → ((effect ≡ Conflict) × (left ≡ [])) ⊎ ((m : SatLit) × (effect ≡ Makes m) × (hint_fault clauses (made ++ m ∷ []) steps ≡ None))
+    by_effect Conflict [] goes = inl (refl, refl)
+    by_effect Conflict (x ∷ left) goes = absurd (let y : Some fault.AfterConflict ≡ None = goes in cc)
+    by_effect (Makes m) left goes = inr (m, refl, goes)
+    by_effect Neither left goes = absurd (let y : Some fault.NotUnit ≡ None = goes in cc)
+
+-- so all of them are clauses that are there
+pub steps_there : (clauses : List (List SatLit)) (made : List SatLit) (steps : List ℕ) → hint_fault clauses made steps ≡ None → (k d : ℕ) → k < length steps → slice_index_or steps k d < length clauses
+steps_there clauses made [] e k d within = absurd (omega (arith, within))
+steps_there clauses made (s ∷ steps) e zero d within = (hint_says clauses made s steps e).0
+steps_there clauses made (s ∷ steps) e (suc k) d within =
+    elim (hint_says clauses made s steps e).1 [
+      | inl ends ↦ absurd (omega (arith, within, ap length ends.1))
+      | inr (m, makes, goes) ↦ steps_there clauses (made ++ m ∷ []) steps goes k d (omega (arith, within))
+    ]
 
 -- hints lead to a conflict wherever their clauses stand
 pub hints_carried : (clauses all : List (List SatLit)) (number : ℕ → Option ℕ) → ((h n : ℕ) → h < length clauses → number h ≡ Some n → (n < length all) × (clause_at all n ≡ clause_at clauses h)) → (made : List SatLit) (hints own : List ℕ) → map number hints ≡ map Some own → hint_fault clauses made hints ≡ None → hint_fault all made own ≡ None
-hints_carried clauses all number each made [] [] same e = absurd (let x : Some fault.NoConflict ≡ None = e in cc)
-hints_carried clauses all number each made [] (n ∷ own) same e = absurd (let x : Some fault.NoConflict ≡ None = e in cc)
+hints_carried clauses all number each made [] own same e = absurd (let x : Some fault.NoConflict ≡ None = e in cc)
 hints_carried clauses all number each made (h ∷ hints) [] same e = absurd (let x : number h ∷ map number hints ≡ [] = same in cc)
 hints_carried clauses all number each made (h ∷ hints) (n ∷ own) same e =
-    elim (cases_lt h (length clauses)) [
-      | inr late ↦
-          let found = le-ltb h (length clauses) late in
-          absurd (let x : Some fault.UnknownHint ≡ None = sym (ap (λ b. cond b (fault_after (effect_of made (clause_at clauses h)) hints (λ m. hint_fault clauses (made ++ m ∷ []) hints)) (Some fault.UnknownHint)) found) ∙ e in cc)
-      | inl low ↦
-          let found = lt-ltb h (length clauses) low in
-          let head : number h ≡ Some n = cc in
-          let rest : map number hints ≡ map Some own = ap (drop 1) same in
-          let there = each h n low head in
-          let after = sym (ap (λ b. cond b (fault_after (effect_of made (clause_at clauses h)) hints (λ m. hint_fault clauses (made ++ m ∷ []) hints)) (Some fault.UnknownHint)) found) ∙ e in
-          ap (λ b. cond b (fault_after (effect_of made (clause_at all n)) own (λ m. hint_fault all (made ++ m ∷ []) own)) (Some fault.UnknownHint)) (lt-ltb n (length all) there.0)
-          ∙ (ap (λ c. fault_after (effect_of made c) own (λ m. hint_fault all (made ++ m ∷ []) own)) there.1
-          ∙ by_effect (effect_of made (clause_at clauses h)) hints own rest (λ m left. hints_carried clauses all number each (made ++ m ∷ []) hints own rest left) after)
+    let says = hint_says clauses made h hints e in
+    let head : number h ≡ Some n = cc in
+    let rest : map number hints ≡ map Some own = ap (drop 1) same in
+    let there = each h n says.0 head in
+    let effect = ap (effect_of made) there.1 in
+    elim says.1 [
+      | inl (conflict, none) ↦
+          let end : own ≡ [] = nil_from_length own (omega (arith, ap length rest, ap length none, length-map hints number, length-map own Some)) in
+          subst (λ left. hint_fault all made (n ∷ left) ≡ None) (sym end) (step_conflict all made n there.0 (effect ∙ conflict))
+      | inr (m, makes, goes) ↦ step_makes all made n own m there.0 (effect ∙ makes) (hints_carried clauses all number each (made ++ m ∷ []) hints own rest goes)
     ]
-  where
-    by_effect : (effect : Effect) (left mine : List ℕ) → map number left ≡ map Some mine → ((m : SatLit) → hint_fault clauses (made ++ m ∷ []) hints ≡ None → hint_fault all (made ++ m ∷ []) own ≡ None) → fault_after effect left (λ m. hint_fault clauses (made ++ m ∷ []) hints) ≡ None → fault_after effect mine (λ m. hint_fault all (made ++ m ∷ []) own) ≡ None
-    by_effect Conflict [] [] same rest goes = refl
-    by_effect Conflict [] (y ∷ mine) same rest goes = absurd (let x : [] ≡ Some y ∷ map Some mine = same in cc)
-    by_effect Conflict (x ∷ left) mine same rest goes = absurd (let y : Some fault.AfterConflict ≡ None = goes in cc)
-    by_effect (Makes m) left mine same rest goes = rest m goes
-    by_effect Neither left mine same rest goes = absurd (let y : Some fault.NotUnit ≡ None = goes in cc)

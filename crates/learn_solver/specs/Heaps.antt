@@ -1,5 +1,5 @@
 -- Numbers in a heap (Williams, 1964): in which order they stand, where each stands, and which are held.
-use Rattle.std.specs.Prelude.{◌≡◌, ℕ, ◌<◌, ◌≤◌, Bool, List, length, map, All, nat_lt, slice_index_or, slice_set}
+use Rattle.std.specs.Prelude.{◌≡◌, ℕ, ◌<◌, ◌≤◌, ◌==◌, Bool, List, length, map, All, nat_lt, slice_index_or, if◌then◌else◌}
 
 -- All numbers below n, in some order, and the place of each.
 pub record AreInverse (count : ℕ) (numbers places : List ℕ) : Type 0 where
@@ -10,10 +10,13 @@ pub record AreInverse (count : ℕ) (numbers places : List ℕ) : Type 0 where
   pub there : (k d e : ℕ) → k < count → slice_index_or places (slice_index_or numbers k d) e ≡ k
   pub back : (v d e : ℕ) → v < count → slice_index_or numbers (slice_index_or places v d) e ≡ v
 
+-- which of two places that are exchanged, or else the place itself
+abbrev pub turned : ℕ → ℕ → ℕ → ℕ
+turned one other place = if place == one then other else if place == other then one else place
+
 -- where the numbers stand once those at two places are exchanged
-abbrev pub exchanged : List ℕ → List ℕ → ℕ → ℕ → List ℕ
-exchanged numbers places one other =
-    slice_set (slice_set places (slice_index_or numbers one 0) other) (slice_index_or numbers other 0) one
+abbrev pub exchanged : ℕ → ℕ → List ℕ → List ℕ
+exchanged one other places = map (turned one other) places
 
 -- for each number whether it is held: those at the first places are
 abbrev pub are_held : ℕ → List ℕ → List Bool

@@ -17,7 +17,7 @@ use Rattle.learn_solver.specs.declared.verdict.Finding.{Finding}
 use Rattle.learn_solver.specs.Findings.{IsFinding}
 use Rattle.learn_solver.specs.Orders.{IsOrder}
 use Rattle.learn_solver.specs.Starts.{AreTools, IsFitting, IsSoundBack, StayTools}
-use Rattle.watch_lists.specs.Watched.{Fits, IsCovered, IsPresent, Watching}
+use Rattle.watch_lists.specs.Watched.{Watching}
 
 -- a variable is assigned
 abbrev pub IsAssigned : Trailing → ℕ → Type 0
@@ -47,22 +47,18 @@ no_line = record { clause = []; hints = [] }
 abbrev pub last_line : List LogLine → LogLine
 last_line lines = slice_index_or lines (length lines - 1) no_line
 
--- A search is under way: the watches fit the trail, and each clause is attached or has a literal that is true at level 0.
-pub record IsRunning (solving : Solving) (trail : Trailing) (watching : Watching) (tools : Tools)
-    : Type 0 where
-  pub searching : IsSearching solving trail
-  pub solver : IsSolver solving.formula solving.ids solving.lines watching.clauses
-  pub fits : Fits watching trail
-  pub present : IsPresent trail
-  pub covered : (id : ℕ) → id < length watching.clauses → IsCovered watching trail.entries id
-  pub tools_are : AreTools solving.formula solving.ids tools
-
 -- What a line can be learned from.
 pub record IsLearning (solving : Solving) (trail : Trailing) (watching : Watching) (tools : Tools)
     : Type 0 where
   pub searching : IsSearching solving trail
   pub solver : IsSolver solving.formula solving.ids solving.lines watching.clauses
   pub tools_are : AreTools solving.formula solving.ids tools
+
+-- A search is under way: a line can be learned from it, and the watches fit the trail.
+pub record IsRunning (solving : Solving) (trail : Trailing) (watching : Watching) (tools : Tools)
+    : Type 0 where
+  pub learning : IsLearning solving trail watching tools
+  pub fitting : IsFitting watching trail
 
 -- A search stays as it is, but for the order of its variables.
 pub record IsSame (old new : Search) : Type 0 where

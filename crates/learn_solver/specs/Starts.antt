@@ -2,7 +2,7 @@
 use Rattle.std.specs.Prelude.{◌≡◌, ℕ, ◌*◌, ◌<◌, ◌≤◌, ◌++◌, ◌∷◌, false, List, [], filter, length, min, nat_le, replicate, take}
 use Rattle.cnf_core.specs.declared.literal.SatLit.{SatLit}
 use Rattle.trail_core.specs.Trails.{Trailing, literals}
-use Rattle.watch_lists.specs.Propagations.{IsConflict, IsGrown, IsSound}
+use Rattle.watch_lists.specs.Propagations.{IsConflict, IsSound}
 use Rattle.watch_lists.specs.Threads.{IsAttached}
 use Rattle.watch_lists.specs.Watched.{Fits, IsCovered, IsPresent, Watching}
 use Rattle.cnf_core.specs.Clauses.{Formula}

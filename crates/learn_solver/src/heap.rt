@@ -1,6 +1,6 @@
 //! Numbers in a heap, by keys.
 
-ghost use Rattle.std.specs.Prelude.{ℕ, ◌≡◌, ◌/◌, ◌<◌, ◌≤◌, true, false, All, IfOk, IfSome, IfNone, length, replicate, slice_set};
+ghost use Rattle.std.specs.Prelude.{ℕ, ◌≡◌, ◌/◌, ◌<◌, ◌≤◌, true, false, All, IfOk, IfSome, IfNone, length, nat_lt, replicate, slice_set};
 ghost use Rattle.std.specs.List.{range_with_len};
 ghost use Rattle.circuits.specs.Literals.{bit};
 ghost use Rattle.learn_solver.specs.Heaps.{AreInverse, are_held, exchanged};
@@ -220,8 +220,11 @@ fn exchange(numbers: &mut Vec<usize>, places: &mut Vec<usize>, one: usize, other
     requires inverse { AreInverse (length numbers.old.items) numbers.old.items places.old.items }
     requires one { one < length numbers.old.items }
     requires other { other < length numbers.old.items }
-    ensures inverse { AreInverse (length numbers.old.items) numbers.new.items places.new.items }
-    ensures places { places.new.items ≡ exchanged numbers.old.items places.old.items one other }
+    ensures inverse { (count : ℕ) → AreInverse count numbers.old.items places.old.items
+        → AreInverse count numbers.new.items places.new.items }
+    ensures places { places.new.items ≡ exchanged one other places.old.items }
+    ensures kept { (held : ℕ) → nat_lt one held ≡ nat_lt other held
+        → are_held held places.new.items ≡ are_held held places.old.items }
 {
     let first = numbers[one];
     let second = numbers[other];
@@ -234,11 +237,7 @@ fn exchange(numbers: &mut Vec<usize>, places: &mut Vec<usize>, one: usize, other
 fn numbers_below(alloc: Global, count: usize) -> Result<Vec<usize>, AllocError>
     ensures { IfOk result (λ numbers. numbers.items ≡ range_with_len 0 count) }
 {
-    let mut numbers = Vec::with_capacity(alloc, count)?;
-    for number in 0..count {
-        numbers.push(number)?;
-    }
-    Ok(numbers)
+    (0..count).collect(alloc)
 }
 
 /// n zeros.

@@ -328,23 +328,9 @@ pub fn solve_guided<B: Base, G: Guide, L: Charge>(
     ensures bounded_stop { IfErr result
         (IsBoundedStop solver.old.formula.variables (L.charging ledger.old) (L.charging ledger.new)) }
 {
-    searched(alloc, solver, guide, ledger)
-}
-
-// Searches until there is a model or an empty line.
-fn searched<B: Base, G: Guide, L: Charge>(
-    alloc: Global,
-    solver: &mut Solver<'_, B>,
-    guide: &mut G,
-    ledger: &mut L,
-) -> Result<Finding, Stop>
-    requires unrefuted { list_any is_empty (clauses_of solver.old.lines) ≡ false }
-    requires asking { IsAsking (L.charging ledger.old) solver.old.lines }
-    ensures ended { IfOk result (HasEnded solver.old solver.new (L.charging ledger.old) (L.charging ledger.new)) }
-    ensures stop { IfErr result (IsStopped solver.old solver.new (L.charging ledger.old) (L.charging ledger.new)) }
-{
     let mut search = begun(alloc, solver.base, &solver.ids, &solver.lines)?;
-    found_by(alloc, solver, &mut search, guide, ledger)
+    let found = found_by(alloc, solver, &mut search, guide, ledger)?;
+    Ok(found)
 }
 
 // What a search finds that hasn't begun.

@@ -1,47 +1,17 @@
 -- A line is derived wherever the clauses at its hints stand.
-use Rattle.std.proofs.Common.{◌≡◌, ℕ, ◌-◌, ◌<◌, ◌≤◌, ◌==◌, ◌||◌, cond, Bool, true, false, List, [], ◌∷◌, ◌++◌, length, map, take, drop, Option, None, Some, nat_lt, slice_index_or, inl, inr, refl, sym, ◌∙◌, ap, arith}
+use Rattle.std.proofs.Common.{◌≡◌, ℕ, ◌-◌, ◌<◌, ◌≤◌, ◌==◌, ◌||◌, cond, Bool, true, false, List, [], ◌∷◌, ◌++◌, length, map, take, Option, None, Some, nat_lt, slice_index_or, inl, inr, refl, sym, ◌∙◌, ap, arith}
 use Rattle.std.specs.List.{list_any, list_all}
 use Rattle.std.proofs.lemmas.Bool.{cases_lt, eq-eqb, eqb-true, false≢true, le-ltb, lt-ltb}
-use Rattle.std.proofs.lemmas.List.{get_or_append_left, get_or-append_right, get_or-take, length-append, length-map, length-take, map-append, nil_from_length, take-map}
+use Rattle.std.proofs.lemmas.List.{get_or_append_left, get_or-append_right, get_or-take, length-append, length-map, length-take, nil_from_length, take-map}
 use Rattle.std.proofs.lemmas.List.Folds.{list_any-append}
 use Rattle.cnf_core.specs.declared.literal.SatLit.{SatLit}
 use Rattle.cnf_core.specs.declared.log.LogLine.{LogLine}
-use Rattle.cnf_core.specs.declared.effect.Effect.{Effect}
-use Rattle.cnf_core.specs.declared.effect.Effect.TheVariants.{Conflict, Makes, Neither}
-use Rattle.cnf_core.specs.declared.fault.LineFault.TheVariants as fault
 use Rattle.cnf_core.specs.Clauses.{Formula, clause_at, opposite, variable_of}
-use Rattle.cnf_core.specs.Derivations.{AreDerived, IsRefutation, clauses_of, effect_of, fault_after, hint_fault, is_empty, line_fault, repeats_variable}
-use Rattle.learn_solver.proofs.SolverLemmas.{derived_more, line_from, line_says}
+use Rattle.cnf_core.specs.Derivations.{AreDerived, IsRefutation, clauses_of, hint_fault, is_empty, line_fault, repeats_variable}
+use Rattle.learn_solver.proofs.AdvanceLemmas.{unrefuted_more}
+use Rattle.learn_solver.proofs.SolverLemmas.{clauses_more, derived_more, hints_carried, line_from, line_says}
 use Rattle.log_parts.specs.declared.common.Common.{Common}
 use Rattle.log_parts.specs.Parts.{ArePlaced, GoesOn, HaveCommon, IsLastOf, IsRenumbered, MayGoOn, Trims, number_in}
-
--- hints lead to a conflict wherever their clauses stand
-hints_carried : (clauses all : List (List SatLit)) (number : ℕ → Option ℕ) → ((h n : ℕ) → h < length clauses → number h ≡ Some n → (n < length all) × (clause_at all n ≡ clause_at clauses h)) → (made : List SatLit) (hints own : List ℕ) → map number hints ≡ map Some own → hint_fault clauses made hints ≡ None → hint_fault all made own ≡ None
-hints_carried clauses all number each made [] [] same e = absurd (let x : Some fault.NoConflict ≡ None = e in cc)
-hints_carried clauses all number each made [] (n ∷ own) same e = absurd (let x : Some fault.NoConflict ≡ None = e in cc)
-hints_carried clauses all number each made (h ∷ hints) [] same e = absurd (let x : number h ∷ map number hints ≡ [] = same in cc)
-hints_carried clauses all number each made (h ∷ hints) (n ∷ own) same e =
-    elim (cases_lt h (length clauses)) [
-      | inr late ↦
-          let found = le-ltb h (length clauses) late in
-          absurd (let x : Some fault.UnknownHint ≡ None = sym (ap (λ b. cond b (fault_after (effect_of made (clause_at clauses h)) hints (λ m. hint_fault clauses (made ++ m ∷ []) hints)) (Some fault.UnknownHint)) found) ∙ e in cc)
-      | inl low ↦
-          let found = lt-ltb h (length clauses) low in
-          let head : number h ≡ Some n = cc in
-          let rest : map number hints ≡ map Some own = ap (drop 1) same in
-          let there = each h n low head in
-          let after = sym (ap (λ b. cond b (fault_after (effect_of made (clause_at clauses h)) hints (λ m. hint_fault clauses (made ++ m ∷ []) hints)) (Some fault.UnknownHint)) found) ∙ e in
-          ap (λ b. cond b (fault_after (effect_of made (clause_at all n)) own (λ m. hint_fault all (made ++ m ∷ []) own)) (Some fault.UnknownHint)) (lt-ltb n (length all) there.0)
-          ∙ (ap (λ c. fault_after (effect_of made c) own (λ m. hint_fault all (made ++ m ∷ []) own)) there.1
-          ∙ by_effect (effect_of made (clause_at clauses h)) hints own rest (λ m left. hints_carried clauses all number each (made ++ m ∷ []) hints own rest left) after)
-    ]
-  where
-    by_effect : (effect : Effect) (left mine : List ℕ) → map number left ≡ map Some mine → ((m : SatLit) → hint_fault clauses (made ++ m ∷ []) hints ≡ None → hint_fault all (made ++ m ∷ []) own ≡ None) → fault_after effect left (λ m. hint_fault clauses (made ++ m ∷ []) hints) ≡ None → fault_after effect mine (λ m. hint_fault all (made ++ m ∷ []) own) ≡ None
-    by_effect Conflict [] [] same rest goes = refl
-    by_effect Conflict [] (y ∷ mine) same rest goes = absurd (let x : [] ≡ Some y ∷ map Some mine = same in cc)
-    by_effect Conflict (x ∷ left) mine same rest goes = absurd (let y : Some fault.AfterConflict ≡ None = goes in cc)
-    by_effect (Makes m) left mine same rest goes = rest m goes
-    by_effect Neither left mine same rest goes = absurd (let y : Some fault.NotUnit ≡ None = goes in cc)
 
 module _ (common : Common) (one other : Formula) (source target : List LogLine) (numbers : List (Option ℕ)) (have : HaveCommon common one other) (placed : ArePlaced common.count source target numbers) where
   -- a clause that has a number in the other log stands there
@@ -101,10 +71,7 @@ module _ (common : Common) (one other : Formula) (source target : List LogLine) 
 pub one_more : (formula : Formula) (lines : List LogLine) (line : LogLine) → MayGoOn formula lines → line_fault formula (clauses_of lines) line ≡ None → is_empty line.clause ≡ false → MayGoOn formula (lines ++ line ∷ [])
 one_more formula lines line goes good filled = record {
   derived = derived_more formula lines line goes.derived good;
-  unclosed =
-      ap (list_any is_empty) (map-append (λ (l : LogLine). l.clause) lines (line ∷ []))
-      ∙ (list_any-append is_empty (clauses_of lines) (line.clause ∷ [])
-      ∙ (ap (λ b. b || (is_empty line.clause || false)) goes.unclosed ∙ ap (λ b. b || false) filled));
+  unclosed = unrefuted_more lines line goes.unclosed filled;
 }
 
 pub nothing_goes_on : (formula : Formula) → MayGoOn formula []
@@ -115,7 +82,7 @@ pub closed_by : (formula : Formula) (lines : List LogLine) (line : LogLine) → 
 closed_by formula lines line goes good empty = record {
   derived = derived_more formula lines line goes.derived good;
   closed =
-      ap (list_any is_empty) (map-append (λ (l : LogLine). l.clause) lines (line ∷ []))
+      ap (list_any is_empty) (clauses_more lines line)
       ∙ (list_any-append is_empty (clauses_of lines) (line.clause ∷ [])
       ∙ (ap (λ b. b || (is_empty line.clause || false)) goes.unclosed ∙ ap (λ b. b || false) empty));
 }

@@ -1,10 +1,11 @@
 -- Lines that are written into another log have their numbers there.
 use Rattle.std.proofs.Common.{◌≡◌, ℕ, zero, suc, ◌+◌, ◌-◌, ◌<◌, List, [], ◌∷◌, ◌++◌, length, Option, None, Some, slice_index_or, slice_set, replicate, inl, inr, refl, sym, ◌∙◌, ap, subst, arith}
 use Rattle.std.proofs.lemmas.Bool.{cases_eq}
-use Rattle.std.proofs.lemmas.List.{get_or_append_left, get_or-append-add, get_or-map, get_or-set_same, get_or-set_other, length-append, length-map, map-append}
+use Rattle.std.proofs.lemmas.List.{get_or_append_left, get_or-append-add, get_or-map, get_or-set_same, get_or-set_other, length-append, length-map}
 use Rattle.cnf_core.specs.declared.log.LogLine.{LogLine}
 use Rattle.cnf_core.specs.Clauses.{clause_at}
 use Rattle.cnf_core.specs.Derivations.{clauses_of}
+use Rattle.cnf_core.proofs.LineLemmas.{clauses_more}
 use Rattle.log_parts.specs.Parts.{ArePlaced, IsThere}
 
 -- a line is where it was when another is written
@@ -13,7 +14,7 @@ still_there count source target own place number is = record {
   late = is.late;
   there = omega (arith, is.there, length-append target (own ∷ []));
   same =
-      ap (λ cs. clause_at cs (number - count)) (map-append (λ (l : LogLine). l.clause) target (own ∷ []))
+      ap (λ cs. clause_at cs (number - count)) (clauses_more target own)
       ∙ (get_or_append_left (clauses_of target) (own.clause ∷ []) [] (number - count) (omega (arith, is.there, length-map target (λ (l : LogLine). l.clause))) ∙ is.same);
 }
 
@@ -25,7 +26,7 @@ written count source target own place same =
       late = omega arith;
       there = omega (arith, length-append target (own ∷ []));
       same =
-          ap (λ cs. clause_at cs (count + length target - count)) (map-append (λ (l : LogLine). l.clause) target (own ∷ []))
+          ap (λ cs. clause_at cs (count + length target - count)) (clauses_more target own)
           ∙ (ap (clause_at (clauses_of target ++ own.clause ∷ [])) at ∙ (get_or-append-add (clauses_of target) (own.clause ∷ []) 0 [] ∙ same));
     }
 

@@ -64,6 +64,7 @@ gates_begin variable (gate ∷ gates) rest few below =
       record {
         delta = big - small;
         read = record { groups = second; spelled = refl; value = in_groups 4 (big - small) (omega (arith, few_after, here, top_is)); short = few_groups 4 (big - small) };
+        above = omega arith;
         operand = omega (arith, small_enough);
       },
       gates_begin (variable + 1) gates rest (omega (arith, few_after)) (λ t d h. let e : variable + 1 + t ≡ variable + suc t = omega arith in rw e (below (suc t) d (omega (arith, h)))),

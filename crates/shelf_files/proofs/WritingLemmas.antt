@@ -1,9 +1,9 @@
 -- First parts of a text that is written in pieces.
-use Rattle.std.proofs.Common.{◌≡◌, ◌⊎◌, ℕ, ◌+◌, ◌≤◌, min, inl, inr, Bool, IsTrue, List, [], ◌++◌, length, take, drop, Option, Some, Result, Ok, Err, OnOk, OnErr, refl, sym, ◌∙◌, ap, subst, arith, append_assoc}
+use Rattle.std.proofs.Common.{◌≡◌, ℕ, ◌+◌, ◌≤◌, min, inl, inr, Bool, IsTrue, List, [], ◌++◌, length, take, drop, Option, Some, Result, Ok, Err, OnOk, OnErr, refl, sym, ◌∙◌, ap, subst, arith, append_assoc}
 use Rattle.std.specs.List.{between}
 use Rattle.std.specs.Result.{IsErrAnd}
 use Rattle.std.proofs.lemmas.List.{append-nil, length-take-le, take-append-drop, take-take, take_all, take_at, take-append-le, take_min, drop-append-le, drop-take, drop_at}
-use Rattle.std.proofs.lemmas.Result.{err_from_is_err_and}
+use Rattle.std.proofs.lemmas.Result.{err_from_is_err_and, on_ok_weaker, on_err_weaker}
 use Rattle.std.proofs.lemmas.Slice.{between_is}
 use Rattle.shelf_files.specs.Files.{HoldsFirst, WritesFile, WritesOn}
 use Rattle.shelf_core.proofs.FaultLemmas.{rose_later}
@@ -15,6 +15,15 @@ use Rattle.shelf_core.specs.declared.outside.ShelfStop.TheVariants.{Memory}
 -- what is so of the refusal that `?` hands on
 handed : {X : Type 0} (P : Result X ShelfStop → Type 0) (stop : ShelfStop) (result : Result X ShelfStop) → IsErrAnd result (λ e. e ≡ stop) → P (Err stop) → P result
 handed {X} P stop result is so = let err = err_from_is_err_and result is in subst P (sym (err.1 ∙ ap Err err.2)) so
+
+-- what is so whatever the answer is
+on_ok_always : {P : Type 0} (result : Result (Unit {0}) ShelfStop) → P → OnOk result P
+on_ok_always {P} (Ok done) p = p
+on_ok_always {P} (Err stop) p = tt
+
+on_err_always : {P : Type 0} (result : Result (Unit {0}) ShelfStop) → P → OnErr result P
+on_err_always {P} (Ok done) p = tt
+on_err_always {P} (Err stop) p = p
 
 take_plus : (m k : ℕ) (xs : List ℕ) → take (m + k) xs ≡ take m xs ++ take k (drop m xs)
 take_plus m k xs =
@@ -38,24 +47,14 @@ whole_first text content is = (length text, is ∙ ap Some (sym (take_all (lengt
 pub written_one : (tells : Bool) (piece left : List ℕ) (old new : ShelfState) (result : Result (Unit {0}) ShelfStop)
     → Appends tells piece old new result
     → WritesOn tells (piece ++ left) left old new result
-written_one tells piece left old new (Ok done) appends = record {
+written_one tells piece left old new result appends = record {
   others = λ t n other. appends.others n other;
   writing = appends.mode;
   named = appends.named;
-  whole = λ t there is. (piece, refl, appends.whole t ∙ ap (λ content. grown content piece) is);
-  part = λ t there is. tt;
-  faults = appends.faults;
-  failed = appends.failed;
-}
-written_one tells piece left old new (Err stop) appends = record {
-  others = λ t n other. appends.others n other;
-  writing = appends.mode;
-  named = appends.named;
-  whole = λ t there is. tt;
-  part = λ t there is.
-      let k = (appends.part t).0 in
-      let first = first_of piece left k in
-      (first.0, (appends.part t).1 ∙ (ap (λ content. grown content (take k piece)) is ∙ ap (λ bytes. Some (there ++ bytes)) first.1));
+  whole = λ t there is. on_ok_weaker result (λ grows. (piece, refl, grows ∙ ap (λ content. grown content piece) is)) (appends.whole t);
+  part = λ t there is. on_err_weaker result
+      (λ (k, grows). let first = first_of piece left k in (first.0, grows ∙ (ap (λ content. grown content (take k piece)) is ∙ ap (λ bytes. Some (there ++ bytes)) first.1)))
+      (appends.part t);
   faults = appends.faults;
   failed = appends.failed;
 }
@@ -69,38 +68,32 @@ written_then tells pending middle left old now new result first then = record {
   others = λ t n other. then.others t n (λ e. other (e ∙ first.named)) ∙ first.others t n other;
   writing = then.writing;
   named = then.named ∙ first.named;
-  whole = λ t there is. whole t there is result then;
-  part = λ t there is. part t there is result then;
+  whole = λ t there is.
+      let one = held t there is in
+      on_ok_weaker result
+      (λ two. (
+        one.0 ++ two.0,
+        one.1 ∙ (ap (λ bytes. one.0 ++ bytes) two.1 ∙ sym (append_assoc one.0 two.0 left)),
+        ap new.held (sym first.named) ∙ (two.2 ∙ ap Some (append_assoc there one.0 two.0)),
+      ))
+      (then.whole t (there ++ one.0) one.2);
+  part = λ t there is.
+      let one = held t there is in
+      on_err_weaker result
+      (λ two. (
+        length one.0 + two.0,
+        ap new.held (sym first.named)
+            ∙ (two.1
+            ∙ ap Some (append_assoc there one.0 (take two.0 middle)
+            ∙ ap (λ bytes. there ++ bytes) (first_after one.0 middle two.0 ∙ ap (take (length one.0 + two.0)) (sym one.1)))),
+      ))
+      (then.part t (there ++ one.0) one.2);
   faults = omega (arith, first.faults, then.faults);
   failed = λ e. rose_later old.faults now.faults new.faults first.faults then.faults (then.failed e);
 }
   where
     held : IsTrue tells → (there : List ℕ) (is : old.held old.name ≡ Some there) → (piece : List ℕ) × (pending ≡ piece ++ middle) × (now.held now.name ≡ Some (there ++ piece))
     held t there is = let one = first.whole t there is in (one.0, one.1, ap now.held first.named ∙ one.2)
-
-    whole : IsTrue tells → (there : List ℕ) → old.held old.name ≡ Some there → (r : Result (Unit {0}) ShelfStop) → WritesOn tells middle left now new r
-        → OnOk r ((piece : List ℕ) × (pending ≡ piece ++ left) × (new.held old.name ≡ Some (there ++ piece)))
-    whole t there is (Ok x) next =
-        let one = held t there is in
-        let two = next.whole t (there ++ one.0) one.2 in (
-          one.0 ++ two.0,
-          one.1 ∙ (ap (λ bytes. one.0 ++ bytes) two.1 ∙ sym (append_assoc one.0 two.0 left)),
-          ap new.held (sym first.named) ∙ (two.2 ∙ ap Some (append_assoc there one.0 two.0)),
-        )
-    whole t there is (Err stop) next = tt
-
-    part : IsTrue tells → (there : List ℕ) → old.held old.name ≡ Some there → (r : Result (Unit {0}) ShelfStop) → WritesOn tells middle left now new r
-        → OnErr r ((count : ℕ) × (new.held old.name ≡ Some (there ++ take count pending)))
-    part t there is (Ok x) next = tt
-    part t there is (Err stop) next =
-        let one = held t there is in
-        let two = next.part t (there ++ one.0) one.2 in (
-          length one.0 + two.0,
-          ap new.held (sym first.named)
-              ∙ (two.1
-              ∙ ap Some (append_assoc there one.0 (take two.0 middle)
-              ∙ ap (λ bytes. there ++ bytes) (first_after one.0 middle two.0 ∙ ap (take (length one.0 + two.0)) (sym one.1)))),
-        )
 
 -- as much is still to be written in another form
 pub written_as : (tells : Bool) (pending other left : List ℕ) (old new : ShelfState) (result : Result (Unit {0}) ShelfStop)
@@ -113,26 +106,12 @@ written_as tells pending other left old new result is writes = subst (λ bytes. 
 pub written_before : (tells : Bool) (pending left more : List ℕ) (old new : ShelfState) (result : Result (Unit {0}) ShelfStop)
     → WritesOn tells pending left old new result
     → WritesOn tells (pending ++ more) (left ++ more) old new result
-written_before tells pending left more old new (Ok done) writes = record {
+written_before tells pending left more old new result writes = record {
   others = writes.others;
   writing = writes.writing;
   named = writes.named;
-  whole = λ t there is.
-      let one = writes.whole t there is in
-      (one.0, ap (λ bytes. bytes ++ more) one.1 ∙ append_assoc one.0 left more, one.2);
-  part = λ t there is. tt;
-  faults = writes.faults;
-  failed = writes.failed;
-}
-written_before tells pending left more old new (Err stop) writes = record {
-  others = writes.others;
-  writing = writes.writing;
-  named = writes.named;
-  whole = λ t there is. tt;
-  part = λ t there is.
-      let one = writes.part t there is in
-      let first = first_of pending more one.0 in
-      (first.0, one.1 ∙ ap (λ bytes. Some (there ++ bytes)) first.1);
+  whole = λ t there is. on_ok_weaker result (λ one. (one.0, ap (λ bytes. bytes ++ more) one.1 ∙ append_assoc one.0 left more, one.2)) (writes.whole t there is);
+  part = λ t there is. on_err_weaker result (λ one. let first = first_of pending more one.0 in (first.0, one.1 ∙ ap (λ bytes. Some (there ++ bytes)) first.1)) (writes.part t there is);
   faults = writes.faults;
   failed = writes.failed;
 }
@@ -232,8 +211,8 @@ pub closed : (tells : Bool) (name text : List ℕ) (old made full new : ShelfSta
     → WritesFile tells name text old new result
 closed tells name text old made full new result creates writes closes = record {
   others = λ t n other. closes.files n ∙ (writes.others t n (λ e. other (e ∙ creates.named t)) ∙ creates.others n other);
-  whole = λ t. whole t result;
-  part = λ t. part t result;
+  whole = λ t. on_ok_always result (there t);
+  part = λ t. on_err_always result (inr (whole_first text (new.held name) (there t)));
   faults = omega (arith, creates.faults, writes.faults, closes.faults);
   failed = λ e. rose_later old.faults full.faults new.faults (omega (arith, creates.faults, writes.faults)) closes.faults (closes.failed e);
 }
@@ -242,11 +221,3 @@ closed tells name text old made full new result creates writes closes = record {
     there t =
         let all = writes.whole t [] (made_empty tells name old made creates t) in
         closes.files name ∙ (ap full.held (sym (creates.named t)) ∙ (all.2 ∙ ap Some (sym (all.1 ∙ append-nil all.0))))
-
-    whole : IsTrue tells → (r : Result (Unit {0}) ShelfStop) → OnOk r (new.held name ≡ Some text)
-    whole t (Ok x) = there t
-    whole t (Err stop) = tt
-
-    part : IsTrue tells → (r : Result (Unit {0}) ShelfStop) → OnErr r ((new.held name ≡ old.held name) ⊎ HoldsFirst text (new.held name))
-    part t (Ok x) = tt
-    part t (Err stop) = inr (whole_first text (new.held name) (there t))

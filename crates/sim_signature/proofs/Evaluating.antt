@@ -1,18 +1,19 @@
 -- The bits of signals on a vector, gate by gate.
-use Rattle.std.proofs.Common.{ℕ, zero, suc, ◌+◌, ◌<◌, ◌≡◌, ◌&&◌, Bool, false, eqb, List, [], ◌∷◌, length, get_or, replicate, sym, ap, subst, ◌∙◌, inl, inr, arith}
+use Rattle.std.proofs.Common.{ℕ, ◌+◌, ◌<◌, ◌≡◌, ◌&&◌, Bool, false, List, [], ◌∷◌, length, get_or, replicate, take, sym, ap, subst, ◌∙◌, inl, inr, arith}
 use Rattle.std.proofs.lemmas.Bool.{cases_eq}
-use Rattle.std.proofs.lemmas.List.{length-map, get_or-map, get_or-replicate}
-use Rattle.std.proofs.lemmas.Nat.Bits.{bit_at-zero}
+use Rattle.std.proofs.Math.ListN.{get_or-map as get_or_map_default}
+use Rattle.std.proofs.lemmas.List.{length-map, get_or-map, take-map}
 use Rattle.circuits.specs.declared.netlist.Gate.{Gate}
 use Rattle.circuits.specs.declared.netlist.Lit.{Lit}
 use Rattle.circuits.specs.Literals.{bit, differ, is_negated, literal_bit, signal_of}
-use Rattle.circuits.specs.Netlists.{Net, valuation_of}
+use Rattle.circuits.specs.Netlists.{Net, valuation_of, with_gates}
 use Rattle.circuits.proofs.Valuations.{valuation_of-fits}
 use Rattle.net_core.specs.Graph.{IsGraph}
 use Rattle.query_core.specs.Claims.{output_bit}
-use Rattle.word_sim.specs.Columns.{row_of, word_bit, word_of}
-use Rattle.word_sim.proofs.Lanes.{lane-bit}
-use Rattle.sim_signature.specs.Blocks.{Begins, IsEvaluated, IsRunOrKept, IsValuation, bit_of_gate, bit_of_literal, block_after, block_bit, pattern}
+use Rattle.word_sim.specs.Columns.{lane, row_of, with_gate_words, word_bit, word_of}
+use Rattle.word_sim.proofs.DualRail.{no-bit}
+use Rattle.word_sim.proofs.Lanes.{lane-bit, lane-gates}
+use Rattle.sim_signature.specs.Blocks.{IsEvaluated, IsRunOrKept, IsValuation, bit_of_gate, bit_of_literal, block_after, block_bit, pattern}
 
 -- the gate's bit, from bits of its operands
 pub gate-bit : (net : Net) (x : List Bool) (t : ℕ) (bits : ℕ → Bool) (d : Gate) → IsGraph net → length x ≡ net.inputs → t < length net.gates → IsEvaluated net x (1 + net.inputs + t) bits → bit_of_gate bits (get_or net.gates t d) ≡ bit (valuation_of net x) (1 + net.inputs + t)
@@ -32,27 +33,22 @@ IsEvaluated-more net x end bits next others here evaluated s less =
       | inr apart ↦ let before : s < end = grind (arith, less, apart) in others s apart ∙ evaluated s before
     ]
 
--- an input's bit, on the vectors of blocks
-pub pattern-bit : (blocks : List (List ℕ)) (w v i : ℕ) → i < length blocks → block_bit w v (get_or blocks i []) ≡ bit (pattern blocks w v) i
-pattern-bit blocks w v i h =
-    ap (word_bit v) (sym (get_or-map (word_of w) blocks i [] 0 h)) ∙ lane-bit v (row_of blocks w) i
+-- a signal's bit, on the vectors of blocks
+pub pattern-bit : (blocks : List (List ℕ)) (w v s : ℕ) → block_bit w v (get_or blocks s []) ≡ bit (pattern blocks w v) s
+pattern-bit blocks w v s = ap (word_bit v) (sym (get_or_map_default (word_of w) blocks s [])) ∙ lane-bit v (row_of blocks w) s
 
 pub length-pattern : (blocks : List (List ℕ)) (w v : ℕ) → length (pattern blocks w v) ≡ length blocks
 length-pattern blocks w v = length-map (row_of blocks w) (word_bit v) ∙ length-map blocks (word_of w)
 
-pub no-bit : (w v : ℕ) → w < 8 → block_bit w v (replicate 8 0) ≡ false
-no-bit w v h = ap (word_bit v) (get_or-replicate 8 w 0 0 h) ∙ ap (λ n. eqb n 1) (bit_at-zero v)
-
--- before any gate, the inputs have their bits
-pub IsEvaluated-inputs : (net : Net) (inputs blocks : List (List ℕ)) (w v : ℕ) → IsGraph net → length inputs ≡ net.inputs → w < 8 → Begins blocks (replicate 8 0 ∷ inputs) → IsEvaluated net (pattern inputs w v) (1 + net.inputs) (λ s. block_bit w v (get_or blocks s []))
-IsEvaluated-inputs net inputs blocks w v is len h begins zero less =
-    let fits = valuation_of-fits net (pattern inputs w v) is.ordered (length-pattern inputs w v ∙ len) in
-    ap (block_bit w v) (begins 0 (omega arith)) ∙ (no-bit w v h ∙ sym fits.constant)
-IsEvaluated-inputs net inputs blocks w v is len h begins (suc i) less =
-    let fits = valuation_of-fits net (pattern inputs w v) is.ordered (length-pattern inputs w v ∙ len) in
-    let there : i < length inputs = omega (arith, less, len) in
-    let e : 1 + i ≡ suc i = omega arith in
-    ap (block_bit w v) (begins (suc i) (omega (arith, there))) ∙ (pattern-bit inputs w v i there ∙ (sym (fits.inputs i (omega (arith, less))) ∙ ap (bit (valuation_of net (pattern inputs w v))) e))
+-- the blocks that come first, continued by the gates' words, have the bits of all signals
+pub IsValuation-run : (net : Net) (inputs front blocks : List (List ℕ)) (w v : ℕ) → w < 8 → v < 64
+    → take (length inputs + 1) front ≡ replicate 8 0 ∷ inputs
+    → row_of blocks w ≡ with_gate_words (take (length inputs + 1) (row_of front w)) net.gates
+    → IsValuation net (pattern inputs w v) (λ s. block_bit w v (get_or blocks s []))
+IsValuation-run net inputs front blocks w v h l first row s less =
+    let begins = take-map (word_of w) (length inputs + 1) front ∙ ap (λ (blocks : List (List ℕ)). row_of blocks w) first in
+    let bits = lane-gates v (row_of (replicate 8 0 ∷ inputs) w) net.gates l ∙ ap (λ b. with_gates (b ∷ pattern inputs w v) net.gates) (no-bit w v h) in
+    pattern-bit blocks w v s ∙ ap (λ value. bit value s) (ap (lane v) (row ∙ ap (λ words. with_gate_words words net.gates) begins) ∙ bits)
 
 -- the bit of a gate that was evaluated again, or kept since both operands kept theirs
 pub bit-after : (net : Net) (x y : List Bool) (t w v : ℕ) (d : Gate) (before old_after after : List (List ℕ)) (old_marks marks : List Bool) → w < 8 → v < 64 → IsGraph net → length x ≡ net.inputs → length y ≡ net.inputs → t < length net.gates
@@ -77,10 +73,3 @@ pub output-bit : (net : Net) (x : List Bool) (k : ℕ) (bits : ℕ → Bool) →
 output-bit net x k bits is there known =
     let literal : Lit = get_or net.outputs k (record { 0 = 0 }) in
     ap (λ b. differ b (is_negated literal)) (known (signal_of literal) (is.ordered.outputs k (record { 0 = 0 }) there)) ∙ sym (get_or-map (literal_bit (valuation_of net x)) net.outputs k (record { 0 = 0 }) false there)
-
--- a gate's literals, by their signals and signs
-pub bits-of : (bits : ℕ → Bool) (gate : Gate) (s u : ℕ) (m n : Bool) → s ≡ signal_of gate.a → m ≡ is_negated gate.a → u ≡ signal_of gate.b → n ≡ is_negated gate.b → differ (bits s) m && differ (bits u) n ≡ bit_of_gate bits gate
-bits-of bits gate s u m n first sign second other_sign =
-    ap (λ k. differ (bits k) m && differ (bits u) n) first ∙ (ap (λ b. differ (bits (signal_of gate.a)) b && differ (bits u) n) sign
-    ∙ (ap (λ k. bit_of_literal bits gate.a && differ (bits k) n) second
-    ∙ ap (λ b. bit_of_literal bits gate.a && differ (bits (signal_of gate.b)) b) other_sign))

@@ -1,3 +1,4 @@
+mod Adding
 mod Ends
 mod Evaluating
 mod Hunts

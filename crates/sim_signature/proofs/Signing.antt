@@ -1,9 +1,10 @@
 -- Signatures, and what they show.
-use Rattle.std.proofs.Common.{ℕ, zero, suc, ◌+◌, ◌<◌, ◌≤◌, ◌≡◌, ◌↔◌, ◌&&◌, ◌++◌, ◌∷◌, ◌^◌, Bool, true, false, List, [], length, get_or, refl, sym, ap, subst, ◌∙◌, inl, inr, arith}
+use Rattle.std.proofs.Common.{ℕ, ◌+◌, ◌<◌, ◌≤◌, ◌≡◌, ◌↔◌, ◌++◌, ◌∷◌, ◌^◌, Bool, true, false, List, [], length, get_or, sym, ap, subst, ◌∙◌, inl, inr, lit<, arith}
 use Rattle.std.specs.Prelude.{Option, None, Some, IsSome, IfSome}
-use Rattle.std.proofs.lemmas.Bool.{cases_lt, false≢true}
+use Rattle.std.proofs.Math.Nat.{pow-le-pow_right}
+use Rattle.std.proofs.lemmas.Bool.{cases_lt}
 use Rattle.std.proofs.lemmas.List.{length_push, get_or_append_left, get_or_push}
-use Rattle.circuits.specs.Literals.{differ, vector_of}
+use Rattle.circuits.specs.Literals.{vector_of}
 use Rattle.circuits.proofs.Codes.{code_of, code_of-below, vector_of-code_of}
 use Rattle.query_core.specs.declared.claims.Shape.{Shape}
 use Rattle.query_core.specs.Claims.{output_bit, HasValues, BreaksShape, IsPlaced}
@@ -20,19 +21,6 @@ pub place-below : (n : ℕ) (change : Change) → IsChange n change → place_of
 place-below n Nothing there = omega arith
 place-below n (Inverted i) there = omega (arith, there)
 
--- one output more has its block
-pub IsColumn-more : (s : Signed) (change : Change) (column : List (List ℕ)) (block : List ℕ) (done : ℕ) → length column ≡ done
-    → ((k w v : ℕ) → k < done → w < 8 → v < 64 → block_bit w v (get_or column k []) ≡ output_bit s.net (s.first + k) (changed change (pattern s.blocks w v)))
-    → ((w v : ℕ) → w < 8 → v < 64 → block_bit w v block ≡ output_bit s.net (s.first + done) (changed change (pattern s.blocks w v)))
-    → (k w v : ℕ) → k < done + 1 → w < 8 → v < 64 → block_bit w v (get_or (column ++ block ∷ []) k []) ≡ output_bit s.net (s.first + k) (changed change (pattern s.blocks w v))
-IsColumn-more s change column block done end before last k w v less h l =
-    elim (cases_lt k done) [
-      | inl sooner ↦ ap (block_bit w v) (get_or_append_left column (block ∷ []) [] k (omega (arith, sooner, end))) ∙ before k w v sooner h l
-      | inr past ↦
-          let e : done ≡ k = omega (arith, past, less) in
-          ap (block_bit w v) (get_or_push column block [] k (end ∙ e)) ∙ (last w v h l ∙ ap (λ k. output_bit s.net (s.first + k) (changed change (pattern s.blocks w v))) e)
-    ]
-
 -- one input more
 pub AreColumns-more : (s : Signed) (done : ℕ) (columns : List (List (List ℕ))) (column : List (List ℕ)) → AreColumns s done columns → IsColumn s (Inverted done) column → AreColumns s (done + 1) (columns ++ column ∷ [])
 AreColumns-more s done columns column are is = record {
@@ -40,15 +28,15 @@ AreColumns-more s done columns column are is = record {
   each = each;
 }
   where
-    each : (change : Change) → IsChange (done + 1) change → IsColumn s change (get_or (columns ++ column ∷ []) (place_of change) [])
-    each Nothing there =
-        subst (IsColumn s Nothing) (sym (get_or_append_left columns (column ∷ []) [] 0 (omega (arith, are.count)))) (are.each Nothing tt)
-    each (Inverted i) there =
+    each : (change : Change) (d : List (List ℕ)) → IsChange (done + 1) change → IsColumn s change (get_or (columns ++ column ∷ []) (place_of change) d)
+    each Nothing d there =
+        subst (IsColumn s Nothing) (sym (get_or_append_left columns (column ∷ []) d 0 (omega (arith, are.count)))) (are.each Nothing d tt)
+    each (Inverted i) d there =
         elim (cases_lt i done) [
-          | inl sooner ↦ subst (IsColumn s (Inverted i)) (sym (get_or_append_left columns (column ∷ []) [] (1 + i) (omega (arith, are.count, sooner)))) (are.each (Inverted i) sooner)
+          | inl sooner ↦ subst (IsColumn s (Inverted i)) (sym (get_or_append_left columns (column ∷ []) d (1 + i) (omega (arith, are.count, sooner)))) (are.each (Inverted i) d sooner)
           | inr past ↦
               let e : done ≡ i = omega (arith, past, there) in
-              subst (IsColumn s (Inverted i)) (sym (get_or_push columns column [] (1 + i) (are.count ∙ ap (λ n. 1 + n) e))) (subst (λ i. IsColumn s (Inverted i) column) e is)
+              subst (IsColumn s (Inverted i)) (sym (get_or_push columns column d (1 + i) (are.count ∙ ap (λ n. 1 + n) e))) (subst (λ i. IsColumn s (Inverted i) column) e is)
         ]
 
 -- falls between two changes break the shape where the first one has its values
@@ -71,33 +59,12 @@ breaking s k shape from to x found fall len ends falls valued = (
   λ breaks. valued.1 (falls.1 (breaks.before, sym (ap (output_bit s.net k) (ends.opposite x len breaks.values)) ∙ breaks.after), breaks.values),
 )
 
-falling : (a b : Bool) → (differ a false && differ b true ≡ true) ↔ ((a ≡ true) × (b ≡ false))
-falling true true = (λ h. absurd (false≢true h), λ h. absurd (false≢true (sym h.1)))
-falling true false = (λ h. (refl, refl), λ h. refl)
-falling false b = (λ h. absurd (false≢true h), λ h. absurd (false≢true h.0))
-
--- the bit of two blocks where one has a 1 and the other a 0
-pub falls-bit : (found a b one other : Bool) → found ≡ differ a false && differ b true → a ≡ one → b ≡ other → (found ≡ true) ↔ ((one ≡ true) × (other ≡ false))
-falls-bit found a b one other is first second =
-    let said = is ∙ (ap (λ c. differ c false && differ b true) first ∙ ap (λ c. differ one false && differ c true) second) in
-    let both = falling one other in
-    (λ h. both.0 (sym said ∙ h), λ h. said ∙ both.1 h)
-
-below_64 : (n : ℕ) → n ≤ 6 → 2 ^ n ≤ 64
-below_64 zero h = omega arith
-below_64 (suc zero) h = omega arith
-below_64 (suc (suc zero)) h = omega arith
-below_64 (suc (suc (suc zero))) h = omega arith
-below_64 (suc (suc (suc (suc zero)))) h = omega arith
-below_64 (suc (suc (suc (suc (suc zero))))) h = omega arith
-below_64 (suc (suc (suc (suc (suc (suc zero)))))) h = omega arith
-below_64 (suc (suc (suc (suc (suc (suc (suc n))))))) h = absurd (omega arith)
-
 -- at most six inputs have each vector among 64
 pub has-all : (s : Signed) → s.net.inputs ≤ 6 → ((w v : ℕ) → w < 8 → v < 64 → pattern s.blocks w v ≡ vector_of s.net.inputs v) → HasAllVectors s
 has-all s few all x len =
     let code = code_of x in
-    let small : code < 64 = omega (arith, code_of-below x, below_64 s.net.inputs few, ap (λ n. 2 ^ n) len) in
+    let most : 2 ^ s.net.inputs ≤ 2 ^ 6 = pow-le-pow_right {n = 2} (lit< tt) {i = s.net.inputs} {j = 6} few in
+    let small : code < 64 = omega (arith, code_of-below x, most, ap (λ n. 2 ^ n) len) in
     (0, code, omega arith, small, vector_of-code_of x ∙ (ap (λ n. vector_of n code) len ∙ sym (all 0 code (omega arith) small)))
 
 -- where a block's bits stand for vectors that break the shape, one that is found breaks it

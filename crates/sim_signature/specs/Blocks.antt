@@ -14,10 +14,6 @@ block_bit w v block = word_bit v (word_of w block)
 abbrev pub pattern : List (List ℕ) → ℕ → ℕ → List Bool
 pattern blocks w v = lane v (row_of blocks w)
 
--- a list begins with another
-abbrev pub Begins : List (List ℕ) → List (List ℕ) → Type 0
-Begins blocks front = (s : ℕ) → s < length front → slice_index_or blocks s [] ≡ slice_index_or front s []
-
 -- a signal's block after a change: another one where the signal is marked
 abbrev pub block_after : List (List ℕ) → List (List ℕ) → List Bool → ℕ → List ℕ
 block_after before after marks s = if bit marks s then slice_index_or after s [] else slice_index_or before s []

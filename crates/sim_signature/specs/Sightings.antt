@@ -1,5 +1,5 @@
 -- Vectors that were seen to break claims of an output.
-use Rattle.std.specs.Prelude.{◌≡◌, ◌⊎◌, ℕ, ◌<◌, Bool, true, List, All, Any, Contains}
+use Rattle.std.specs.Prelude.{◌≡◌, ◌⊎◌, ℕ, Bool, true, List, length, All, Any, Contains}
 use Rattle.circuits.specs.Literals.{bit}
 use Rattle.circuits.specs.Netlists.{Net}
 use Rattle.query_core.specs.declared.claims.Shape.{Shape}
@@ -23,43 +23,34 @@ IsSighted shape sightings = Any (λ sighting. sighting.shape ≡ shape) sighting
 abbrev pub AreLeft : List Shape → List Sighting → List Shape → Type 0
 AreLeft claims sightings left = (shape : Shape) → Contains claims shape → Contains left shape ⊎ IsSighted shape sightings
 
--- Sightings are added: where all vectors were tried, each shape among those hunted that some vector breaks is sighted.
-pub record Hunted (s : Signed) (k : ℕ) (Among : Shape → Type 0) (old new : List Sighting) : Type 0 where
-  pub broken : AreBroken s.net k old → AreBroken s.net k new
-  pub kept : (shape : Shape) → IsSighted shape old → IsSighted shape new
-  pub found : HasAllVectors s → (shape : Shape) → Among shape → ShapeFails s.net k shape → IsSighted shape new
+-- Elements are added to a list: good ones, and the list still has those shapes that it had, and has all that are wanted.
+pub record Adds {X : Type 0} (Good : X → Type 0) (Has : List X → Shape → Type 0) (Wanted : Shape → Type 0) (old new : List X) : Type 0 where
+  pub good : All Good old → All Good new
+  pub kept : (shape : Shape) → Has old shape → Has new shape
+  pub found : (shape : Shape) → Wanted shape → Has new shape
 
--- the shape is of one input, or of two of which it is the first
-abbrev pub IsOfInput : ℕ → Shape → Type 0
-IsOfInput i (Up j) = j ≡ i
-IsOfInput i (Down j) = j ≡ i
-IsOfInput i (Swap j other a b) = ⊥
+-- sightings are added: where all vectors were tried, each shape among those hunted that some vector breaks is sighted
+abbrev pub Hunted : Signed → ℕ → (Shape → Type 0) → List Sighting → List Sighting → Type 0
+Hunted s k Among old new = Adds (IsBroken s.net k) (λ sightings shape. IsSighted shape sightings)
+    (λ shape. Among shape × HasAllVectors s × ShapeFails s.net k shape) old new
 
-abbrev pub IsOfPair : ℕ → ℕ → Shape → Type 0
-IsOfPair i j (Up other) = ⊥
-IsOfPair i j (Down other) = ⊥
-IsOfPair i j (Swap first second a b) = (first ≡ i) × (second ≡ j)
+-- the first and the last input of a shape
+abbrev pub first_of : Shape → ℕ
+first_of (Up i) = i
+first_of (Down i) = i
+first_of (Swap i j a b) = i
 
--- the shape swaps input i with one after it, below `end`
-abbrev pub IsOfPairBelow : ℕ → ℕ → Shape → Type 0
-IsOfPairBelow i end (Up other) = ⊥
-IsOfPairBelow i end (Down other) = ⊥
-IsOfPairBelow i end (Swap first second a b) = (first ≡ i) × (i < second) × (second < end)
+abbrev pub last_of : Shape → ℕ
+last_of (Up i) = i
+last_of (Down i) = i
+last_of (Swap i j a b) = j
 
--- the shape's first input is below `end`
-abbrev pub IsOfInputsBelow : ℕ → Shape → Type 0
-IsOfInputsBelow end (Up i) = i < end
-IsOfInputsBelow end (Down i) = i < end
-IsOfInputsBelow end (Swap i j a b) = i < end
+-- The inputs of a shape are there, and are marked.
+pub record IsHunted (hunted : List Bool) (shape : Shape) : Type 0 where
+  pub placed : IsPlaced (length hunted) shape
+  pub first : bit hunted (first_of shape) ≡ true
+  pub last : bit hunted (last_of shape) ≡ true
 
--- the inputs of a shape, which is placed, are marked
-abbrev pub AreHunted : List Bool → Shape → Type 0
-AreHunted hunted (Up i) = bit hunted i ≡ true
-AreHunted hunted (Down i) = bit hunted i ≡ true
-AreHunted hunted (Swap i j a b) = (i < j) × (bit hunted i ≡ true) × (bit hunted j ≡ true)
-
--- Shapes whose inputs are there are added, and among them are those that are wanted.
-pub record Added (n : ℕ) (Wanted : Shape → Type 0) (old new : List Shape) : Type 0 where
-  pub placed : All (IsPlaced n) old → All (IsPlaced n) new
-  pub kept : (shape : Shape) → Contains old shape → Contains new shape
-  pub found : (shape : Shape) → Wanted shape → Contains new shape
+-- shapes whose inputs are there are added, and among them are those that are wanted
+abbrev pub Added : ℕ → (Shape → Type 0) → List Shape → List Shape → Type 0
+Added n Wanted old new = Adds (IsPlaced n) (λ shapes shape. Contains shapes shape) Wanted old new

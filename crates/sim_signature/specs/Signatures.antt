@@ -1,6 +1,7 @@
 -- What outputs are on 512 vectors, and on these with one input inverted (signatures, as in papers on simulation in logic
 -- synthesis).
-use Rattle.std.specs.Prelude.{◌≡◌, ℕ, ◌+◌, ◌<◌, ◌≤◌, ◌⊎◌, Bool, true, List, [], length, slice_index_or}
+use Rattle.std.specs.Prelude.{◌≡◌, ℕ, ◌+◌, ◌<◌, ◌≤◌, ◌⊎◌, Bool, true, List, length, slice_index_or}
+use Rattle.circuits.specs.Literals.{EachAt}
 use Rattle.circuits.specs.Netlists.{Net}
 use Rattle.net_core.specs.Graph.{IsGraph}
 use Rattle.query_core.specs.declared.claims.Shape.{Shape}
@@ -38,11 +39,15 @@ abbrev pub IsOneOf : List (List ℕ) → List ℕ → Change → List Bool → T
 IsOneOf blocks lanes change x = (w : ℕ) × (v : ℕ) × (w < 8) × (v < 64) × (block_bit w v lanes ≡ true)
     × (x ≡ changed change (pattern blocks w v))
 
+-- an output's block where the vectors are changed
+abbrev pub IsBlock : Signed → Change → ℕ → List ℕ → Type 0
+IsBlock s change k block = (w v : ℕ) → w < 8 → v < 64
+    → block_bit w v block ≡ output_bit s.net (s.first + k) (changed change (pattern s.blocks w v))
+
 -- The outputs' blocks where the vectors are changed.
 pub record IsColumn (s : Signed) (change : Change) (column : List (List ℕ)) : Type 0 where
   pub count : length column ≡ s.count
-  pub bits : (k w v : ℕ) → k < s.count → w < 8 → v < 64
-      → block_bit w v (slice_index_or column k []) ≡ output_bit s.net (s.first + k) (changed change (pattern s.blocks w v))
+  pub bits : EachAt (IsBlock s change) column
 
 -- the place of a change's column
 abbrev pub place_of : Change → ℕ
@@ -52,7 +57,7 @@ place_of (Inverted i) = 1 + i
 -- A column for the vectors as they are, and one for each of the first inputs inverted.
 pub record AreColumns (s : Signed) (done : ℕ) (columns : List (List (List ℕ))) : Type 0 where
   pub count : length columns ≡ 1 + done
-  pub each : (change : Change) → IsChange done change → IsColumn s change (slice_index_or columns (place_of change) [])
+  pub each : (change : Change) (d : List (List ℕ)) → IsChange done change → IsColumn s change (slice_index_or columns (place_of change) d)
 
 -- The outputs are there, and there is a column for each input.
 pub record AreSigned (s : Signed) (columns : List (List (List ℕ))) : Type 0 where

@@ -1,7 +1,8 @@
 //! The claims that are hunted.
 
-ghost use Rattle.std.specs.Prelude.{ℕ, ◌<◌, ◌^◌, ◌⊎◌, [], length, IfOk, OnOk};
-ghost use Rattle.sim_signature.specs.Sightings.{Added, AreHunted, IsOfInput, IsOfPair, IsOfPairBelow};
+ghost use Rattle.std.specs.Prelude.{ℕ, ◌≡◌, ◌<◌, ◌^◌, [], length, IfOk, OnOk};
+ghost use Rattle.query_core.specs.Claims.{IsPlaced};
+ghost use Rattle.sim_signature.specs.Sightings.{Added, IsHunted, first_of, last_of};
 
 use query_core::Shape;
 use std::alloc::{AllocError, Global};
@@ -13,7 +14,7 @@ use std::alloc::{AllocError, Global};
 /// Only when out of memory.
 pub(crate) fn claims(alloc: Global, hunted: &[bool]) -> Result<Vec<Shape>, AllocError>
     requires { length hunted.now < 2 ^ 32 }
-    ensures { IfOk result (λ shapes. Added (length hunted.now) (AreHunted hunted.now) [] shapes.items) }
+    ensures { IfOk result (λ shapes. Added (length hunted.now) (IsHunted hunted.now) [] shapes.items) }
 {
     let mut shapes = Vec::new(alloc);
     for i in 0..hunted.len() {
@@ -24,12 +25,11 @@ pub(crate) fn claims(alloc: Global, hunted: &[bool]) -> Result<Vec<Shape>, Alloc
     Ok(shapes)
 }
 
-/// Adds the claims about an input, and about it and a marked one after it.
+/// Adds the claims about an input that is marked, and about it and a marked one after it.
 fn add_claims(i: u32, hunted: &[bool], shapes: &mut Vec<Shape>) -> Result<(), AllocError>
     requires count { length hunted.now < 2 ^ 32 }
     requires input { i < length hunted.now }
-    ensures { OnOk result (Added (length hunted.now)
-        (λ shape. IsOfInput i shape ⊎ (IsOfPairBelow i (length hunted.now) shape × AreHunted hunted.now shape))
+    ensures { OnOk result (Added (length hunted.now) (λ shape. IsHunted hunted.now shape × (first_of shape ≡ i))
         shapes.old.items shapes.new.items) }
 {
     shapes.extend_from_slice(&[Shape::Up(i), Shape::Down(i)])?;
@@ -44,7 +44,9 @@ fn add_claims(i: u32, hunted: &[bool], shapes: &mut Vec<Shape>) -> Result<(), Al
 /// Adds the four claims about two inputs.
 fn add_swaps(i: u32, j: u32, shapes: &mut Vec<Shape>) -> Result<(), AllocError>
     requires { i < j }
-    ensures { OnOk result ((n : ℕ) → j < n → Added n (IsOfPair i j) shapes.old.items shapes.new.items) }
+    ensures { OnOk result ((n : ℕ) → j < n
+        → Added n (λ shape. IsPlaced n shape × (first_of shape ≡ i) × (last_of shape ≡ j))
+        shapes.old.items shapes.new.items) }
 {
     shapes.extend_from_slice(&[
         Shape::Swap {

@@ -1,14 +1,14 @@
 //! The gates of a circuit on 512 vectors, and on these with an input inverted.
 
-ghost use Rattle.std.specs.Prelude.{◌≡◌, ◌≢◌, ◌+◌, ◌<◌, ◌≤◌, ◌∷◌, ◌||◌, [], ℕ, Bool, false, not, List, length, replicate, slice_index_or};
-ghost use Rattle.circuits.specs.Literals.{bit, differ, signal_of};
+ghost use Rattle.std.specs.Prelude.{◌≡◌, ◌≢◌, ◌+◌, ◌<◌, ◌≤◌, ◌∷◌, ◌||◌, [], ℕ, Bool, false, not, List, length, replicate, slice_index_or, take};
+ghost use Rattle.circuits.specs.Literals.{bit, signal_of};
 ghost use Rattle.circuits.specs.Netlists.{signals_of};
 ghost use Rattle.query_core.specs.Claims.{with_input};
-ghost use Rattle.sim_signature.specs.Blocks.{AreSimulated, Begins, IsEvaluated, IsFlipped, IsRunOrKept, IsValuation, bit_of_gate, block_after as the_block_after, block_bit, pattern};
+ghost use Rattle.sim_signature.specs.Blocks.{AreSimulated, IsEvaluated, IsFlipped, IsRunOrKept, IsValuation, bit_of_gate, block_after as the_block_after, block_bit, pattern};
 
 use net_core::{Gate, Graph};
 use std::simd::prelude::*;
-use word_sim::and_lanes;
+use word_sim::{and_lanes, run_gate_blocks, signed_lanes};
 
 /// Gives each signal its block where the inputs have these.
 pub(crate) fn evaluate(graph: &Graph, inputs: &[u64x8], blocks: &mut [u64x8])
@@ -17,53 +17,21 @@ pub(crate) fn evaluate(graph: &Graph, inputs: &[u64x8], blocks: &mut [u64x8])
     ensures simulated { AreSimulated graph.now inputs.now blocks.new }
     ensures room { length blocks.new ≡ length blocks.old }
 {
+    let gates = graph.gates();
     put_inputs(inputs, blocks);
-    run_gates(graph, blocks);
+    run_gate_blocks(gates, inputs.len() + 1, blocks);
 }
 
 /// Writes the blocks of the constant and of the inputs, which come first.
 fn put_inputs(inputs: &[u64x8], blocks: &mut [u64x8])
     requires { length inputs.now < length blocks.old }
-    ensures blocks { Begins blocks.new (replicate 8 0 ∷ inputs.now) }
+    ensures blocks { take (length inputs.now + 1) blocks.new ≡ replicate 8 0 ∷ inputs.now }
     ensures room { length blocks.new ≡ length blocks.old }
 {
     blocks[0] = u64x8::splat(0);
     for (i, block) in inputs.iter().enumerate() {
         blocks[i + 1] = *block;
     }
-}
-
-/// Gives each gate its block, in order.
-fn run_gates(graph: &Graph, blocks: &mut [u64x8])
-    requires room { length blocks.old ≡ signals_of graph.now }
-    ensures blocks { (w v : ℕ) (inputs : List (List ℕ)) → w < 8 → v < 64
-        → length inputs ≡ graph.now.inputs
-        → Begins blocks.old (replicate 8 0 ∷ inputs)
-        → IsValuation graph.now (pattern inputs w v) (λ s. block_bit w v (slice_index_or blocks.new s [])) }
-    ensures room { length blocks.new ≡ length blocks.old }
-{
-    let gates = graph.gates();
-    let first = graph.inputs() as usize + 1;
-    for t in 0..gates.len() {
-        let block = gate_of(blocks, gates[t]);
-        blocks[first + t] = block;
-    }
-}
-
-/// The gate's block where each signal has the block that `blocks` gives it.
-#[inline(always)]
-fn gate_of(blocks: &[u64x8], gate: Gate) -> u64x8
-    requires first_operand { signal_of gate.a < length blocks.now }
-    requires second_operand { signal_of gate.b < length blocks.now }
-    ensures { (w v : ℕ) → w < 8 → v < 64
-        → block_bit w v result ≡ bit_of_gate (λ s. block_bit w v (slice_index_or blocks.now s [])) gate }
-{
-    and_lanes(
-        blocks[gate.a.signal() as usize],
-        gate.a.is_negated(),
-        blocks[gate.b.signal() as usize],
-        gate.b.is_negated(),
-    )
 }
 
 /// Gives each signal that an inverted input reaches another block in `after`, and marks these signals alone; no other gate is
@@ -115,16 +83,8 @@ fn flip(inputs: &[u64x8], input: u32, after: &mut [u64x8], marks: &mut [bool])
     ensures marks_room { length marks.new ≡ length marks.old }
 {
     let signal = input as usize + 1;
-    after[signal] = signed(inputs[input as usize], true);
+    after[signal] = signed_lanes(inputs[input as usize], true);
     marks[signal] = true;
-}
-
-/// All bits of a block, inverted where the flag says so.
-#[inline(always)]
-pub(crate) fn signed(block: u64x8, negated: bool) -> u64x8
-    ensures { (w v : ℕ) → w < 8 → v < 64 → block_bit w v result ≡ differ (block_bit w v block) negated }
-{
-    and_lanes(block, negated, block, negated)
 }
 
 /// Gives each gate that a marked input reaches another block, in order, and marks these gates alone.

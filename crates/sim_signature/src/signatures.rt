@@ -19,7 +19,6 @@ use rand_pcg::Pcg32;
 use std::alloc::{AllocError, Global};
 use std::marker::Model;
 use std::simd::prelude::*;
-use word_sim::and_lanes;
 
 /// What some outputs of a circuit are on 512 vectors, and on these with each input inverted in turn: their signatures, by
 /// which claims about them are seen broken.
@@ -122,8 +121,9 @@ impl<'a> Signatures<'a> {
     ) -> Result<Signatures<'a>, AllocError>
         requires inputs { length inputs.items ≡ graph.now.inputs }
         requires there { first + count ≤ length graph.now.outputs }
-        ensures { IfOk result (λ signatures. signatures
+        ensures is { IfOk result (λ signatures. signatures
             ≡ record { net = graph.now; first = first; count = count; blocks = inputs.items }) }
+        ensures of { IfOk result (AreOf graph.now first count) }
     {
         let columns = columns(alloc, graph, &inputs, first, count)?;
         Ok(Signatures {
@@ -201,23 +201,11 @@ impl<'a> Signatures<'a> {
         ensures { (w v : ℕ) → w < 8 → v < 64 → (block_bit w v result ≡ true
             ↔ BreaksShape self.now.net output shape (changed from (pattern self.now.blocks w v))) }
     {
-        let falls = self.falls(output, from, to);
-        having(&self.inputs, falls, shape, from)
-    }
-
-    /// The vectors on which an output is 1 by one change, and 0 by another one.
-    fn falls(&self, output: u32, from: Change, to: Change) -> u64x8
-        requires covers { Covers self.now output }
-        requires from { IsChange self.now.net.inputs from }
-        requires to { IsChange self.now.net.inputs to }
-        ensures inputs { length self.now.blocks ≡ self.now.net.inputs }
-        ensures falls { (w v : ℕ) → w < 8 → v < 64 → (block_bit w v result ≡ true
-            ↔ ((output_bit self.now.net output (changed from (pattern self.now.blocks w v)) ≡ true)
-            × (output_bit self.now.net output (changed to (pattern self.now.blocks w v)) ≡ false))) }
-    {
         let one = self.block(output, from);
         let other = self.block(output, to);
-        and_lanes(one, false, other, true)
+        // on these the output is 1 by one change, and 0 by the other one
+        let falls = picked(one, other, false);
+        having(&self.inputs, falls, shape, from)
     }
 
     /// An output's block on the changed vectors.

@@ -9,11 +9,12 @@ ghost use Rattle.sim_signature.specs.Changes.{changed};
 ghost use Rattle.sim_signature.specs.Blocks.{IsValuation, bit_of_literal, block_after as the_block_after, block_bit, pattern};
 
 use crate::change::Change;
-use crate::gates::{block_after, evaluate, evaluate_inverted, signed};
+use crate::gates::{block_after, evaluate, evaluate_inverted};
 use net_core::{Graph, Lit};
 use std::alloc::{AllocError, Global};
 use std::marker::Model;
 use std::simd::prelude::*;
+use word_sim::signed_lanes;
 
 /// A circuit on 512 vectors, changed: as they are at first, then with one input inverted.
 #[derive(Drop)]
@@ -123,5 +124,5 @@ fn literal_after(before: &[u64x8], after: &[u64x8], marks: &[bool], literal: Lit
         → block_bit w v result ≡ bit_of_literal (λ s. block_bit w v (the_block_after before.now after.now marks.now s)) literal }
 {
     let block = block_after(before, after, marks, literal.signal() as usize);
-    signed(block, literal.is_negated())
+    signed_lanes(block, literal.is_negated())
 }

@@ -1,5 +1,5 @@
 -- What is true on a trail, where the literals of variables stand, and one literal more at the end.
-use Rattle.std.proofs.Common.{◌≡◌, ◌≢◌, ℕ, suc, ◌+◌, ◌/◌, ◌<◌, ◌≤◌, ◌||◌, cond, eqb, Bool, true, false, List, [], ◌∷◌, ◌++◌, length, map, take, drop, All, Option, None, Some, is_none, slice_index_or, slice_set, Vec, vec_capacity, ◌⊎◌, inl, inr, refl, sym, ◌∙◌, ap, subst, arith}
+use Rattle.std.proofs.Common.{◌≡◌, ◌≢◌, ℕ, ◌+◌, ◌/◌, ◌<◌, ◌≤◌, cond, eqb, Bool, true, false, List, [], ◌∷◌, ◌++◌, length, map, take, drop, All, Option, None, Some, is_none, slice_index_or, slice_set, Vec, vec_capacity, ◌⊎◌, inl, inr, refl, sym, ◌∙◌, ap, subst, arith}
 use Rattle.std.specs.List.{list_any}
 use Rattle.std.proofs.lemmas.Bool.{cases_eq, false≢true, false_from_ne_true, eq-eqb, eqb-true, ne_eqb}
 use Rattle.std.proofs.lemmas.Bool.Decides.{eqb_tells, leb_tells}
@@ -14,6 +14,7 @@ use Rattle.std.specs.declared.alloc.Global.{Global}
 use Rattle.cnf_core.specs.declared.literal.SatLit.{SatLit}
 use Rattle.cnf_core.specs.Clauses.{variable_of, opposite}
 use Rattle.cnf_core.specs.Derivations.{is_same, is_true, is_false}
+use Rattle.cnf_core.proofs.LiteralLemmas.{same_literal}
 use Rattle.trail_core.specs.declared.assigned.Assigned.{Assigned}
 use Rattle.trail_core.specs.Trails.{IsTrail, IsPlace, IsFree, Trailing, decisions, entry_at, literals, nothing, value_in}
 use Rattle.trail_core.specs.Places.{IsKept, place_at}
@@ -27,15 +28,10 @@ true_at es j l within same =
 
 -- a true literal stands somewhere
 pub place_of_true : (es : List Assigned) (l : SatLit) → is_true (literals es) l ≡ true → (j : ℕ) × (j < length es) × ((entry_at es j).literal.0 ≡ l.0)
-place_of_true [] l e = absurd (false≢true e)
-place_of_true (x ∷ es) l e =
-    elim (eqb_tells l.0 x.literal.0) [
-      | inl (found, same) ↦ (0, omega arith, sym same)
-      | inr (found, differ) ↦
-          let rest : is_true (literals es) l ≡ true = sym (ap (λ t. t || is_true (literals es) l) found) ∙ e in
-          let there = place_of_true es l rest in
-          (suc there.0, omega (arith, there.1), there.2)
-    ]
+place_of_true es l e =
+    let found = Contains-from_any same_literal l (literals es) e in
+    let within : found.0 < length es = omega (arith, found.1, length-map es (λ (e : Assigned). e.literal)) in
+    (found.0, within, ap (λ (m : SatLit). m.0) (sym (get_or-map (λ (e : Assigned). e.literal) es found.0 nothing l within) ∙ found.2))
 
 -- where no literal has the variable, the literal isn't true
 pub not_true_of : (es : List Assigned) (l : SatLit) → All (λ e. variable_of e.literal ≢ variable_of l) es → is_true (literals es) l ≡ false
@@ -43,20 +39,16 @@ not_true_of es l none =
     false_from_ne_true (is_true (literals es) l) (λ holds. let there = place_of_true es l holds in none there.0 nothing there.1 (ap (λ n. n / 2) there.2))
 
 -- what a value of None says
-first_of_none : (t f : Bool) → cond t (Some true) (cond f (Some false) None) ≡ None → t ≡ false
-first_of_none true f e = absurd (let x : Some true ≡ None = e in cc)
-first_of_none false f e = refl
-
-second_of_none : (t f : Bool) → cond t (Some true) (cond f (Some false) None) ≡ None → f ≡ false
-second_of_none true f e = absurd (let x : Some true ≡ None = e in cc)
-second_of_none false true e = absurd (let x : Some false ≡ None = e in cc)
-second_of_none false false e = refl
+of_none : (t f : Bool) → cond t (Some true) (cond f (Some false) None) ≡ None → (t ≡ false) × (f ≡ false)
+of_none true f e = absurd (let x : Some true ≡ None = e in cc)
+of_none false true e = absurd (let x : Some false ≡ None = e in cc)
+of_none false false e = (refl, refl)
 
 pub not_true : (made : List SatLit) (l : SatLit) → value_in made l ≡ None → is_true made l ≡ false
-not_true made l e = first_of_none (is_true made l) (is_false made l) e
+not_true made l e = (of_none (is_true made l) (is_false made l) e).0
 
 pub not_false : (made : List SatLit) (l : SatLit) → value_in made l ≡ None → is_false made l ≡ false
-not_false made l e = second_of_none (is_true made l) (is_false made l) e
+not_false made l e = (of_none (is_true made l) (is_false made l) e).1
 
 pub value_none : (made : List SatLit) (l : SatLit) → is_true made l ≡ false → is_false made l ≡ false → value_in made l ≡ None
 value_none made l t f = ap (λ b. cond b (Some true) (cond (is_false made l) (Some false) None)) t ∙ ap (λ b. cond b (Some false) None) f
@@ -116,9 +108,6 @@ pub before_or_last : (es : List Assigned) (e : Assigned) (k : ℕ) → k < lengt
 before_or_last es e k within =
     elim (cases_eq k (length es)) [ inl last ↦ inr last | inr other ↦ inl (omega (arith, within, length-append es (e ∷ []), other)) ]
 
-pub decisions_push : (es : List Assigned) (e : Assigned) → decisions (es ++ e ∷ []) ≡ decisions es + cond (is_none e.reason) 1 0
-decisions_push es e = sum_by_push (λ (x : Assigned). cond (is_none x.reason) 1 0) es e
-
 pub decisions_more : (es : List Assigned) (k : ℕ) → k < length es → decisions (take (k + 1) es) ≡ decisions (take k es) + cond (is_none (entry_at es k).reason) 1 0
 decisions_more es k within = sum_by_more (λ (x : Assigned). cond (is_none x.reason) 1 0) es k nothing within
 
@@ -150,7 +139,7 @@ trail_more n es level walked e is known free raised = record {
 }
   where
     whole : e.level ≡ decisions (es ++ e ∷ [])
-    whole = raised ∙ (ap (λ m. m + cond (is_none e.reason) 1 0) is.level ∙ sym (decisions_push es e))
+    whole = raised ∙ (ap (λ m. m + cond (is_none e.reason) 1 0) is.level ∙ sym (sum_by_push (λ (x : Assigned). cond (is_none x.reason) 1 0) es e))
 
 -- at most as many literals are assigned as there are variables
 pub at_most : (t : Trailing) → IsTrail t → length t.entries ≤ t.variables

@@ -14,6 +14,7 @@ use Rattle.watch_lists.specs.Feet.{ArePair, IsSettled}
 use Rattle.watch_lists.specs.Propagations.{AreKnown, IsGrown, IsSound}
 use Rattle.watch_lists.specs.Threads.{ArePut, AreThreaded, IsAttached, IsIn, IsOnce, head_at, links, list_of, literal_at, no_head, no_watch, partner, watch_at}
 use Rattle.watch_lists.specs.Watched.{AreKept, Fits, IsHeld, IsPresent, Watching, loose_watch, with_clause}
+use Rattle.watch_lists.proofs.FitLemmas.{held_further}
 use Rattle.watch_lists.proofs.GrowLemmas.{present_more, sound_more}
 use Rattle.watch_lists.proofs.PassLemmas.{grown_none}
 use Rattle.watch_lists.proofs.ThreadLemmas.{partner_within, put_before, put_other}
@@ -202,13 +203,8 @@ fits_grown watching old new e fits few is = subst (Fits watching) (sym is) (reco
       let before : j < length old.entries = omega (arith, early, few) in
       let same = get_or_append_left old.entries (e ∷ []) nothing j before in
       let held = fits.watched s within attached j early before (sym (ap (λ (x : Assigned). x.literal.0) same) ∙ at) in
-      let there = get_or_append_left old.entries (e ∷ []) nothing held.at held.within in
-      record {
-        at = held.at;
-        within = omega (arith, held.within, length-append old.entries (e ∷ []));
-        is = ap (λ (x : Assigned). x.literal.0) there ∙ held.is;
-        low = omega (arith, held.low, ap (λ (x : Assigned). x.level) there, ap (λ (x : Assigned). x.level) same);
-      };
+      let other = literal_at watching.watches (partner s) in
+      subst (IsHeld (old.entries ++ e ∷ []) other) (sym (ap (λ (x : Assigned). x.level) same)) (held_further old.entries (e ∷ []) other (entry_at old.entries j).level held);
 })
 
 pub fits_settled : (watching : Watching) (old new : Trailing) (clause : List SatLit) (id : ℕ) → Fits watching old → old.walked ≤ length old.entries → IsSettled old new clause id → Fits watching new

@@ -20,9 +20,6 @@ use Rattle.watch_lists.proofs.ThreadLemmas.{attached_before, partner_twice, part
 
 -- ---- values on a trail
 
-false_at : (es : List Assigned) (j : ℕ) (l : SatLit) → j < length es → (entry_at es j).literal.0 ≡ (opposite l).0 → is_false (literals es) l ≡ true
-false_at es j l within same = true_at es j (opposite l) within same
-
 -- no literal is true and false
 pub consistent : (t : Trailing) → IsTrail t → (l : SatLit) → is_true (literals t.entries) l ≡ true → is_false (literals t.entries) l ≡ true → ⊥
 consistent t trail l holds fails =
@@ -43,7 +40,7 @@ held_here t trail l holds =
     let j = place_of_true t.entries l holds in
     record { at = j.0; within = j.1; is = j.2; low = low_level t trail j.0 j.1 }
 
-held_further : (es more : List Assigned) (l : SatLit) (level : ℕ) → IsHeld es l level → IsHeld (es ++ more) l level
+pub held_further : (es more : List Assigned) (l : SatLit) (level : ℕ) → IsHeld es l level → IsHeld (es ++ more) l level
 held_further es more l level held = record {
   at = held.at;
   within = omega (arith, held.within, length-append es more);
@@ -217,10 +214,10 @@ moved clauses ws hs t f l s out is low beside = record {
     before k other attached = attached_before ws s k w out_there other (is.threaded.out_nowhere s (inl refl)).attached attached
 
     not_false : (j : ℕ) → j < length t.entries → (entry_at t.entries j).literal.0 ≡ (opposite l).0 → ⊥
-    not_false j inside at = both_ways (is_false (literals t.entries) l) beside.not_false (false_at t.entries j l inside at)
+    not_false j inside at = both_ways (is_false (literals t.entries) l) beside.not_false (true_at t.entries j (opposite l) inside at)
 
     f_false : is_false (literals t.entries) f ≡ true
-    f_false = false_at t.entries t.walked f is.there is.falsity
+    f_false = true_at t.entries t.walked (opposite f) is.there is.falsity
 
 -- the literal of the list is known
 pub f_known : (clauses : List (List SatLit)) (ws : List Watch) (hs : List Head) (t : Trailing) (f : SatLit) (s : ℕ) (out : List ℕ) → IsWalking clauses ws hs t f (s ∷ out) → f.0 < length hs
@@ -286,7 +283,7 @@ half_false clauses ws hs t f s out is =
     record {
       falsified = f;
       there = ap (is_true (clause_at clauses (s / 2))) (sym (is.left_watch s (inl refl))) ∙ is.of_clauses.of s front.within front.attached;
-      fails = false_at t.entries t.walked f is.there is.falsity;
+      fails = true_at t.entries t.walked (opposite f) is.there is.falsity;
       differs = partner_differs clauses ws hs t f s out is;
       other_there = other_there clauses ws hs t f s out is;
     }

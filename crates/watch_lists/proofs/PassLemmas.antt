@@ -1,6 +1,6 @@
 -- The list of a literal is walked from its first watch to its last, and one literal after the other.
-use Rattle.std.proofs.Common.{◌≡◌, ℕ, ◌+◌, ◌-◌, ◌*◌, ◌/◌, ◌%◌, ◌<◌, true, false, List, [], ◌∷◌, length, slice_set, Option, None, Some, IfNone, is_some, inl, inr, refl, sym, ◌∙◌, ap, subst, arith}
-use Rattle.std.proofs.lemmas.Bool.{cases_Bool, cases_eq, false≢true}
+use Rattle.std.proofs.Common.{◌≡◌, ℕ, ◌+◌, ◌-◌, ◌*◌, ◌/◌, ◌%◌, ◌<◌, true, List, [], ◌∷◌, length, slice_set, Option, None, Some, IfNone, inl, inr, refl, sym, ◌∙◌, ap, subst, arith}
+use Rattle.std.proofs.lemmas.Bool.{cases_Bool, cases_eq}
 use Rattle.std.proofs.lemmas.List.{length-set, take_all}
 use Rattle.cnf_core.specs.declared.literal.SatLit.{SatLit}
 use Rattle.cnf_core.specs.declared.effect.Effect.TheVariants.{Neither}
@@ -119,15 +119,15 @@ way_end clauses old now heads before t literal rest is none = record {
     same_number : (a b : ℕ) → 2 * (a / 2) + (1 - a % 2) ≡ 2 * (b / 2) + (1 - b % 2) → a ≡ b
     same_number a b e = omega (arith, e)
 
--- or what is left was put back
-pub way_back : (clauses : List (List SatLit)) (old now new : List Watch) (hs heads : List Head) (before t : Trailing) (literal : SatLit) (rest : Rest) → IsOnTheWay clauses old now hs before t literal rest → AreThreaded new heads [] → AreAlike now new → length heads ≡ length hs → IsReady clauses new heads t
-way_back clauses old now new hs heads before t literal rest is threaded alike size = record {
+-- or a conflict was met: nothing had changed, and what is left was put back
+pub walk_stopped : (clauses : List (List SatLit)) (old now new : List Watch) (hs heads : List Head) (before t after : Trailing) (literal : SatLit) (rest : Rest) → IsOnTheWay clauses old now hs before t literal rest → after ≡ t → AreThreaded new heads [] → AreAlike now new → length heads ≡ length hs → IsReady clauses new heads after
+walk_stopped clauses old now new hs heads before t after literal rest is same threaded alike size = subst (IsReady clauses new heads) (sym same) (record {
   kept = record { heads_are = size ∙ is.walking.heads_are; known = is.walking.known; of_clauses = alike_of clauses now new alike is.walking.of_clauses; threaded = threaded };
   is_trail = is.walking.is_trail;
   sound = is.walking.sound;
   present = is.walking.present;
   watched = λ s within attached. alike_watched now new alike t.entries t.walked s (is.walking.watched s (omega (arith, within, alike.size)) (alike_attached now new alike s attached));
-}
+})
 
 pub back_attached : (clauses : List (List SatLit)) (old now new : List Watch) (hs : List Head) (before t : Trailing) (literal : SatLit) (rest : Rest) → IsOnTheWay clauses old now hs before t literal rest → AreAlike now new → StayAttached old new
 back_attached clauses old now new hs before t literal rest is alike s within attached =
@@ -198,11 +198,6 @@ visited_attached clauses ws put hs old new f l rest is some target put_is =
       | inr other ↦ attached_after ws rest.at s w inside other differ attached
     ])
 
--- a conflict was met: nothing had changed, and what is left is put back
-pub walk_stopped : (clauses : List (List SatLit)) (old now new : List Watch) (hs heads : List Head) (before t after : Trailing) (literal : SatLit) (rest : Rest) → IsOnTheWay clauses old now hs before t literal rest → after ≡ t → AreThreaded new heads [] → AreAlike now new → length heads ≡ length hs → IsReady clauses new heads after
-walk_stopped clauses old now new hs heads before t after literal rest is same threaded alike size =
-    subst (IsReady clauses new heads) (sym same) (way_back clauses old now new hs heads before t literal rest is threaded alike size)
-
 -- what fits is ready to be walked
 pub ready_from : (w : Watching) (heads : List Head) (t : Trailing) → AreKept w.variables w.clauses w.watches heads → IsTrail t → Fits w t → IsPresent t → IsSound w.clauses t → IsReady w.clauses w.watches heads t
 ready_from w heads t kept trail fits present sound = record {
@@ -212,11 +207,6 @@ ready_from w heads t kept trail fits present sound = record {
   present = present;
   watched = fits.watched;
 }
-
--- what holds of none, where there is none
-pub not_some : (r : Option ℕ) (P : Type 0) → is_some r ≡ false → IfNone r P → P
-not_some None P none holds = holds
-not_some (Some x) P none holds = absurd (false≢true (sym none))
 
 pub quiet_if : (w : Watching) (heads : List Head) (t : Trailing) (r : Option ℕ) → IsReady w.clauses w.watches heads t → w.variables ≡ t.variables → IfNone r (t.walked ≡ length t.entries) → IfNone r (AreQuiet w (literals t.entries))
 quiet_if w heads t None ready same all = subst (λ n. AreQuiet (record w { variables = n }) (literals t.entries)) (sym same) (quiet_end w.clauses w.watches heads t ready all)

@@ -237,9 +237,8 @@ fn walk_all(clauses: &Arena, threads: &mut Threads, trail: &mut Trail) -> Option
 {
     while trail.walked() < trail.len() {
         let literal = trail.lit_at(trail.walked()).opposite();
-        let conflict = walk(clauses, threads, trail, literal);
-        if conflict.is_some() {
-            return conflict;
+        if let Some(conflict) = walk(clauses, threads, trail, literal) {
+            return Some(conflict);
         }
         trail.step();
     }

@@ -1,11 +1,13 @@
 -- Values and the vectors that fill them in: what holds of the inputs holds of the gates, one after the other.
 use Rattle.std.proofs.Common.{ℕ, zero, suc, ◌+◌, ◌<◌, ◌≤◌, ◌≡◌, ◌⊎◌, Bool, true, false, cond, ◌&&◌, List, [], ◌∷◌, ◌++◌, length, get_or, map, All, refl, sym, ap, subst, ◌∙◌, inl, inr, arith}
+use Rattle.std.proofs.Math.Bool.{and-false}
 use Rattle.std.proofs.lemmas.Bool.{cases_lt}
 use Rattle.std.proofs.lemmas.List.{length_push, get_or_append_left, get_or_push}
 use Rattle.circuits.specs.declared.netlist.Lit.{Lit}
 use Rattle.circuits.specs.declared.netlist.Gate.{Gate}
 use Rattle.circuits.specs.Literals.{bit, differ, signal_of, is_negated, literal_bit}
 use Rattle.circuits.specs.Netlists.{Net, IsOrdered, gate_bit, with_gates, function_of}
+use Rattle.circuits.proofs.Expansions.{differ_false}
 use Rattle.circuits.proofs.Valuations.{ReadsBelow, first_operand, second_operand, ReadsBelow-tail, ReadsBelow-start, length-with_gates}
 use Rattle.word_sim.specs.declared.tri.Tri.{Tri}
 use Rattle.word_sim.specs.declared.tri.Tri.TheVariants.{Zero, One, X}
@@ -15,14 +17,6 @@ IsBitOf-not : (value : Tri) (b : Bool) → IsBitOf value b → IsBitOf (tri_not 
 IsBitOf-not Zero b is = subst (λ c. differ c true ≡ true) (sym is) refl
 IsBitOf-not One b is = subst (λ c. differ c true ≡ false) (sym is) refl
 IsBitOf-not X b is = tt
-
-differ-false : (b : Bool) → b ≡ differ b false
-differ-false true = refl
-differ-false false = refl
-
-and-false : (b : Bool) → b && false ≡ false
-and-false true = refl
-and-false false = refl
 
 IsBitOf-and : (one other : Tri) (b c : Bool) → IsBitOf one b → IsBitOf other c → IsBitOf (tri_and one other) (b && c)
 IsBitOf-and Zero Zero b c is also = ap (λ d. d && c) is
@@ -37,7 +31,7 @@ IsBitOf-and X X b c is also = tt
 
 signed : (negated : Bool) (value : Tri) (b : Bool) → IsBitOf value b → IsBitOf (cond negated (tri_not value) value) (differ b negated)
 signed true value b is = IsBitOf-not value b is
-signed false value b is = subst (IsBitOf value) (differ-false b) is
+signed false value b is = subst (IsBitOf value) (sym (differ_false b)) is
 
 -- a literal's bit is one that its value stands for
 pub IsBitOf-literal : (values : List Tri) (vector : List Bool) (literal : Lit) → FillsIn values vector → signal_of literal < length values → IsBitOf (tri_literal values literal) (literal_bit vector literal)

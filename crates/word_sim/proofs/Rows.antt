@@ -1,5 +1,5 @@
 -- Rows of a table: one word of each column.
-use Rattle.std.proofs.Common.{ℕ, ◌+◌, ◌-◌, ◌<◌, ◌≤◌, ◌≡◌, ◌≢◌, Bool, List, [], ◌∷◌, ◌++◌, length, get_or, replicate, set, take, drop, map, sym, ap, subst, ◌∙◌, inl, inr, arith, bit_and}
+use Rattle.std.proofs.Common.{ℕ, ◌+◌, ◌-◌, ◌<◌, ◌≤◌, ◌≡◌, ◌≢◌, List, [], ◌∷◌, ◌++◌, length, get_or, replicate, set, take, drop, map, sym, ap, subst, ◌∙◌, inl, inr, arith, bit_and}
 use Rattle.std.specs.List.{refill}
 use Rattle.std.specs.Simd.Lanes.{chunk, put_chunk}
 use Rattle.std.proofs.lemmas.Bool.{cases_lt}
@@ -70,11 +70,6 @@ row-before_block columns k w other block here before =
 pub take-step : (row next values : List ℕ) (outputs : List Lit) (k word : ℕ) (d : Lit) → k < length outputs → length row ≡ length outputs → next ≡ set row k word → word ≡ literal_word values (get_or outputs k d) → take k row ≡ map (literal_word values) (take k outputs) → take (k + 1) next ≡ map (literal_word values) (take (k + 1) outputs)
 take-step row next values outputs k word d here as_many is_set is so_far =
     ap (take (k + 1)) is_set ∙ (take_more_set row k word (omega (arith, here, as_many)) ∙ (ap (λ v. v ++ word ∷ []) so_far ∙ (ap (λ n. map (literal_word values) (take k outputs) ++ n ∷ []) is ∙ sym (map_more (literal_word values) outputs k d here))))
-
--- a lane of a signal's block, with a literal's sign, is the literal's word in the lane's row
-pub signed-operand : (values : List (List ℕ)) (literal : Lit) (signal l : ℕ) (negated : Bool) → signal_of literal < length values → signal ≡ signal_of literal → negated ≡ is_negated literal → signed_word (word_of l (get_or values signal [])) negated ≡ literal_word (row_of values l) literal
-signed-operand values literal signal l negated h at sign =
-    ap (λ s. signed_word (word_of l (get_or values s [])) negated) at ∙ (ap (signed_word (word_of l (get_or values (signal_of literal) []))) sign ∙ ap (λ n. signed_word n (is_negated literal)) (sym (get_or-map (word_of l) values (signal_of literal) [] 0 h)))
 
 -- A gate's word is that of its operands' words, which stand before its own.
 operand-taken : (row : List ℕ) (end : ℕ) (literal : Lit) → signal_of literal < end → literal_word (take end row) literal ≡ literal_word row literal

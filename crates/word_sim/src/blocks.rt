@@ -25,9 +25,11 @@ pub fn and_lanes(a: u64x8, flip_a: bool, b: u64x8, flip_b: bool) -> u64x8
 
 /// The lanes, with all bits inverted where the flag says so.
 #[inline(always)]
-fn signed_lanes(lanes: u64x8, flip: bool) -> u64x8
+pub fn signed_lanes(lanes: u64x8, flip: bool) -> u64x8
     ensures lanes { length result ≡ 8 }
     ensures words { (l : ℕ) → l < 8 → word_of l result ≡ signed_word (word_of l lanes) flip }
+    ensures bits { (l v : ℕ) → l < 8 → v < 64
+        → word_bit v (word_of l result) ≡ differ (word_bit v (word_of l lanes)) flip }
 {
     // an exclusive or with a mask, so that no branch depends on the sign
     lanes ^ u64x8::splat(mask(flip))

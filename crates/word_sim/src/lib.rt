@@ -10,10 +10,10 @@ mod three_values;
 mod tri;
 mod words;
 
-pub use blocks::{and_lanes, gate_block, literal_block};
+pub use blocks::{and_lanes, gate_block, literal_block, signed_lanes};
 pub use mixing::mix;
 pub use rails::{Rails, rails_eval};
-pub use simulation::{gate_word, literal_word, simulate};
+pub use simulation::{gate_word, literal_word, run_gate_blocks, simulate};
 pub use three_values::tri_eval;
 pub use tri::Tri;
 pub use words::Words;

@@ -118,7 +118,7 @@ fn put_blocks(inputs: &Words, word: usize, values: &mut [u64x8])
 }
 
 /// Gives each gate its block, in order, from the signal `first` on.
-fn run_gate_blocks(gates: &[Gate], first: usize, values: &mut [u64x8])
+pub fn run_gate_blocks(gates: &[Gate], first: usize, values: &mut [u64x8])
     requires order { AreInOrder first gates.now }
     requires room { first + length gates.now ≡ length values.old }
     ensures rows { (l : ℕ) → l < 8

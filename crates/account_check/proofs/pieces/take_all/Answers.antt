@@ -1,7 +1,7 @@
 -- One record more is taken; where there is none, all are.
 use Rattle.std.proofs.Common.{Ok, subst}
-use Rattle.account_check.specs.Checking.{Goes}
-use Rattle.account_check.proofs.CheckingLemmas.{stopped}
+use Rattle.account_check.specs.Checking.{Goes, TakesAll}
+use Rattle.account_check.proofs.CheckingLemmas.{handed}
 use Rattle.account_check.proofs.pieces.take_all.Goals as goal
 
 pub take_next-requires : goal.take_next-requires
@@ -20,7 +20,7 @@ loop-preserved c = record {
 pub returns-in_err-take_next : goal.returns-in_err-take_next
 returns-in_err-take_next c finished graphs bytes so_far =
     let goes = c.in_err-take_next.ensures.goes finished graphs bytes (c.loop.invariant.stays finished graphs bytes so_far) in
-    stopped finished graphs bytes c.take_next.new.reader c.take_next.new.checker c.in_err-take_next.field-0.0 c.from_residual.result goes c.from_residual.ensures.1
+    handed (TakesAll finished graphs bytes c.take_next.new.reader c.take_next.new.checker) c.in_err-take_next.field-0.0 c.from_residual.result goes c.from_residual.ensures.1
 
 pub returns : goal.returns
 returns c finished graphs bytes so_far =

@@ -1,5 +1,5 @@
 -- The next record of the text, as the checker takes it.
-use Rattle.std.proofs.Common.{◌≡◌, None, Some, Err, sym, ap, subst, ◌∙◌}
+use Rattle.std.proofs.Common.{◌≡◌, Some, Err, sym, ap, subst, ◌∙◌}
 use Rattle.account_file.specs.declared.fault.RecordFault.{RecordFault}
 use Rattle.account_file.specs.declared.fault.FileStop.{FileStop}
 use Rattle.account_file.specs.declared.fault.FileStop.TheVariants as file
@@ -9,7 +9,7 @@ use Rattle.account_check.specs.declared.reject.RecordStop.TheVariants as stop
 use Rattle.account_check.specs.Accounts.{HasFault}
 use Rattle.account_check.specs.declared.verdict.CheckStop.{CheckStop}
 use Rattle.account_check.specs.Checking.{refused, unread, Goes}
-use Rattle.account_check.proofs.CheckingLemmas.{goes_on, may_stand, read_given, refused_goes, says_given, through, unread_goes}
+use Rattle.account_check.proofs.CheckingLemmas.{goes_on, may_stand, refused_goes, through, unread_goes}
 use Rattle.account_check.proofs.pieces.take_next.Goals as goal
 
 pub take-requires : goal.take-requires
@@ -17,20 +17,19 @@ take-requires c =
     let finished = c.requires.0 in
     let bytes = c.requires.2 in
     let so_far = c.requires.3 in
-    let next = says_given bytes c.args.reader.now.finished so_far.records c.in-Ok-Some.field-0 (Some c.in-Ok-Some.entry) c.in-Ok-Some.field-0-is (c.in-Ok-Some.ensures.answer bytes so_far.records so_far.read) in
+    let next = rw c.in-Ok-Some.field-0-is at (c.in-Ok-Some.ensures.answer bytes so_far.records so_far.read) in
     may_stand finished c.requires.1 bytes c.args.reader.now c.args.checker.now c.in-Ok-Some.entry so_far next
 
 pub returns-in-Ok-clause-goes : goal.returns-in-Ok-clause-goes
 returns-in-Ok-clause-goes c finished graphs bytes so_far =
-    let new = c.next.new.self in
-    let read = read_given new bytes so_far.records c.in-Ok-Some.field-0 (Some c.in-Ok-Some.entry) c.in-Ok-Some.field-0-is (c.in-Ok-Some.ensures.reads bytes so_far.records so_far.read) in
-    goes_on finished graphs bytes c.args.reader.now new c.args.checker.now c.take.new.checker c.in-Ok-Some.entry so_far read c.in-Ok-Some.ensures.finished c.in-Ok-Some.ensures.no_fault c.in-Ok.ensures.taken c.in-Ok.ensures.leads
+    let read = rw c.in-Ok-Some.field-0-is at (c.in-Ok-Some.ensures.reads bytes so_far.records so_far.read) in
+    goes_on finished graphs bytes c.args.reader.now c.next.new.self c.args.checker.now c.take.new.checker c.in-Ok-Some.entry so_far read c.in-Ok-Some.ensures.finished c.in-Ok-Some.ensures.no_fault c.in-Ok.ensures.taken c.in-Ok.ensures.leads
 
 pub returns-in-Err-take-clause-goes : goal.returns-in-Err-take-clause-goes
 returns-in-Err-take-clause-goes c finished graphs bytes so_far =
     let new = c.next.new.self in
-    let read = read_given new bytes so_far.records c.in-Ok-Some.field-0 (Some c.in-Ok-Some.entry) c.in-Ok-Some.field-0-is (c.in-Ok-Some.ensures.reads bytes so_far.records so_far.read) in
-    let next = says_given bytes c.args.reader.now.finished so_far.records c.in-Ok-Some.field-0 (Some c.in-Ok-Some.entry) c.in-Ok-Some.field-0-is (c.in-Ok-Some.ensures.answer bytes so_far.records so_far.read) in
+    let read = rw c.in-Ok-Some.field-0-is at (c.in-Ok-Some.ensures.reads bytes so_far.records so_far.read) in
+    let next = rw c.in-Ok-Some.field-0-is at (c.in-Ok-Some.ensures.answer bytes so_far.records so_far.read) in
     let has : (reject : Reject) → c.in-Err-take.stop ≡ stop.Reject reject → HasFault c.args.checker.now c.in-Ok-Some.entry (Some reject) =
     λ reject is. c.in-Err-take.ensures.refused reject (ap (λ (s : RecordStop). Err s) is) in
     let goes = refused_goes finished graphs bytes c.args.reader.now new c.args.checker.now c.take.new.checker c.in-Ok-Some.entry c.in-Err-take.stop so_far next read c.in-Ok-Some.ensures.no_fault has in
@@ -39,13 +38,9 @@ returns-in-Err-take-clause-goes c finished graphs bytes so_far =
 
 pub returns-in-Ok-None-clause-goes : goal.returns-in-Ok-None-clause-goes
 returns-in-Ok-None-clause-goes c finished graphs bytes so_far =
-    let old = c.args.reader.now in
-    let new = c.next.new.self in
-    let given = c.in-Ok-None.field-0 in
-    let is = c.in-Ok-None.field-0-is in
-    let says = says_given bytes old.finished so_far.records given None is (c.in-Ok-None.ensures.answer bytes so_far.records so_far.read) in
-    let read = read_given new bytes so_far.records given None is (c.in-Ok-None.ensures.reads bytes so_far.records so_far.read) in
-    through finished graphs bytes old new c.args.checker.now so_far says read c.in-Ok-None.ensures.finished c.in-Ok-None.ensures.no_fault
+    let says = rw c.in-Ok-None.field-0-is at (c.in-Ok-None.ensures.answer bytes so_far.records so_far.read) in
+    let read = rw c.in-Ok-None.field-0-is at (c.in-Ok-None.ensures.reads bytes so_far.records so_far.read) in
+    through finished graphs bytes c.args.reader.now c.next.new.self c.args.checker.now so_far says read c.in-Ok-None.ensures.finished c.in-Ok-None.ensures.no_fault
 
 pub returns-in-Err-clause-goes : goal.returns-in-Err-clause-goes
 returns-in-Err-clause-goes c finished graphs bytes so_far =

@@ -1,11 +1,14 @@
 -- A bad line of all bytes is the first; and where there is none, the verdict is that of the bytes.
-use Rattle.std.proofs.Common.{[]}
-use Rattle.account_check.proofs.CheckingLemmas.{stopped_fed}
+use Rattle.std.proofs.Common.{[], Err, append-nil, subst}
+use Rattle.account_check.specs.Verdicts.{IsVerdict}
+use Rattle.account_check.proofs.CheckingLemmas.{handed}
 use Rattle.account_check.proofs.whole_account.verdict_by.Goals as goal
 
 pub returns-in_err-feed-clause-verdict : goal.returns-in_err-feed-clause-verdict
 returns-in_err-feed-clause-verdict c graphs begun =
-    stopped_fed graphs c.args.account.now c.feed.new.self.reading c.feed.new.self.account c.in_err-feed.field-0.0 c.from_residual.result (c.in_err-feed.ensures graphs [] begun) c.from_residual.ensures.1
+    let stop = c.in_err-feed.field-0.0 in
+    handed (IsVerdict graphs c.args.account.now) stop c.from_residual.result
+    (subst (λ bytes. IsVerdict graphs bytes (Err stop)) (append-nil c.args.account.now) (c.in_err-feed.ensures graphs [] begun [])) c.from_residual.ensures.1
 
 pub finish-requires : goal.finish-requires
 finish-requires c = (c.requires.0, c.args.account.now, c.in_ok-feed.ensures c.requires.0 [] c.requires.1)

@@ -1,30 +1,25 @@
 -- One more gate, and a pair that is bad.
-use Rattle.std.proofs.Common.{◌≡◌, ℕ, ◌+◌, ◌*◌, List, [], ◌∷◌, ◌++◌, length, Err, IfOk, IfErr, refl, subst, sym, arith, rules}
-use Rattle.std.proofs.lemmas.Result.{err_from_is_err_and}
-use Rattle.net_file.specs.declared.fault.NetFault.{NetFault}
+use Rattle.std.proofs.Common.{◌≡◌, ℕ, ◌+◌, ◌*◌, List, [], ◌∷◌, ◌++◌, length, IfOk, IfErr, refl, subst, sym, arith, rules}
 use Rattle.net_file.specs.declared.fault.NetKind.TheVariants as kind
 use Rattle.net_file.specs.declared.fault.NetStop.{NetStop}
 use Rattle.net_file.specs.declared.fault.NetStop.TheVariants as stop
-use Rattle.aiger_reader.specs.Deltas.{BeginsFirst, BeginsSecond, BeginsGates, IsBadPair, IsPairFault}
+use Rattle.net_file.proofs.StopLemmas.{stop_passed}
+use Rattle.aiger_reader.specs.Deltas.{BeginsFirst, BeginsSecond, BeginsGates, IsBadPair, IsPairStop}
 use Rattle.aiger_reader.proofs.PairLemmas.{gates_push, pair_fault}
 use Rattle.aiger_reader.proofs.ResultLemmas.{ok_before, err_made}
 use Rattle.aiger_reader.proofs.deltas.read_gates.Goals as goal
 
-pub returns-in_err-pair-clause-fault : goal.returns-in_err-pair-clause-fault
-returns-in_err-pair-clause-fault c = λ fault same.
+pub returns-in_err-pair-clause-stop : goal.returns-in_err-pair-clause-stop
+returns-in_err-pair-clause-stop c =
     let i = c.loop-t in
     let cursor = c.args.cursor.now in
-    let total = cursor.at + length cursor.bytes in
     let variable = c.args.inputs + 1 in
-    let literal = 2 * (c.args.inputs + 1 + i.t) in
+    let Q : NetStop → Type 0 = IsPairStop variable c.args.count cursor in
     let left = i.cursor.at + length i.cursor.bytes in
-    let P : ℕ → Type 0 = λ at. IsPairFault variable c.args.count cursor.bytes total at in
-    let Q : NetStop → Type 0 = λ s. (f : NetFault) → s ≡ stop.Fault f → P f.at in
+    let literal = 2 * (c.args.inputs + 1 + i.t) in
     let count : length i.gates.items ≡ i.t = omega (arith, i.invariant.count, i.gates.ok.0) in
-    let told : IfErr c.map_err.result Q = err_made c.next_pair.result c.map_err.result _ (IsBadPair literal i.cursor.bytes left) Q c.map_err.ensures.cases c.next_pair.ensures.bad (λ at s made bad f is. let e : s ≡ stop.Fault (record { kind = kind.Delta; at = at }) = search rules in let same_at : at ≡ f.at = cc (e, is) in subst P same_at (pair_fault variable c.args.count literal total left at cursor.bytes i.cursor.bytes i.gates.items i.invariant.gates (omega arith) (omega arith) i.invariant.end bad)) in
-    let p = err_from_is_err_and c.from_residual.result c.from_residual.ensures.1 in
-    let here : c.map_err.result ≡ Err (stop.Fault fault) = cc (p.1, p.2, c.in_err-pair.was) in
-    subst (λ r. IfErr r Q) here told fault refl
+    let told : IfErr c.map_err.result Q = err_made c.next_pair.result c.map_err.result _ (IsBadPair literal i.cursor.bytes left) Q c.map_err.ensures.cases c.next_pair.ensures.bad (λ at s made bad. let e : s ≡ stop.Fault (record { kind = kind.Delta; at = at }) = search rules in subst Q (sym e) (refl, pair_fault variable c.args.count literal (cursor.at + length cursor.bytes) left at cursor.bytes i.cursor.bytes i.gates.items i.invariant.gates (omega arith) (omega arith) i.invariant.end bad)) in
+    stop_passed c.map_err.result _ _ _ _ c.in_err-pair.was c.from_residual.ensures.1 told (λ fault at is. is)
 
 pub loop-t-preserved : goal.loop-t-preserved
 loop-t-preserved c =

@@ -1,6 +1,7 @@
 -- The netlist of the deltas, or the first that is bad.
 use Rattle.std.proofs.Common.{◌≡◌, map, ap₂, ◌∙◌, arith}
-use Rattle.std.proofs.lemmas.Result.{IfOk-weaker, err_from_is_err_and}
+use Rattle.std.proofs.lemmas.Result.{IfOk-weaker}
+use Rattle.net_file.proofs.StopLemmas.{stop_passed}
 use Rattle.aiger_reader.specs.Numbered.{circuit_from}
 use Rattle.aiger_reader.specs.Assembly.{IsNetOf}
 use Rattle.aiger_reader.specs.Bodies.{lit_from}
@@ -9,11 +10,10 @@ use Rattle.aiger_reader.proofs.WholeLemmas.{delta_fault, deltas_are, binary_body
 use Rattle.aiger_reader.proofs.whole.read_net.Goals as goal
 use borrow.Author.Tests.{not-false}
 
-pub returns-in_err-gates-clause-fault : goal.returns-in_err-gates-clause-fault
-returns-in_err-gates-clause-fault c = λ fault same.
+pub returns-in_err-gates-clause-stop : goal.returns-in_err-gates-clause-stop
+returns-in_err-gates-clause-stop c =
     let body = c.args.body.now in
-    let p = err_from_is_err_and c.from_residual.result c.from_residual.ensures.1 in
-    delta_fault c.args.input.now c.args.header body.literals body.signals.items body.rest fault (not-false c.args.header.binary c.if-not-header.false) c.requires.begun c.requires.lines (c.read_gates.ensures.kind fault (cc (p.1, p.2, c.in_err-gates.was))) (c.read_gates.ensures.fault fault (cc (p.1, p.2, c.in_err-gates.was)))
+    stop_passed c.read_gates.result _ _ _ _ c.in_err-gates.was c.from_residual.ensures.1 c.read_gates.ensures.stop (delta_fault c.args.input.now c.args.header body.literals body.signals.items body.rest (not-false c.args.header.binary c.if-not-header.false) c.requires.begun c.requires.lines)
 
 pub binary_net-requires : goal.binary_net-requires
 binary_net-requires c =

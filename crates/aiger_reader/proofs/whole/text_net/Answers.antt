@@ -8,13 +8,10 @@ use Rattle.aiger_reader.specs.Assembly.{IsNetOf}
 use Rattle.aiger_reader.proofs.WholeLemmas.{undefined_fault, text_is}
 use Rattle.aiger_reader.proofs.whole.text_net.Goals as goal
 
-pub find_undefined-requires-clause-read : goal.find_undefined-requires-clause-read
-find_undefined-requires-clause-read c = c.requires.lines.body []
-
-pub returns-in-Some-clause-fault : goal.returns-in-Some-clause-fault
-returns-in-Some-clause-fault c = λ fault same.
+pub returns-in-Some-clause-stop : goal.returns-in-Some-clause-stop
+returns-in-Some-clause-stop c =
     let body = c.args.body.now in
-    undefined_fault c.args.input.now c.args.header body.literals body.signals.items body.rest c.in-Some.at fault c.requires.text c.requires.begun c.requires.lines c.in-Some.ensures.undefined (cc)
+    undefined_fault c.args.input.now c.args.header body.literals body.signals.items body.rest c.in-Some.at c.requires.text c.requires.begun c.requires.lines c.in-Some.ensures.undefined
 
 pub known_net-requires-clause-known : goal.known_net-requires-clause-known
 known_net-requires-clause-known c = c.in_default.ensures.known []

@@ -3,12 +3,12 @@ use Rattle.circuits.specs.declared.netlist.Lit.{Lit}
 use Rattle.blif_reader.specs.Covers.{literal_named}
 use Rattle.blif_reader.specs.Numbers.{names_of}
 use Rattle.blif_reader.proofs.BuildingLemmas.{Continues-more, read_more, unknown_fault}
-use Rattle.blif_reader.proofs.SurveyLemmas.{passed_on}
+use Rattle.net_file.proofs.StopLemmas.{stop_passed}
 use Rattle.blif_reader.proofs.covers.read_outputs.Goals as goal
 
-pub returns-in_err-signal-clause-fault : goal.returns-in_err-signal-clause-fault
-returns-in_err-signal-clause-fault c fault e =
-    unknown_fault (names_of c.args.names.now) c.in-Some.word _ _ _ fault.kind fault.at c.loop-word.invariant.0.words c.in-Some.ensures.word (c.signal_of.ensures.fault fault (passed_on _ _ _ _ c.in_err-signal.was c.from_residual.ensures.1 e))
+pub returns-in_err-signal-clause-stop : goal.returns-in_err-signal-clause-stop
+returns-in_err-signal-clause-stop c =
+    stop_passed c.signal_of.result _ _ _ _ c.in_err-signal.was c.from_residual.ensures.1 c.signal_of.ensures.stop (λ kind at. unknown_fault (names_of c.args.names.now) c.in-Some.word _ _ _ kind at c.loop-word.invariant.0.words c.in-Some.ensures.word)
 
 pub loop-word-preserved : goal.loop-word-preserved
 loop-word-preserved c =

@@ -3,12 +3,7 @@ use Rattle.circuits.specs.declared.port.PortKind.TheVariants.{Input, Output}
 use Rattle.blif_reader.specs.Numbers.{port_names}
 use Rattle.blif_reader.proofs.BlifLemmas.{read_as}
 use Rattle.blif_reader.proofs.FewPorts.{named_graph}
-use Rattle.blif_reader.proofs.SurveyLemmas.{passed_on}
 use Rattle.blif_reader.proofs.whole.name_net.Goals as goal
-
-pub returns-in_err-graph-clause-fault : goal.returns-in_err-graph-clause-fault
-returns-in_err-graph-clause-fault c fault e =
-    c.order_covers.ensures.fault fault (passed_on _ _ _ _ c.in_err-graph.was c.from_residual-in_err-graph.ensures.1 e)
 
 pub invariant_of-result : goal.invariant_of-result
 invariant_of-result c =

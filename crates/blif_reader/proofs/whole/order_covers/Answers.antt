@@ -1,9 +1,7 @@
 use Rattle.std.proofs.Common.{◌<◌, length, Err, inl, inr, ap, subst, ◌∙◌}
 use Rattle.circuits.specs.Levels.{IsAcyclic, IsFirstLooped, IsOrderOf}
 use Rattle.circuits.specs.Expansion.{gates_in}
-use Rattle.net_file.specs.declared.fault.NetFault.{NetFault}
-use Rattle.blif_reader.specs.Blif.{blif_lines, IsBlifFault}
-use Rattle.blif_reader.proofs.SurveyLemmas.{fault_told}
+use Rattle.blif_reader.specs.Blif.{blif_lines}
 use Rattle.blif_reader.proofs.BlifLemmas.{same_circuit, closed_made, signals_made, outputs_made, gates_made, place_there, cycle_found, gates_found}
 use Rattle.blif_reader.proofs.whole.order_covers.Goals as goal
 
@@ -42,19 +40,17 @@ index-requires c =
     let looped = c.in-Err-Cycle.ensures.cycle c.in-Err-Cycle.definition (ap Err c.in-Err-Cycle.field-0-is) in
     place_there lines c.args.covers c.in-Err-Cycle.definition c.requires.built (subst (λ n. IsFirstLooped n c.in-Err-Cycle.definition) same looped)
 
-pub returns-in-Err-Cycle-clause-fault : goal.returns-in-Err-Cycle-clause-fault
-returns-in-Err-Cycle-clause-fault c told e =
+pub returns-in-Err-Cycle-clause-stop : goal.returns-in-Err-Cycle-clause-stop
+returns-in-Err-Cycle-clause-stop c =
     let lines = blif_lines c.args.input.now in
     let same = c.new-net.ensures ∙ same_circuit lines c.args.inputs c.args.covers c.requires.inputs c.requires.built in
     let looped = c.in-Err-Cycle.ensures.cycle c.in-Err-Cycle.definition (ap Err c.in-Err-Cycle.field-0-is) in
     let found = cycle_found lines c.args.covers c.in-Err-Cycle.definition c.index.result.now c.requires.few c.requires.built (subst (λ n. IsFirstLooped n c.in-Err-Cycle.definition) same looped) c.index.ensures in
-    let made = fault_told _ told e in
-    subst (λ (f : NetFault). IsBlifFault c.args.input.now f.kind f.at) made (inr (inr (inr (inr (inr (inr (inr (inl found))))))))
+    inr (inr (inr (inr (inr (inr (inr (inl found)))))))
 
-pub returns-in-Err-TooManyGates-clause-fault : goal.returns-in-Err-TooManyGates-clause-fault
-returns-in-Err-TooManyGates-clause-fault c told e =
+pub returns-in-Err-TooManyGates-clause-stop : goal.returns-in-Err-TooManyGates-clause-stop
+returns-in-Err-TooManyGates-clause-stop c =
     let lines = blif_lines c.args.input.now in
     let same = c.new-net.ensures ∙ same_circuit lines c.args.inputs c.args.covers c.requires.inputs c.requires.built in
     let many = c.in-Err-TooManyGates.ensures.too_many (ap Err c.in-Err-TooManyGates.field-0-is) in
-    let made = fault_told _ told e in
-    subst (λ (f : NetFault). IsBlifFault c.args.input.now f.kind f.at) made (inr (inr (inr (inr (inr (inr (inr (inr (gates_found (length c.args.input.now) lines c.requires.few (subst IsAcyclic same many.0) (subst (λ n. 1000000 < gates_in n) same many.1))))))))))
+    inr (inr (inr (inr (inr (inr (inr (inr (gates_found (length c.args.input.now) lines c.requires.few (subst IsAcyclic same many.0) (subst (λ n. 1000000 < gates_in n) same many.1)))))))))

@@ -12,7 +12,7 @@ loop-entry-init g c =
     let f = function_at graphs c.args.output.now.number in
     let later = c.args.later.now in (
       served_none _ _ _ c.requires.may,
-      pairs_skip n f c.args.first.0 0 (input_at n later 0) c.args.pairs.now c.requires.pairs (omega arith) (λ b after low before inside. support_first n f (c.args.first.0 + 1) later b c.requires.later (omega (arith, after)) before inside),
+      pairs_skip n f c.args.first.0 0 (input_at n later 0) c.args.pairs.now c.requires.pairs (omega arith) (λ b after low before inside alike. support_first n f (c.args.first.0 + 1) later b c.requires.later (omega (arith, after)) before inside),
     )
 
 pub returns-in_err-sym-clause-serves : goal.returns-in_err-sym-clause-serves

@@ -1,9 +1,15 @@
 -- One place forward.
-use Rattle.std.proofs.Common.{◌-◌, ◌/◌, length, arith}
-use Rattle.learn_solver.proofs.HeapLemmas.{lifting_on}
+use Rattle.std.proofs.Common.{length, sym, ◌∙◌, arith}
+use Rattle.std.proofs.lemmas.Bool.{lt-ltb}
 use Rattle.learn_solver.proofs.heap.lift_from.Goals as goal
 
 pub loop-place-preserved : goal.loop-place-preserved
 loop-place-preserved c =
-    let l = c.loop-place in
-    lifting_on (length c.args.keys.now) c.args.place c.args.places.now.items l.numbers.items l.places.items c.exchange.new.numbers.items c.exchange.new.places.items l.place ((l.place - 1) / 2) l.invariant (omega (arith, c.loop-place-test.true)) c.exchange.ensures.places c.exchange.ensures.inverse
+    let is = c.loop-place.invariant in
+    let less = c.loop-place-test.true in
+    record {
+      inverse = c.exchange.ensures.inverse (length c.args.keys.now) is.inverse;
+      low = omega (arith, is.low, less);
+      known = is.known;
+      held = λ held late. c.exchange.ensures.kept held (lt-ltb _ held (omega (arith, is.low, late)) ∙ sym (lt-ltb _ held (omega (arith, is.low, late, less)))) ∙ is.held held late;
+    }

@@ -1,9 +1,7 @@
--- One number more.
-use Rattle.std.proofs.Common.{[], ◌∷◌, ◌++◌, sym, ap, ◌∙◌}
-use Rattle.learn_solver.proofs.HeapLemmas.{numbers_more}
+-- The numbers of a range are collected.
+use Rattle.std.proofs.Common.{refl, arith}
+use Rattle.std.proofs.lemmas.Iterator.{YieldsList-from_range, items_from_collect}
 use Rattle.learn_solver.proofs.heap.numbers_below.Goals as goal
 
-pub loop-number-preserved : goal.loop-number-preserved
-loop-number-preserved c =
-    let number = c.loop-number.number in
-    c.in_ok-push.ensures.items ∙ ap (λ ns. ns ++ number ∷ []) c.loop-number.invariant ∙ sym (numbers_more number)
+pub returns : goal.returns
+returns c = items_from_collect c.collect.result c.collect.ensures.ran (YieldsList-from_range 0 c.args.count c.args.count refl (omega arith))

@@ -1,32 +1,28 @@
--- What an answer says, fact by fact; and the lines that were charged are different clauses.
-use Rattle.std.proofs.lemmas.Result.{IfOk-weaker}
-use Rattle.learn_solver.specs.declared.verdict.Finding.{Finding}
-use Rattle.learn_solver.specs.Findings.{IsFinding}
-use Rattle.learn_solver.specs.Searches.{HasEnded}
-use Rattle.learn_solver.specs.Solvers.{IsAsking, IsExtended}
-use Rattle.learn_solver.proofs.BoundLemmas.{bounded_answer, bounded_stops}
+-- The search begins with the clauses and the lines that are the solver's; the lines that it charges are different clauses.
+use Rattle.std.proofs.Common.{◌≡◌, subst, ap, ◌∙◌}
+use Rattle.learn_solver.specs.Solvers.{IsBoundedStop, Solving}
+use Rattle.learn_solver.specs.Starts.{IsBegun}
+use Rattle.learn_solver.proofs.BoundLemmas.{bounded_by, bounded_stop}
+use Rattle.learn_solver.proofs.StepLemmas.{passed_on}
 use Rattle.learn_solver.proofs.solver.solve_guided.Goals as goal
 
-pub returns-clause-found : goal.returns-clause-found
-returns-clause-found g c = IfOk-weaker c.searched.result (HasEnded c.args.solver.now c.searched.new.solver (g.L.Charge.charging c.args.ledger.now) (g.L.Charge.charging c.searched.new.ledger)) (IsFinding c.searched.new.solver) (λ (found : Finding) is. is.found_is) c.searched.ensures.ended
-
-pub returns-clause-lines : goal.returns-clause-lines
-returns-clause-lines g c =
-    let first = g.L.Charge.charging c.args.ledger.now in
-    let after = g.L.Charge.charging c.searched.new.ledger in
-    IfOk-weaker c.searched.result (HasEnded c.args.solver.now c.searched.new.solver first after) (λ (_ : Finding). IsExtended c.args.solver.now c.searched.new.solver first after) (λ (found : Finding) is. is.extended) c.searched.ensures.ended
-
-pub returns-clause-not_spent : goal.returns-clause-not_spent
-returns-clause-not_spent g c =
-    let first = g.L.Charge.charging c.args.ledger.now in
-    let after = g.L.Charge.charging c.searched.new.ledger in
-    IfOk-weaker c.searched.result (HasEnded c.args.solver.now c.searched.new.solver first after) (λ (_ : Finding). IsAsking after c.searched.new.solver.lines) (λ (found : Finding) is. is.asking) c.searched.ensures.ended
+pub found_by-requires-clause-begun : goal.found_by-requires-clause-begun
+found_by-requires-clause-begun g c =
+    let s = c.args.solver.now in
+    let formula = g.B.Base.formula c.solver.inside.base.now in
+    let lines = c.deref-2.result.now in
+    let idle = c.in_ok-search.search in
+    let same : record { formula = formula; ids = c.deref.result.now; lines = lines } ≡ s = ap (λ ids. record { formula = formula; ids = ids; lines = lines }) c.deref.ensures.value ∙ (ap (λ ls. record { formula = formula; ids = c.solver.inside.ids.items; lines = ls }) c.deref-2.ensures.value ∙ c.solver.view_is) in
+    subst (λ (x : Solving). IsBegun x idle.trail idle.watches idle.tools) same c.in_ok-search.ensures
 
 pub returns-clause-bounded : goal.returns-clause-bounded
-returns-clause-bounded g c =
-    let first = g.L.Charge.charging c.args.ledger.now in
-    let after = g.L.Charge.charging c.searched.new.ledger in
-    bounded_answer c.args.solver.now c.searched.new.solver first after c.searched.result (IfOk-weaker c.searched.result (HasEnded c.args.solver.now c.searched.new.solver first after) (λ (_ : Finding). IsExtended c.args.solver.now c.searched.new.solver first after) (λ (found : Finding) is. is.extended) c.searched.ensures.ended)
+returns-clause-bounded g c = bounded_by c.args.solver.now c.found_by.new.solver (g.L.Charge.charging c.args.ledger.now) (g.L.Charge.charging c.found_by.new.ledger) c.in_ok-found.ensures.ended.extended
 
-pub returns-clause-bounded_stop : goal.returns-clause-bounded_stop
-returns-clause-bounded_stop g c = bounded_stops c.args.solver.now c.searched.new.solver (g.L.Charge.charging c.args.ledger.now) (g.L.Charge.charging c.searched.new.ledger) c.searched.result c.searched.ensures.stop
+pub returns-in_err-found-clause-bounded_stop : goal.returns-in_err-found-clause-bounded_stop
+returns-in_err-found-clause-bounded_stop g c =
+    let old = c.args.solver.now in
+    let new = c.found_by.new.solver in
+    let first = g.L.Charge.charging c.args.ledger.now in
+    let after = g.L.Charge.charging c.found_by.new.ledger in
+    let stop = c.in_err-found.field-0.0 in
+    passed_on c.from_residual-in_err-found.result stop (IsBoundedStop old.formula.variables first after) c.from_residual-in_err-found.ensures.1 (bounded_stop old new first after stop c.in_err-found.ensures.stop)

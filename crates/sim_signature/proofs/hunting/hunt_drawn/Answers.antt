@@ -11,6 +11,6 @@ loop-preserved c =
     let same = c.in_ok-signatures.ensures.of.net_is in
     let said = c.in_ok-left-2.ensures in
     let output = c.args.output in (
-      subst (λ (net : Net). AreBroken net output c.loop.sightings.items → AreBroken net output c.sight_all.new.sightings.items) same said.hunted.broken c.loop.invariant.0,
+      subst (λ (net : Net). AreBroken net output c.loop.sightings.items → AreBroken net output c.sight_all.new.sightings.items) same said.hunted.good c.loop.invariant.0,
       subst (λ (net : Net). All (IsPlaced net.inputs) c.in_ok-left-2.left.items) same said.placed,
     )

@@ -1,9 +1,10 @@
 -- A vector is noted where one is seen.
-use Rattle.std.proofs.Common.{refl, subst}
+use Rattle.std.proofs.Common.{◌≡◌, refl, subst}
 use Rattle.std.specs.Prelude.{IfSome}
+use Rattle.std.proofs.lemmas.List.Quantifiers.{Any-push}
 use Rattle.query_core.specs.Claims.{BreaksShape}
 use Rattle.sim_signature.specs.declared.sighting.Sighting.{Sighting}
-use Rattle.sim_signature.proofs.Hunts.{Hunted-none, Hunted-push, IsSighted-last}
+use Rattle.sim_signature.proofs.Hunts.{Hunted-none, Hunted-push}
 use Rattle.sim_signature.proofs.Signing.{all-tried, nothing}
 use Rattle.sim_signature.proofs.hunting.sight.Goals as goal
 
@@ -22,5 +23,4 @@ returns-clause-hunted c =
 
 pub returns-clause-sighted : goal.returns-clause-sighted
 returns-clause-sighted c is =
-    let sighting : Sighting = record { shape = c.args.shape; vector = c.in-Some.vector } in
-    rw c.in_ok-push.ensures.items (IsSighted-last c.args.shape c.args.sightings.now.items sighting refl)
+    rw c.in_ok-push.ensures.items (Any-push (λ (sighting : Sighting). sighting.shape ≡ c.args.shape) c.args.sightings.now.items (record { shape = c.args.shape; vector = c.in-Some.vector }) refl)

@@ -21,5 +21,5 @@ loop-i-preserved c =
     let here : i < length y = omega (arith, there, length-changed change x, length-pattern inputs word lane) in
     let placed = subst (λ n. IsChange n change) (sym (length-pattern inputs word lane)) c.requires.change in
     let inverse = c.is_inverted.result in
-    let pushed : differ c.bit_at.result inverse ≡ bit y i = ap (λ b. differ b inverse) (c.bit_at.ensures ∙ pattern-bit inputs word lane i there) ∙ (ap (differ (bit x i)) c.is_inverted.ensures ∙ sym (changed-bit change x i placed)) in
+    let pushed : differ c.bit_at.result inverse ≡ bit y i = ap (λ b. differ b inverse) (c.bit_at.ensures ∙ pattern-bit inputs word lane i) ∙ (ap (differ (bit x i)) c.is_inverted.ensures ∙ sym (changed-bit change x i placed)) in
     c.in_ok-push.ensures.pushed ∙ (ap (λ front. front ++ differ c.bit_at.result inverse ∷ []) c.loop-i.invariant ∙ (ap (λ b. take i y ++ b ∷ []) pushed ∙ sym (take_more y i false here)))

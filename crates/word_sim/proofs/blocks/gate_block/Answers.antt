@@ -1,13 +1,13 @@
 -- A lane of a signal's block is the signal's word in that lane's row.
-use Rattle.std.proofs.Common.{◌∙◌, [], ap, bit_and, get_or}
-use Rattle.word_sim.specs.Columns.{literal_word, row_of, signed_word, word_of}
-use Rattle.word_sim.proofs.Rows.{signed-operand}
+use Rattle.std.proofs.Common.{[], sym}
+use Rattle.std.proofs.lemmas.List.{get_or-map}
+use Rattle.circuits.specs.Literals.{signal_of}
+use Rattle.word_sim.specs.Columns.{word_of}
 use Rattle.word_sim.proofs.blocks.gate_block.Goals as goal
 
 pub returns-clause-words : goal.returns-clause-words
 returns-clause-words c l h =
     let values = c.args.values.now in
-    let gate = c.args.gate in
-    let one = signed-operand values gate.a c.signal.result l c.is_negated.result c.requires.first_operand c.signal.ensures c.is_negated.ensures in
-    let other = signed-operand values gate.b c.signal-2.result l c.is_negated-2.result c.requires.second_operand c.signal-2.ensures c.is_negated-2.ensures in
-    c.and_lanes.ensures.words l h ∙ (ap (λ n. bit_and n (signed_word (word_of l (get_or values c.signal-2.result [])) c.is_negated-2.result)) one ∙ ap (bit_and (literal_word (row_of values l) gate.a)) other)
+    let one = get_or-map (word_of l) values (signal_of c.args.gate.a) [] 0 c.requires.first_operand in
+    let other = get_or-map (word_of l) values (signal_of c.args.gate.b) [] 0 c.requires.second_operand in
+    rw (one, other, sym c.signal.ensures, sym c.signal-2.ensures, sym c.is_negated.ensures, sym c.is_negated-2.ensures) (c.and_lanes.ensures.words l h)

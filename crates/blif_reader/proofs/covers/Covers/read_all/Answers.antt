@@ -5,9 +5,9 @@ use Rattle.blif_reader.specs.Names.{read_words}
 use Rattle.blif_reader.specs.Numbers.{names_of}
 use Rattle.blif_reader.specs.Blif.{blif_lines}
 use Rattle.blif_reader.specs.Building.{IsUnknownFault, IsBuilt, IsBuilding}
-use Rattle.blif_reader.proofs.BlifLemmas.{all_known, undefined_name}
+use Rattle.blif_reader.proofs.BlifLemmas.{undefined_name}
 use Rattle.blif_reader.proofs.BuildingLemmas.{building_more, fault_in_line, built}
-use Rattle.blif_reader.proofs.SurveyLemmas.{passed_on}
+use Rattle.net_file.proofs.StopLemmas.{stop_passed}
 use Rattle.blif_reader.proofs.covers.Covers.read_all.Goals as goal
 
 pub loop-first-preserved : goal.loop-first-preserved
@@ -18,21 +18,14 @@ loop-first-preserved c =
     let more = building_more names all _ _ c.loop-first.self c.read_line.new.self here c.in_ok-read_line.ensures.builds in
     subst (λ ls. IsBuilding names all ls c.read_line.new.self) (ap (filter has_words) (sym c.in_ok-read_line.ensures.lines)) more
 
-pub returns-in_err-read_line-clause-fault : goal.returns-in_err-read_line-clause-fault
-returns-in_err-read_line-clause-fault c fault e =
+pub returns-in_err-read_line-clause-stop : goal.returns-in_err-read_line-clause-stop
+returns-in_err-read_line-clause-stop c =
     let lines = blif_lines c.args.input.now in
     let names = names_of c.args.names.now in
     let here = subst (λ ls. IsBuilding names lines ls c.loop-first.self) c.in-Some.ensures c.loop-first.invariant in
-    let found = fault_in_line names lines _ _ c.loop-first.self fault.kind fault.at here (c.read_line.ensures.fault fault (passed_on _ _ _ _ c.in_err-read_line.was c.from_residual.ensures.1 e)) in
-    undefined_name lines fault.kind fault.at c.requires.once (subst (λ ns. IsUnknownFault ns (read_words lines) fault.kind fault.at) c.requires.names found)
+    stop_passed c.read_line.result _ _ _ _ c.in_err-read_line.was c.from_residual.ensures.1 c.read_line.ensures.stop (λ kind at found. undefined_name lines kind at c.requires.once (subst (λ ns. IsUnknownFault ns (read_words lines) kind at) c.requires.names (fault_in_line names lines _ _ c.loop-first.self kind at here found)))
 
 pub returns-clause-built : goal.returns-clause-built
 returns-clause-built c =
     let lines = blif_lines c.args.input.now in
     subst (λ ns. IsBuilt ns lines c.close.new.self) c.requires.names (built (names_of c.args.names.now) lines _ c.loop-first.self c.close.new.self c.in_default.ensures c.loop-first.invariant c.in_ok-close.ensures.defs c.in_ok-close.ensures.places c.in_ok-close.ensures.outputs)
-
-pub returns-clause-known : goal.returns-clause-known
-returns-clause-known c =
-    let lines = blif_lines c.args.input.now in
-    let built = built (names_of c.args.names.now) lines _ c.loop-first.self c.close.new.self c.in_default.ensures c.loop-first.invariant c.in_ok-close.ensures.defs c.in_ok-close.ensures.places c.in_ok-close.ensures.outputs in
-    all_known lines c.requires.once (subst (λ ns. IsBuilt ns lines c.close.new.self) c.requires.names built).known

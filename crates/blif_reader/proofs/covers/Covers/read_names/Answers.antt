@@ -4,7 +4,7 @@ use Rattle.blif_reader.specs.Covers.{signal_named}
 use Rattle.blif_reader.specs.Numbers.{names_of}
 use Rattle.blif_reader.specs.Building.{IsKnownIn, IsUnknownFault}
 use Rattle.blif_reader.proofs.BuildingLemmas.{operands-but_last, new_cover, no_more, one_place}
-use Rattle.blif_reader.proofs.SurveyLemmas.{passed_on}
+use Rattle.net_file.proofs.StopLemmas.{stop_passed}
 use Rattle.blif_reader.proofs.covers.Covers.read_names.Goals as goal
 
 pub returns-clause-builds : goal.returns-clause-builds
@@ -19,6 +19,6 @@ returns-clause-builds c =
       known = subst (All (IsKnownIn names)) (sym operands) c.in_ok-operand_signals.ensures.known;
     }
 
-pub returns-in_err-operand_signals-clause-fault : goal.returns-in_err-operand_signals-clause-fault
-returns-in_err-operand_signals-clause-fault c fault e =
-    subst (λ ws. IsUnknownFault (names_of c.args.names.now) ws fault.kind fault.at) (sym (operands-but_last c.args.first _)) (c.operand_signals.ensures.fault fault (passed_on _ _ _ _ c.in_err-operand_signals.was c.from_residual-in_err-operand_signals.ensures.1 e))
+pub returns-in_err-operand_signals-clause-stop : goal.returns-in_err-operand_signals-clause-stop
+returns-in_err-operand_signals-clause-stop c =
+    stop_passed c.operand_signals.result _ _ _ _ c.in_err-operand_signals.was c.from_residual-in_err-operand_signals.ensures.1 c.operand_signals.ensures.stop (λ kind at. subst (λ ws. IsUnknownFault (names_of c.args.names.now) ws kind at) (sym (operands-but_last c.args.first _)))

@@ -5,7 +5,7 @@ use Rattle.cnf_core.specs.declared.log.LogLine.{LogLine}
 use Rattle.trail_core.specs.Trails.{Trailing}
 use Rattle.learn_solver.specs.Searches.{CanReturn, HasReturned, IsLesson, IsWayBack}
 use Rattle.learn_solver.proofs.AdvanceLemmas.{asking_learnt, extended_learnt, less_learned}
-use Rattle.learn_solver.proofs.RunLemmas.{can_return, learning_of, running_again, running_back, running_same}
+use Rattle.learn_solver.proofs.RunLemmas.{can_return, running_again, running_back, running_same}
 use Rattle.learn_solver.proofs.StepLemmas.{last_added}
 use Rattle.learn_solver.proofs.solver.Solver.advance.Goals as goal
 
@@ -13,9 +13,7 @@ pub decide-requires-clause-running : goal.decide-requires-clause-running
 decide-requires-clause-running g c = running_again c.args.self.now c.args.search.now c.propagate.new.self c.requires.running c.propagate.ensures.turned
 
 pub learn-requires-clause-learning : goal.learn-requires-clause-learning
-learn-requires-clause-learning g c =
-    let mid = c.propagate.new.self in
-    learning_of c.args.self.now mid.trail mid.watches mid.tools (running_again c.args.self.now c.args.search.now mid c.requires.running c.propagate.ensures.turned)
+learn-requires-clause-learning g c = (running_again c.args.self.now c.args.search.now c.propagate.new.self c.requires.running c.propagate.ensures.turned).learning
 
 pub go_back-requires : goal.go_back-requires
 go_back-requires g c =

@@ -7,8 +7,8 @@ pub returns-in_default : goal.returns-in_default
 returns-in_default g c =
     let s = c.args.self.now in
     let search = c.args.search.now in
-    let running = c.requires.running in
-    model_from s search.watches.clauses search.tools.occurring.items search.trail c.in_ok-values.values running.solver running.tools_are.variables running.searching c.requires.quiet c.in_default.ensures.none c.in_ok-values.ensures
+    let is = c.requires.running.learning in
+    model_from s search.watches.clauses search.tools.occurring.items search.trail c.in_ok-values.values is.solver is.tools_are.variables is.searching c.requires.quiet c.in_default.ensures.none c.in_ok-values.ensures
 
 pub returns : goal.returns
 returns g c =
