@@ -12,14 +12,14 @@ use Rattle.cnf_core.specs.Derivations.{is_empty, line_fault}
 use Rattle.net_core.specs.Sides.{Graphs}
 use Rattle.net_core.specs.declared.matching.Matching.{Matching}
 use Rattle.net_core.specs.Graph.{IsGraph}
-use Rattle.query_core.specs.declared.query.Query.{Query}
-use Rattle.query_core.specs.Formulas.{formula_of, IsRefuted}
-use Rattle.query_core.specs.MatchQueries.{match_query}
-use Rattle.query_core.proofs.RefutedLemmas.{match_of_refuted}
+use Rattle.claim_core.specs.declared.query.Query.{Query}
+use Rattle.claim_core.specs.Formulas.{formula_of, IsRefuted}
+use Rattle.claim_core.specs.MatchQueries.{match_query}
+use Rattle.claim_core.proofs.RefutedLemmas.{match_of_refuted}
 use Rattle.std.specs.Result.{IsErrAnd}
 use Rattle.cnf_core.specs.declared.fault.LineFault.{LineFault}
 use Rattle.cnf_core.proofs.LineLemmas.{derived_more}
-use Rattle.query_core.specs.Queries.{IsQuery}
+use Rattle.claim_core.specs.Queries.{IsQuery}
 use Rattle.refute_check.specs.Refutations.{answer_of}
 use Rattle.account_check.specs.declared.reject.Reject.{Reject}
 use Rattle.account_check.specs.declared.reject.RecordStop.{RecordStop}

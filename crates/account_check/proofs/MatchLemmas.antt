@@ -9,8 +9,8 @@ use Rattle.cnf_core.specs.Derivations.{is_empty}
 use Rattle.net_core.specs.Sides.{Graphs}
 use Rattle.net_core.specs.declared.matching.Matching.{Matching}
 use Rattle.net_core.specs.Graph.{IsGraph}
-use Rattle.query_core.specs.declared.query.Query.{Query}
-use Rattle.query_core.proofs.MatchLemmas.{match_query_fits}
+use Rattle.claim_core.specs.declared.query.Query.{Query}
+use Rattle.claim_core.proofs.MatchLemmas.{match_query_fits}
 use Rattle.account_core.specs.declared.conclusion.Conclusion.{Conclusion}
 use Rattle.account_core.specs.declared.conclusion.Conclusion.TheVariants as conclusion
 use Rattle.account_core.specs.declared.fact.FactHead.TheVariants as head

@@ -12,14 +12,14 @@ use Rattle.net_core.specs.Sides.{Graphs}
 use Rattle.net_core.specs.declared.matching.Matching.{Matching}
 use Rattle.net_core.specs.Graph.{IsGraph}
 use Rattle.net_core.specs.Sides.{graph_of}
-use Rattle.query_core.specs.declared.claims.Claim.{Claim}
-use Rattle.query_core.specs.declared.claims.Shape.{Shape}
-use Rattle.query_core.specs.declared.claims.Shape.TheVariants.{Up, Down, Swap}
-use Rattle.query_core.specs.Claims.{Breaks, Holds, IsClaim, IsPlaced}
-use Rattle.query_core.specs.ClaimQueries.{claim_query}
-use Rattle.query_core.specs.Formulas.{IsRefuted}
-use Rattle.query_core.proofs.ClaimQueryLemmas.{claim_query_fits, holds-unmet}
-use Rattle.query_core.proofs.RefutedLemmas.{unmet}
+use Rattle.claim_core.specs.declared.claims.Claim.{Claim}
+use Rattle.claim_core.specs.declared.claims.Shape.{Shape}
+use Rattle.claim_core.specs.declared.claims.Shape.TheVariants.{Up, Down, Swap}
+use Rattle.claim_core.specs.Claims.{Breaks, Holds, IsClaim, IsPlaced}
+use Rattle.claim_core.specs.ClaimQueries.{claim_query}
+use Rattle.claim_core.specs.Formulas.{IsRefuted}
+use Rattle.claim_core.proofs.ClaimQueryLemmas.{claim_query_fits, holds-unmet}
+use Rattle.claim_core.proofs.RefutedLemmas.{unmet}
 use Rattle.account_core.specs.declared.conclusion.Conclusion.{Conclusion}
 use Rattle.account_core.specs.declared.conclusion.Conclusion.TheVariants as conclusion
 use Rattle.account_core.specs.declared.fact.FactHead.TheVariants as head

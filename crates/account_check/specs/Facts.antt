@@ -2,10 +2,10 @@
 use Rattle.std.specs.Prelude.{ℕ, ◌<◌, length, Option}
 use Rattle.net_core.specs.Sides.{Graphs}
 use Rattle.net_core.specs.Sides.{graph_of}
-use Rattle.query_core.specs.declared.claims.Shape.{Shape}
-use Rattle.query_core.specs.declared.claims.Shape.TheVariants.{Up, Down, Swap}
-use Rattle.query_core.specs.declared.claims.Claim.{Claim}
-use Rattle.query_core.specs.Claims.{Breaks}
+use Rattle.claim_core.specs.declared.claims.Shape.{Shape}
+use Rattle.claim_core.specs.declared.claims.Shape.TheVariants.{Up, Down, Swap}
+use Rattle.claim_core.specs.declared.claims.Claim.{Claim}
+use Rattle.claim_core.specs.Claims.{Breaks}
 use Rattle.account_core.specs.declared.fact.FactHead.{FactHead}
 use Rattle.account_core.specs.declared.fact.FactHead.TheVariants as fact
 use Rattle.account_check.specs.declared.reject.Reject.{Reject}

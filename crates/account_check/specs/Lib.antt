@@ -18,6 +18,6 @@ pub use Rattle.ban_check.specs.Counted
 pub use Rattle.circuits.specs.Bijections
 pub use Rattle.circuits.specs.Matches
 pub use Rattle.cnf_core.specs.Derivations
-pub use Rattle.query_core.specs.ClaimQueries
-pub use Rattle.query_core.specs.Formulas
-pub use Rattle.query_core.specs.MatchQueries
+pub use Rattle.claim_core.specs.ClaimQueries
+pub use Rattle.claim_core.specs.Formulas
+pub use Rattle.claim_core.specs.MatchQueries

@@ -6,11 +6,11 @@ use Rattle.cnf_core.specs.declared.fault.LineFault.{LineFault}
 use Rattle.cnf_core.specs.Derivations.{is_empty, line_fault}
 use Rattle.net_core.specs.Sides.{Graphs}
 use Rattle.net_core.specs.declared.matching.Matching.{Matching}
-use Rattle.query_core.specs.declared.claims.Claim.{Claim}
-use Rattle.query_core.specs.declared.query.Query.{Query}
-use Rattle.query_core.specs.ClaimQueries.{claim_query}
-use Rattle.query_core.specs.Formulas.{formula_of}
-use Rattle.query_core.specs.MatchQueries.{match_query}
+use Rattle.claim_core.specs.declared.claims.Claim.{Claim}
+use Rattle.claim_core.specs.declared.query.Query.{Query}
+use Rattle.claim_core.specs.ClaimQueries.{claim_query}
+use Rattle.claim_core.specs.Formulas.{formula_of}
+use Rattle.claim_core.specs.MatchQueries.{match_query}
 pub use Rattle.ban_check.specs.More.{with_ban, with_fact}
 use Rattle.account_check.specs.declared.reject.Reject.{Reject}
 use Rattle.account_check.specs.declared.reject.Reject.TheVariants as reject

@@ -7,11 +7,11 @@ use Rattle.cnf_core.specs.declared.log.LogLine.{LogLine}
 use Rattle.cnf_core.specs.Derivations.{is_empty, clauses_of, AreDerived}
 use Rattle.net_core.specs.Sides.{Graphs}
 use Rattle.net_core.specs.declared.matching.Matching.{Matching}
-use Rattle.query_core.specs.declared.claims.Claim.{Claim}
-use Rattle.query_core.specs.declared.query.Query.{Query}
-use Rattle.query_core.specs.ClaimQueries.{claim_query}
-use Rattle.query_core.specs.Queries.{IsQuery}
-use Rattle.query_core.specs.Formulas.{formula_of, IsRefuted}
+use Rattle.claim_core.specs.declared.claims.Claim.{Claim}
+use Rattle.claim_core.specs.declared.query.Query.{Query}
+use Rattle.claim_core.specs.ClaimQueries.{claim_query}
+use Rattle.claim_core.specs.Queries.{IsQuery}
+use Rattle.claim_core.specs.Formulas.{formula_of, IsRefuted}
 use Rattle.account_check.specs.Logs.{OpenFact, Proof, log_count, log_query}
 
 -- A log of a query of two circuits, as far as its lines were taken.

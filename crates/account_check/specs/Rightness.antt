@@ -3,8 +3,8 @@
 use Rattle.std.specs.Prelude.{◌≡◌, Option, None, Some}
 use Rattle.circuits.specs.Matches.{HaveNpnpEqualFunctions}
 use Rattle.net_core.specs.Sides.{Graphs}
-use Rattle.query_core.specs.Claims.{IsClaim}
-use Rattle.query_core.specs.ClaimQueries.{claim_query}
+use Rattle.claim_core.specs.Claims.{IsClaim}
+use Rattle.claim_core.specs.ClaimQueries.{claim_query}
 use Rattle.account_core.specs.Exclusions.{AreRight}
 use Rattle.account_check.specs.declared.verdict.Verdict.TheVariants as verdict
 use Rattle.account_check.specs.Logs.{OpenFact}

@@ -1,7 +1,7 @@
 //! The log that shows that a claim holds.
 
 ghost use Rattle.std.specs.Prelude.{◌≡◌, ◌++◌, ◌∷◌, [], IfOk, OnOk, OnErr, Err, None, Some};
-ghost use Rattle.query_core.specs.Claims.{IsClaim};
+ghost use Rattle.claim_core.specs.Claims.{IsClaim};
 ghost use Rattle.account_check.specs.Logs.{fact_reject, unshown};
 ghost use Rattle.account_check.specs.declared.reject.RecordStop.TheVariants as stop;
 ghost use Rattle.account_check.specs.declared.reject.Reject.{Reject as AnyReject};

@@ -2,7 +2,7 @@
 
 ghost use Rattle.std.specs.Prelude.{◌≡◌, [], true, false, ◌<◌, ◌≤◌, ◌^◌, IfOk, OnOk, OnErr, Err, None, Some, length};
 ghost use Rattle.circuits.specs.Matches.{HavePorts, IsMatchOfFunctions};
-ghost use Rattle.query_core.specs.MatchQueries.{IsOfMatching};
+ghost use Rattle.claim_core.specs.MatchQueries.{IsOfMatching};
 ghost use Rattle.account_check.specs.Logs.{match_reject, log_count, unproved, with_line};
 ghost use Rattle.account_check.specs.Proofs.{IsLog, lines_in};
 ghost use Rattle.account_check.specs.declared.reject.RecordStop.TheVariants as stop;

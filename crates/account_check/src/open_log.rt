@@ -3,9 +3,9 @@
 ghost use Rattle.std.specs.Prelude.{◌≡◌, ◌<◌, ◌++◌, ◌∷◌, [], true, IfOk, OnOk, OnErr, Ok, Err, None, Some, length};
 ghost use Rattle.circuits.specs.Matches.{HavePorts};
 ghost use Rattle.cnf_core.specs.Derivations.{is_empty, line_fault};
-ghost use Rattle.query_core.specs.Formulas.{formula_of, IsRefuted};
-ghost use Rattle.query_core.specs.MatchQueries.{match_query, IsOfMatching};
-ghost use Rattle.query_core.specs.Queries.{IsQuery};
+ghost use Rattle.claim_core.specs.Formulas.{formula_of, IsRefuted};
+ghost use Rattle.claim_core.specs.MatchQueries.{match_query, IsOfMatching};
+ghost use Rattle.claim_core.specs.Queries.{IsQuery};
 ghost use Rattle.account_check.specs.Logs.{refutation_of};
 ghost use Rattle.account_check.specs.declared.reject.RecordStop.TheVariants as stop;
 ghost use Rattle.account_check.specs.declared.reject.Reject.{Reject as AnyReject};

@@ -8,7 +8,7 @@ use Rattle.circuits.specs.declared.port.PortKind.{PortKind}
 use Rattle.circuits.specs.Bijections.{place_of, sign_of}
 use Rattle.circuits.specs.Matches.{IsMatchOfFunctions}
 use Rattle.net_core.specs.Sides.{Graphs}
-use Rattle.query_core.specs.Images.{HasPair, Extends, entries_of}
+use Rattle.claim_core.specs.Images.{HasPair, Extends, entries_of}
 use Rattle.account_core.specs.Ports.{ports_in}
 use Rattle.account_core.specs.Given.{Given, ban_at}
 use Rattle.account_core.specs.Exclusions.{Excludes}

@@ -12,11 +12,11 @@ use Rattle.circuits.specs.Matches.{IsMatchOfFunctions}
 use Rattle.net_core.specs.Sides.{Graphs}
 use Rattle.net_core.specs.declared.graphs.Side.TheVariants.{First}
 use Rattle.net_core.specs.Sides.{graph_of}
-use Rattle.query_core.specs.declared.claims.Claim.{Claim}
-use Rattle.query_core.specs.Claims.{IsPlaced, ShapeHolds}
-use Rattle.query_core.specs.Images.{HasPair, Extends, image_of, pair_of, one_input, moved_value, moved_one, claim_of_second}
-use Rattle.query_core.proofs.ClaimLaws.{no_break}
-use Rattle.query_core.proofs.ImageLaws.{image_holds}
+use Rattle.claim_core.specs.declared.claims.Claim.{Claim}
+use Rattle.claim_core.specs.Claims.{IsPlaced, ShapeHolds}
+use Rattle.claim_core.specs.Images.{HasPair, Extends, image_of, pair_of, one_input, moved_value, moved_one, claim_of_second}
+use Rattle.claim_core.proofs.ClaimLaws.{no_break}
+use Rattle.claim_core.proofs.ImageLaws.{image_holds}
 use Rattle.account_core.specs.Given.{Given, Says, fact_at, no_fact, IsFactGiven, IsTrueFact}
 use Rattle.account_core.specs.Exclusions.{Excludes}
 use Rattle.account_core.specs.Mismatches.{IsMismatch}

@@ -9,8 +9,8 @@ use Rattle.circuits.specs.declared.port.PortKind.TheVariants.{Input, Output}
 use Rattle.circuits.specs.Netlists.{Net}
 use Rattle.circuits.specs.Bijections.{IsSignedBijection, place_of, sign_of}
 use Rattle.circuits.specs.Matches.{IsMatchOfFunctions}
-use Rattle.query_core.specs.Images.{HasPair, entries_of, same_kind, is_of, pair_of}
-pub use Rattle.query_core.proofs.ImageLemmas.{kind_is}
+use Rattle.claim_core.specs.Images.{HasPair, entries_of, same_kind, is_of, pair_of}
+pub use Rattle.claim_core.proofs.ImageLemmas.{kind_is}
 use Rattle.account_core.specs.Ports.{ports_in, Clash}
 
 -- the ports of each kind are as many, and go to one another by a signed bijection

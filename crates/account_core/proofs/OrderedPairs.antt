@@ -3,7 +3,7 @@ use Rattle.std.proofs.Common.{◌≡◌, ◌⊎◌, ℕ, ◌<◌, List, length, 
 use Rattle.std.proofs.lemmas.Bool.{cases_order}
 use Rattle.std.proofs.lemmas.List.{get_or_default}
 use Rattle.circuits.specs.declared.port.Pair.{Pair}
-use Rattle.query_core.specs.Images.{Agree}
+use Rattle.claim_core.specs.Images.{Agree}
 use Rattle.account_core.specs.Ports.{StandInOrder, AreOrdered}
 
 -- a pair that stands before another

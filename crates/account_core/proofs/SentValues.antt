@@ -12,7 +12,7 @@ use Rattle.circuits.specs.Bijections.{IsSignedBijection, Moves, moved, place_of,
 use Rattle.circuits.proofs.Places.{moved-moves, length-moved}
 use Rattle.net_core.specs.Sides.{Graphs}
 use Rattle.net_core.specs.Graph.{IsGraph}
-use Rattle.query_core.specs.Images.{HasPair, Extends}
+use Rattle.claim_core.specs.Images.{HasPair, Extends}
 use Rattle.word_sim.specs.declared.tri.Tri.{Tri}
 use Rattle.word_sim.specs.declared.tri.Tri.TheVariants.{Zero, One, X}
 use Rattle.word_sim.specs.ThreeValues.{tri_outputs, IsBitOf, FillsIn}

@@ -12,12 +12,12 @@ use Rattle.net_core.specs.Sides.{Graphs}
 use Rattle.net_core.specs.declared.graphs.Side.{Side}
 use Rattle.net_core.specs.declared.graphs.Side.TheVariants.{First, Second}
 use Rattle.net_core.specs.Sides.{graph_of}
-use Rattle.query_core.specs.declared.claims.Claim.{Claim}
-use Rattle.query_core.specs.declared.claims.Shape.{Shape}
-use Rattle.query_core.specs.declared.claims.Shape.TheVariants.{Up, Down}
-use Rattle.query_core.specs.Claims.{IsPlaced, ShapeHolds, ShapeFails}
-use Rattle.query_core.specs.Images.{HasPair}
-use Rattle.query_core.proofs.ClaimLaws.{no_break}
+use Rattle.claim_core.specs.declared.claims.Claim.{Claim}
+use Rattle.claim_core.specs.declared.claims.Shape.{Shape}
+use Rattle.claim_core.specs.declared.claims.Shape.TheVariants.{Up, Down}
+use Rattle.claim_core.specs.Claims.{IsPlaced, ShapeHolds, ShapeFails}
+use Rattle.claim_core.specs.Images.{HasPair}
+use Rattle.claim_core.proofs.ClaimLaws.{no_break}
 use Rattle.account_core.specs.declared.step.Tallied.{Tallied}
 use Rattle.account_core.specs.declared.step.Tallied.TheVariants.{Support, Binate}
 use Rattle.account_core.specs.Given.{Decided, Given, decided, no_fact, fact_at, IsFactGiven, IsTrueFact}

@@ -3,7 +3,7 @@ use Rattle.std.specs.Prelude.{ℕ, Bool, List, All}
 use Rattle.circuits.specs.declared.port.Pair.{Pair}
 use Rattle.circuits.specs.Matches.{IsMatchOfFunctions}
 use Rattle.net_core.specs.Sides.{Graphs}
-use Rattle.query_core.specs.Images.{Extends}
+use Rattle.claim_core.specs.Images.{Extends}
 use Rattle.account_core.specs.Given.{Given, IsTrueFact}
 
 -- no match extends the pairs

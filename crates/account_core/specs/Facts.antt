@@ -2,10 +2,10 @@
 use Rattle.std.specs.Prelude.{◌≢◌, List, All, AllPairs}
 use Rattle.cnf_core.specs.Derivations.{IsRefutation}
 use Rattle.net_core.specs.Sides.{Graphs}
-use Rattle.query_core.specs.declared.claims.Claim.{Claim}
-use Rattle.query_core.specs.Claims.{Breaks, IsClaim}
-use Rattle.query_core.specs.Formulas.{formula_of}
-use Rattle.query_core.specs.ClaimQueries.{claim_query}
+use Rattle.claim_core.specs.declared.claims.Claim.{Claim}
+use Rattle.claim_core.specs.Claims.{Breaks, IsClaim}
+use Rattle.claim_core.specs.Formulas.{formula_of}
+use Rattle.claim_core.specs.ClaimQueries.{claim_query}
 use Rattle.account_core.specs.declared.fact.Evidence.{Evidence}
 use Rattle.account_core.specs.declared.fact.Evidence.TheVariants.{Fails, Holds}
 use Rattle.account_core.specs.declared.fact.Fact.{Fact}

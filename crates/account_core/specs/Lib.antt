@@ -8,10 +8,10 @@ pub mod Covers
 pub mod Steps
 pub mod Facts
 pub mod Shown
-pub use Rattle.query_core.specs.Claims
-pub use Rattle.query_core.specs.Images
+pub use Rattle.claim_core.specs.Claims
+pub use Rattle.claim_core.specs.Images
 pub use Rattle.word_sim.specs.ThreeValues
-pub use Rattle.query_core.specs.Formulas
-pub use Rattle.query_core.specs.MatchQueries
-pub use Rattle.query_core.specs.ClaimQueries
+pub use Rattle.claim_core.specs.Formulas
+pub use Rattle.claim_core.specs.MatchQueries
+pub use Rattle.claim_core.specs.ClaimQueries
 pub use Rattle.cnf_core.specs.Derivations

@@ -4,7 +4,7 @@ use Rattle.circuits.specs.declared.port.Pair.{Pair}
 use Rattle.circuits.specs.Literals.{EachAt}
 use Rattle.circuits.specs.declared.port.PortKind.TheVariants.{Output}
 use Rattle.net_core.specs.Sides.{Graphs}
-use Rattle.query_core.specs.Images.{pair_of}
+use Rattle.claim_core.specs.Images.{pair_of}
 use Rattle.account_core.specs.declared.step.Step.{Step}
 use Rattle.account_core.specs.declared.step.Step.TheVariants as step
 use Rattle.account_core.specs.declared.step.Ban.{Ban}

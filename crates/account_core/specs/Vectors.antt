@@ -5,7 +5,7 @@ use Rattle.std.specs.List.{range_with_len}
 use Rattle.circuits.specs.declared.port.Pair.{Pair}
 use Rattle.circuits.specs.declared.port.PortKind.TheVariants.{Input, Output}
 use Rattle.net_core.specs.Sides.{Graphs}
-use Rattle.query_core.specs.Images.{same_kind, pair_of}
+use Rattle.claim_core.specs.Images.{same_kind, pair_of}
 use Rattle.word_sim.specs.declared.tri.Tri.{Tri}
 use Rattle.word_sim.specs.declared.tri.Tri.TheVariants.{X}
 use Rattle.word_sim.specs.ThreeValues.{tri_not, tri_outputs}

@@ -2,7 +2,7 @@
 
 use bit_list::Bits;
 use cnf_core::Log;
-use query_core::Claim;
+use claim_core::Claim;
 
 /// Why a claim fails, or why it holds.
 #[derive(Clone, Debug, Drop, PartialEq, Eq)]

@@ -9,7 +9,7 @@ ghost use Rattle.circuits.specs.Matches.{HaveNpnpEqualFunctions};
 ghost use Rattle.circuits.specs.Netlists.{Net};
 ghost use Rattle.net_core.specs.Graph.{IsGraph};
 ghost use Rattle.net_core.specs.Sides.{Graphs as TwoGraphs};
-ghost use Rattle.query_core.specs.Images.{Agree};
+ghost use Rattle.claim_core.specs.Images.{Agree};
 ghost use Rattle.word_sim.specs.declared.tri.Tri.{Tri as AnyTri};
 ghost use Rattle.account_core.specs.declared.step.Ban.{Ban as AnyBan};
 ghost use Rattle.account_core.specs.declared.step.Tallied.{Tallied as AnyTallied};

@@ -12,7 +12,7 @@ use crate::words::Words;
 use account_core::{Ban, Conclusion, FactHead, Step};
 use cnf_core::LogLine;
 use items::Few;
-use query_core::{Claim, Shape};
+use claim_core::{Claim, Shape};
 use std::alloc::Global;
 
 /// The record that a line writes, without its line feed.

@@ -11,7 +11,7 @@ use bit_list::Bits;
 use circuits::{Pair, PortKind};
 use cnf_core::{LogLine, SatLit};
 use net_core::Side;
-use query_core::{Claim, Shape};
+use claim_core::{Claim, Shape};
 use std::alloc::AllocError;
 use text_core::put_decimal;
 use word_sim::Tri;

@@ -9,7 +9,7 @@ use circuits::{Pair, PortKind};
 use cnf_core::{LogLine, SatLit};
 use items::{Few, Items};
 use net_core::Side;
-use query_core::{Claim, Shape};
+use claim_core::{Claim, Shape};
 use std::alloc::{AllocError, Global};
 use std::test::Fail;
 use word_sim::Tri;

@@ -8,7 +8,7 @@ use ban_check::{
 use circuits::{Pair, PortKind};
 use items::Items;
 use net_core::{Graphs, Side};
-use query_core::{Claim, Shape};
+use claim_core::{Claim, Shape};
 use std::alloc::{AllocError, Global};
 use std::test::Fail;
 use word_sim::Tri;

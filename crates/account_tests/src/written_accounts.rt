@@ -9,7 +9,7 @@ use circuits::{Pair, PortKind};
 use cnf_core::{Log, LogLine};
 use items::{Few, Items};
 use net_core::{Matching, Side};
-use query_core::{Claim, Shape};
+use claim_core::{Claim, Shape};
 use std::alloc::{AllocError, Global};
 use std::test::Fail;
 use text_out::put_all;

@@ -6,7 +6,7 @@ use Rattle.std.proofs.lemmas.List.{nil_from_length}
 use Rattle.std.proofs.lemmas.List.Elements.{All-cons}
 use Rattle.cnf_core.specs.declared.log.Log.{Log}
 use Rattle.cnf_core.specs.declared.log.LogLine.{LogLine}
-use Rattle.query_core.specs.declared.claims.Claim.{Claim}
+use Rattle.claim_core.specs.declared.claims.Claim.{Claim}
 use Rattle.account_core.specs.declared.fact.Evidence.{Evidence}
 use Rattle.account_core.specs.declared.fact.Evidence.TheVariants as evidence
 use Rattle.account_core.specs.declared.fact.Fact.{Fact}

@@ -10,8 +10,8 @@ use Rattle.cnf_core.specs.declared.log.Log.{Log}
 use Rattle.cnf_core.specs.Derivations.{IsRefutation}
 use Rattle.net_core.specs.Sides.{Graphs}
 use Rattle.net_core.specs.declared.matching.Matching.{Matching}
-use Rattle.query_core.specs.Formulas.{formula_of}
-use Rattle.query_core.specs.MatchQueries.{match_query}
+use Rattle.claim_core.specs.Formulas.{formula_of}
+use Rattle.claim_core.specs.MatchQueries.{match_query}
 use Rattle.account_core.specs.declared.conclusion.Conclusion.TheVariants as conclusion
 use Rattle.account_core.specs.Given.{Given}
 use Rattle.account_core.specs.Shown.{AreSame, AreLogs, IsShownMatch}

@@ -17,10 +17,10 @@ use Rattle.joint_hash.specs.Merging.{AreLemmas}
 use Rattle.joint_hash.specs.Trees.{AreJoined}
 use Rattle.learn_solver.proofs.AdvanceLemmas.{derived_after}
 use Rattle.net_core.specs.Sides.{Graphs}
-use Rattle.query_core.specs.declared.query.Query.{Query}
-use Rattle.query_core.specs.Queries.{vector_in}
-use Rattle.query_core.specs.Formulas.{Asking, formula_of}
-use Rattle.query_core.specs.ConeClauses.{AllOfCones, AreConeIds, Coned, IsConeId, MeetsCones}
+use Rattle.claim_core.specs.declared.query.Query.{Query}
+use Rattle.claim_core.specs.Queries.{vector_in}
+use Rattle.claim_core.specs.Formulas.{Asking, formula_of}
+use Rattle.claim_core.specs.ConeClauses.{AllOfCones, AreConeIds, Coned, IsConeId, MeetsCones}
 use Rattle.cnf_core.specs.Charges.{Charging}
 use Rattle.query_core.specs.Ledgers.{Ledgered, charging_of, one_if, opened, with_lines}
 use Rattle.query_core.proofs.ChargingLemmas.{asked_after, is_opened}

@@ -9,9 +9,9 @@ use Rattle.learn_solver.specs.Searches.{no_line}
 use Rattle.learn_solver.proofs.BoundLemmas.{AreUnlike, few_lines, line_at, unlike_at}
 use Rattle.learn_solver.proofs.SolverLemmas.{line_known, line_says}
 use Rattle.net_core.specs.Sides.{Graphs}
-use Rattle.query_core.specs.declared.query.Query.{Query}
+use Rattle.claim_core.specs.declared.query.Query.{Query}
 use Rattle.query_core.specs.declared.ledger.Asked.{Asked}
-use Rattle.query_core.specs.Formulas.{formula_of}
+use Rattle.claim_core.specs.Formulas.{formula_of}
 use Rattle.query_core.specs.Ledgers.{Ledgered, charged_front, charged_in, entry_of, last_asked, nothing_asked, opened, with_lines}
 use Rattle.ask_core.specs.Answers.{IsAskedIn, IsAskedWith, IsBounded, IsBoundedStop, IsStoppedAfter}
 

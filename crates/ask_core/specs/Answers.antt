@@ -8,10 +8,10 @@ use Rattle.joint_hash.specs.Merging.{AreLemmas}
 use Rattle.joint_hash.specs.Trees.{AreJoined}
 use Rattle.learn_solver.specs.Analyses.{has_all}
 use Rattle.net_core.specs.Sides.{Graphs}
-use Rattle.query_core.specs.declared.query.Query.{Query}
-use Rattle.query_core.specs.Queries.{MeetsQuery, bits_in}
-use Rattle.query_core.specs.Formulas.{formula_of}
-use Rattle.query_core.specs.ConeClauses.{AllOfCones}
+use Rattle.claim_core.specs.declared.query.Query.{Query}
+use Rattle.claim_core.specs.Queries.{MeetsQuery, bits_in}
+use Rattle.claim_core.specs.Formulas.{formula_of}
+use Rattle.claim_core.specs.ConeClauses.{AllOfCones}
 use Rattle.query_core.specs.Ledgers.{Ledgered, charged_in, last_asked, learned_in, lines_in, opened, with_lines}
 use Rattle.ask_core.specs.declared.question.Answer.{Answer}
 use Rattle.ask_core.specs.declared.question.Answer.TheVariants.{Vector, Refuted}

@@ -3,8 +3,8 @@
 ghost use Rattle.std.specs.Prelude.{◌≡◌, false, IfOk, IfErr};
 ghost use Rattle.std.specs.List.{list_any};
 ghost use Rattle.cnf_core.specs.Derivations.{AreDerived, clauses_of, is_empty};
-ghost use Rattle.query_core.specs.Formulas.{formula_of};
-ghost use Rattle.query_core.specs.Queries.{IsQuery};
+ghost use Rattle.claim_core.specs.Formulas.{formula_of};
+ghost use Rattle.claim_core.specs.Queries.{IsQuery};
 ghost use Rattle.ask_core.specs.Answers.{IsAnswer, IsAskedWith, IsBounded, IsBoundedStop, IsStoppedWith};
 
 use crate::question::Answer;

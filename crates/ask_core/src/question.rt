@@ -1,8 +1,8 @@
 //! One question, asked.
 
 ghost use Rattle.std.specs.Prelude.{◌≡◌, false, IfOk, IfErr};
-ghost use Rattle.query_core.specs.Formulas.{formula_of};
-ghost use Rattle.query_core.specs.Queries.{IsQuery};
+ghost use Rattle.claim_core.specs.Formulas.{formula_of};
+ghost use Rattle.claim_core.specs.Queries.{IsQuery};
 ghost use Rattle.joint_hash.specs.Merging.{AreLemmas};
 ghost use Rattle.joint_hash.specs.Trees.{AreJoined};
 ghost use Rattle.ask_core.specs.Answers.{IsAnswer, IsAskedIn, IsBounded, IsBoundedStop, IsPaidFor, IsStopped, JoinsTrees};

@@ -1,9 +1,9 @@
 //! The vector that a model has.
 
 ghost use Rattle.std.specs.Prelude.{◌≡◌, IfOk, length};
-ghost use Rattle.query_core.specs.Queries.{IsQuery, bits_in, vector_in};
-ghost use Rattle.query_core.specs.Formulas.{formula_of};
-ghost use Rattle.query_core.specs.ConeClauses.{MeetsCones};
+ghost use Rattle.claim_core.specs.Queries.{IsQuery, bits_in, vector_in};
+ghost use Rattle.claim_core.specs.Formulas.{formula_of};
+ghost use Rattle.claim_core.specs.ConeClauses.{MeetsCones};
 ghost use Rattle.ask_core.specs.Answers.{IsVector};
 
 use items::Items;

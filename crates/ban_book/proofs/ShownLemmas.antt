@@ -4,7 +4,7 @@ use Rattle.std.specs.Prelude.{Contains}
 use Rattle.circuits.specs.declared.port.Pair.{Pair}
 use Rattle.net_core.specs.Sides.{Graphs}
 use Rattle.net_core.specs.declared.graphs.Side.{Side}
-use Rattle.query_core.specs.declared.claims.Shape.{Shape}
+use Rattle.claim_core.specs.declared.claims.Shape.{Shape}
 use Rattle.account_core.specs.declared.step.Tallied.{Tallied}
 use Rattle.account_core.specs.Given.{Decided, Given, fact_at}
 use Rattle.account_core.specs.Mismatches.{IsImage, IsMismatch}

@@ -11,12 +11,12 @@ use Rattle.net_core.specs.Sides.{Graphs}
 use Rattle.net_core.specs.Sides.{graph_of}
 use Rattle.net_core.specs.declared.graphs.Side.{Side}
 use Rattle.net_core.specs.declared.graphs.Side.TheVariants.{First, Second}
-use Rattle.query_core.specs.declared.claims.Claim.{Claim}
-use Rattle.query_core.specs.declared.claims.Shape.{Shape}
-use Rattle.query_core.specs.declared.claims.Shape.TheVariants.{Up, Down, Swap}
-use Rattle.query_core.specs.Claims.{IsClaim, IsPlaced}
-use Rattle.query_core.specs.Images.{claim_of_second, moved_one, moved_shape, moved_two, moved_value, one_input, pair_of}
-use Rattle.query_core.proofs.ImageLemmas.{chained, mapped}
+use Rattle.claim_core.specs.declared.claims.Claim.{Claim}
+use Rattle.claim_core.specs.declared.claims.Shape.{Shape}
+use Rattle.claim_core.specs.declared.claims.Shape.TheVariants.{Up, Down, Swap}
+use Rattle.claim_core.specs.Claims.{IsClaim, IsPlaced}
+use Rattle.claim_core.specs.Images.{claim_of_second, moved_one, moved_shape, moved_two, moved_value, one_input, pair_of}
+use Rattle.claim_core.proofs.ImageLemmas.{chained, mapped}
 use Rattle.account_core.specs.declared.fact.Evidence.{Evidence}
 use Rattle.account_core.specs.declared.fact.Evidence.TheVariants as evidence
 use Rattle.account_core.specs.declared.fact.Fact.{Fact}

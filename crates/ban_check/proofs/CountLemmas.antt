@@ -4,8 +4,8 @@ use Rattle.std.specs.Bool.{IsTrue}
 use Rattle.std.specs.List.{flat_map}
 use Rattle.std.proofs.lemmas.Bool.Decides.{nat_tests}
 use Rattle.std.proofs.lemmas.Slice.Zip.{AllZip-long}
-use Rattle.query_core.specs.declared.claims.Shape.{Shape}
-use Rattle.query_core.specs.declared.claims.Shape.TheVariants.{Up, Down, Swap}
+use Rattle.claim_core.specs.declared.claims.Shape.{Shape}
+use Rattle.claim_core.specs.declared.claims.Shape.TheVariants.{Up, Down, Swap}
 use Rattle.account_core.specs.Given.{Given}
 use Rattle.account_core.specs.Tallies.{shapes_of, AreBothOfEach, AreOfEach}
 use Rattle.ban_check.specs.Counted.{one_input, twin_input, AscendFrom, GoOverInputs, GoOverTwice, IsNext}

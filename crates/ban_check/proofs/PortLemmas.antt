@@ -6,8 +6,8 @@ use Rattle.circuits.specs.declared.port.Pair.{Pair}
 use Rattle.circuits.specs.declared.port.PortKind.{PortKind}
 use Rattle.circuits.specs.declared.port.PortKind.TheVariants.{Input, Output}
 use Rattle.net_core.specs.Sides.{Graphs}
-use Rattle.query_core.specs.Images.{is_of, pair_of, same_kind}
-use Rattle.query_core.proofs.ImageLemmas.{found-is}
+use Rattle.claim_core.specs.Images.{is_of, pair_of, same_kind}
+use Rattle.claim_core.proofs.ImageLemmas.{found-is}
 use Rattle.account_core.specs.Ports.{ports_in, AreOrdered, IsKnown, StandInOrder}
 
 pub ordered_more : (pairs : List Pair) (k : ℕ) (e : Pair) → k < length pairs → ((i j : ℕ) (d : Pair) → i < j → j < k → StandInOrder (slice_index_or pairs i d) (slice_index_or pairs j d)) → All (λ other. StandInOrder other (get_or pairs k e)) (take k pairs) → (i j : ℕ) (d : Pair) → i < j → j < k + 1 → StandInOrder (slice_index_or pairs i d) (slice_index_or pairs j d)

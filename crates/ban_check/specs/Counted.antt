@@ -4,9 +4,9 @@ use Rattle.std.specs.List.{flat_map}
 use Rattle.circuits.specs.declared.port.Pair.{Pair}
 use Rattle.circuits.specs.declared.port.PortKind.{PortKind}
 use Rattle.circuits.specs.declared.port.PortKind.TheVariants.{Output}
-use Rattle.query_core.specs.declared.claims.Shape.{Shape}
-use Rattle.query_core.specs.declared.claims.Shape.TheVariants.{Up, Down, Swap}
-use Rattle.query_core.specs.declared.claims.Claim.{Claim}
+use Rattle.claim_core.specs.declared.claims.Shape.{Shape}
+use Rattle.claim_core.specs.declared.claims.Shape.TheVariants.{Up, Down, Swap}
+use Rattle.claim_core.specs.declared.claims.Claim.{Claim}
 use Rattle.account_core.specs.declared.step.Tallied.{Tallied}
 use Rattle.account_core.specs.declared.step.Tallied.TheVariants.{Support, Binate}
 use Rattle.account_core.specs.Covers.{way}

@@ -4,4 +4,4 @@ pub mod More
 pub use Rattle.account_core.specs.Given
 pub use Rattle.account_core.specs.Ports
 pub use Rattle.account_core.specs.Steps
-pub use Rattle.query_core.specs.Claims
+pub use Rattle.claim_core.specs.Claims

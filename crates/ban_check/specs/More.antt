@@ -1,7 +1,7 @@
 -- One fact more, and one ban more, than were given.
 use Rattle.std.specs.Prelude.{Bool, List, [], ◌∷◌, ◌++◌}
 use Rattle.circuits.specs.declared.port.Pair.{Pair}
-use Rattle.query_core.specs.declared.claims.Claim.{Claim}
+use Rattle.claim_core.specs.declared.claims.Claim.{Claim}
 use Rattle.account_core.specs.Given.{Given, decided}
 
 abbrev pub with_fact : Given → Claim → Bool → Given

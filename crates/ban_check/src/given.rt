@@ -7,7 +7,7 @@ ghost use Rattle.ban_check.specs.More.{with_ban, with_fact};
 use circuits::Pair;
 use items::{Few, Items};
 use net_core::Side;
-use query_core::{Claim, Shape};
+use claim_core::{Claim, Shape};
 use std::alloc::{AllocError, Global};
 use std::marker::Model;
 

@@ -13,7 +13,7 @@ use crate::vectors::shows_difference;
 use account_core::Step;
 use circuits::{Pair, PortKind};
 use net_core::Graphs;
-use query_core::pair_of;
+use claim_core::pair_of;
 use std::alloc::{AllocError, Global};
 
 /// Whether the output, the ports, the facts and the bans are there that a step names.

@@ -8,7 +8,7 @@ use crate::given::Given;
 use account_core::Tallied;
 use circuits::{Pair, PortKind};
 use net_core::{Graphs, Side};
-use query_core::{Claim, Shape};
+use claim_core::{Claim, Shape};
 
 /// Whether facts tell that one of two paired outputs has some inputs, and facts of the other one that it lacks others,
 /// which are together more than a circuit has.

@@ -9,7 +9,7 @@ ghost use Rattle.account_core.specs.Vectors.{signed, value_at, value_sent, value
 use circuits::{Pair, PortKind};
 use items::Items;
 use net_core::{Graph, Graphs};
-use query_core::pair_of;
+use claim_core::pair_of;
 use std::alloc::{AllocError, Global};
 use word_sim::{Tri, tri_eval};
 

@@ -9,10 +9,10 @@ use Rattle.circuits.specs.declared.port.PortKind.TheVariants.{Output}
 use Rattle.net_core.specs.Sides.{Graphs, graph_of}
 use Rattle.net_core.specs.declared.graphs.Side.{Side}
 use Rattle.net_core.specs.declared.graphs.Side.TheVariants.{First, Second}
-use Rattle.query_core.specs.declared.claims.Shape.{Shape}
-use Rattle.query_core.specs.declared.claims.Shape.TheVariants.{Up, Down}
-use Rattle.query_core.specs.Claims.{IsClaim, IsPlaced}
-use Rattle.query_core.specs.Images.{one_input}
+use Rattle.claim_core.specs.declared.claims.Shape.{Shape}
+use Rattle.claim_core.specs.declared.claims.Shape.TheVariants.{Up, Down}
+use Rattle.claim_core.specs.Claims.{IsClaim, IsPlaced}
+use Rattle.claim_core.specs.Images.{one_input}
 use Rattle.account_core.specs.declared.step.Step.TheVariants as step
 use Rattle.account_core.specs.declared.step.Tallied.{Tallied}
 use Rattle.account_core.specs.declared.step.Tallied.TheVariants.{Support, Binate}
@@ -25,7 +25,7 @@ use Rattle.claim_rows.specs.Rows.{no_told, row_on, says_both, says_one, told_at,
 use Rattle.claim_rows.proofs.PlaceLemmas.{ascending_count}
 use Rattle.claim_rows.proofs.RowLemmas.{length_of_side, row_of_side, row_tells, same_said}
 use Rattle.claim_rows.proofs.UnevenLemmas.{both_or_one}
-use Rattle.query_core.proofs.EqualLemmas.{bool_decides}
+use Rattle.claim_core.proofs.EqualLemmas.{bool_decides}
 
 -- a claim's inputs are its circuit's
 placed_at : (n input : ℕ) (value : Bool) → IsPlaced n (one_input input value) → input < n

@@ -4,10 +4,10 @@ use Rattle.std.specs.List.{flat_map}
 use Rattle.std.proofs.lemmas.List.{map_push, get_or_append_left, length-append, length-map}
 use Rattle.std.proofs.lemmas.List.Elements.{All-push}
 use Rattle.net_core.specs.declared.graphs.Side.{Side}
-use Rattle.query_core.specs.declared.claims.Claim.{Claim}
-use Rattle.query_core.specs.declared.claims.Shape.{Shape}
-use Rattle.query_core.specs.declared.claims.Shape.TheVariants.{Up, Down}
-use Rattle.query_core.specs.Images.{one_input}
+use Rattle.claim_core.specs.declared.claims.Claim.{Claim}
+use Rattle.claim_core.specs.declared.claims.Shape.{Shape}
+use Rattle.claim_core.specs.declared.claims.Shape.TheVariants.{Up, Down}
+use Rattle.claim_core.specs.Images.{one_input}
 use Rattle.account_core.specs.Given.{Decided, fact_at, given_of, no_fact, IsFactGiven}
 use Rattle.account_core.specs.Tallies.{shapes_of, AreOfEach, SayOf}
 use Rattle.claim_rows.specs.Told.{AddsFact, IsToldAs}

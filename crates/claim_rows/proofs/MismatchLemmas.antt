@@ -8,11 +8,11 @@ use Rattle.circuits.specs.declared.port.PortKind.{PortKind}
 use Rattle.circuits.specs.declared.port.PortKind.TheVariants.{Input, Output}
 use Rattle.net_core.specs.Sides.{Graphs}
 use Rattle.net_core.specs.declared.graphs.Side.TheVariants.{First, Second}
-use Rattle.query_core.specs.declared.claims.Claim.{Claim}
-use Rattle.query_core.specs.declared.claims.Shape.{Shape}
-use Rattle.query_core.specs.declared.claims.Shape.TheVariants.{Swap}
-use Rattle.query_core.specs.Claims.{IsClaim, IsPlaced}
-use Rattle.query_core.specs.Images.{claim_of_second, image_of, is_of, moved_one, moved_shape, moved_two, moved_value, one_input, pair_of, same_kind, two_inputs}
+use Rattle.claim_core.specs.declared.claims.Claim.{Claim}
+use Rattle.claim_core.specs.declared.claims.Shape.{Shape}
+use Rattle.claim_core.specs.declared.claims.Shape.TheVariants.{Swap}
+use Rattle.claim_core.specs.Claims.{IsClaim, IsPlaced}
+use Rattle.claim_core.specs.Images.{claim_of_second, image_of, is_of, moved_one, moved_shape, moved_two, moved_value, one_input, pair_of, same_kind, two_inputs}
 use Rattle.account_core.specs.Mismatches.{IsImage}
 use Rattle.account_core.specs.Ports.{ports_in, AreOrdered, IsKnown, StandInOrder}
 use Rattle.account_core.proofs.Matched.{pair_of-held}

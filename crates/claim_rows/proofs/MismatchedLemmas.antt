@@ -3,7 +3,7 @@ use Rattle.std.proofs.Common.{◌≡◌, ◌≢◌, ℕ, Bool, true, false, List
 use Rattle.std.specs.Bool.{beq}
 use Rattle.circuits.specs.declared.port.Pair.{Pair}
 use Rattle.net_core.specs.Sides.{Graphs}
-use Rattle.query_core.specs.declared.claims.Claim.{Claim}
+use Rattle.claim_core.specs.declared.claims.Claim.{Claim}
 use Rattle.account_core.specs.declared.step.Ban.{Ban}
 use Rattle.account_core.specs.Given.{Decided, fact_at, given_of}
 use Rattle.account_core.specs.Mismatches.{IsImage}

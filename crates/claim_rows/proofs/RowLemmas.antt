@@ -6,9 +6,9 @@ use Rattle.circuits.specs.declared.port.Pair.{Pair}
 use Rattle.net_core.specs.Sides.{Graphs}
 use Rattle.net_core.specs.declared.graphs.Side.{Side}
 use Rattle.net_core.specs.declared.graphs.Side.TheVariants.{First, Second}
-use Rattle.query_core.specs.declared.claims.Claim.{Claim}
-use Rattle.query_core.specs.declared.claims.Shape.TheVariants.{Up, Down}
-use Rattle.query_core.specs.Images.{one_input}
+use Rattle.claim_core.specs.declared.claims.Claim.{Claim}
+use Rattle.claim_core.specs.declared.claims.Shape.TheVariants.{Up, Down}
+use Rattle.claim_core.specs.Images.{one_input}
 use Rattle.account_core.specs.Given.{Decided, decided, fact_at, given_of, no_fact}
 use Rattle.account_core.specs.Tallies.{port_on}
 use Rattle.ban_book.specs.Vectors.{AreDecided, AreEndsDecided, AreInputsDecided, IsDecided}

@@ -12,8 +12,8 @@ use Rattle.circuits.specs.declared.port.Pair.{Pair}
 use Rattle.circuits.specs.declared.port.PortKind.TheVariants.{Output}
 use Rattle.net_core.specs.Sides.{Graphs}
 use Rattle.net_core.specs.declared.graphs.Side.{Side}
-use Rattle.query_core.specs.declared.claims.Claim.{Claim}
-use Rattle.query_core.specs.declared.claims.Shape.{Shape}
+use Rattle.claim_core.specs.declared.claims.Claim.{Claim}
+use Rattle.claim_core.specs.declared.claims.Shape.{Shape}
 use Rattle.account_core.specs.declared.step.Ban.{Ban}
 use Rattle.account_core.specs.Given.{Decided, given_of}
 use Rattle.account_core.specs.Ports.{IsKnown}
@@ -29,7 +29,7 @@ use Rattle.claim_rows.proofs.ListLemmas.{flat_push}
 use Rattle.claim_rows.proofs.ListedLemmas.{lists_both, lists_none, lists_one, lists_skip}
 use Rattle.claim_rows.proofs.RowLemmas.{length_of_side, row_of_side}
 use Rattle.claim_rows.proofs.TallyLemmas.{tally_valid}
-use Rattle.query_core.proofs.EqualLemmas.{bool_decides}
+use Rattle.claim_core.proofs.EqualLemmas.{bool_decides}
 
 adds : (facts : List Decided) (claim : Claim) (told holds : Bool) (number : ℕ) (before after : List ℕ) → IsToldAs facts claim told number → beq told holds ≡ true → after ≡ before ++ number ∷ [] → AddsFact facts claim holds before after
 adds facts claim told holds number before after is same more = record {

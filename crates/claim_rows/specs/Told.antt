@@ -1,6 +1,6 @@
 -- What facts say of claims.
 use Rattle.std.specs.Prelude.{◌≡◌, ℕ, ◌<◌, Bool, List, [], ◌∷◌, ◌++◌, length}
-use Rattle.query_core.specs.declared.claims.Claim.{Claim}
+use Rattle.claim_core.specs.declared.claims.Claim.{Claim}
 use Rattle.account_core.specs.Given.{Decided, decided, fact_at, given_of}
 
 -- The fact of a number says of a claim that it holds, or that it fails.

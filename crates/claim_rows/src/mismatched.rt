@@ -2,7 +2,7 @@
 
 ghost use Rattle.std.specs.Prelude.{◌≡◌, IfOk};
 ghost use Rattle.net_core.specs.declared.graphs.Side.TheVariants as AnySide;
-ghost use Rattle.query_core.specs.Images.{moved_value, one_input};
+ghost use Rattle.claim_core.specs.Images.{moved_value, one_input};
 ghost use Rattle.claim_rows.specs.Mismatched.{mismatch_of, unlike_of};
 
 use crate::ports::{moved_value, one_input};
@@ -11,7 +11,7 @@ use account_core::{Ban, Step};
 use circuits::Pair;
 use items::Few;
 use net_core::Side;
-use query_core::Claim;
+use claim_core::Claim;
 use std::alloc::{AllocError, Global};
 
 /// A claim of the first circuit, and that of the second which pairs carry it to.

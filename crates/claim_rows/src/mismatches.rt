@@ -2,7 +2,7 @@
 
 ghost use Rattle.std.specs.Prelude.{◌≡◌, ◌<◌, All, Contains, IfNone, IfOk, IfSome, length};
 ghost use Rattle.circuits.specs.declared.port.PortKind.TheVariants.{Input};
-ghost use Rattle.query_core.specs.Images.{moved_value};
+ghost use Rattle.claim_core.specs.Images.{moved_value};
 ghost use Rattle.claim_rows.specs.Rows.{AreAlike, IsApart, IsApartAt, IsMismatchBan, told_at};
 
 use crate::mismatched::{Unlike, mismatch_ban, unlike_of};

@@ -1,10 +1,10 @@
 //! Shapes of claims about the inputs of pairs.
 
 ghost use Rattle.std.specs.Prelude.{◌≡◌};
-ghost use Rattle.query_core.specs.Images.{moved_value, one_input, two_inputs};
+ghost use Rattle.claim_core.specs.Images.{moved_value, one_input, two_inputs};
 
 use circuits::Pair;
-use query_core::Shape;
+use claim_core::Shape;
 
 /// The shape of one input with a value.
 pub fn one_input(input: u32, value: bool) -> Shape

@@ -10,7 +10,7 @@ use Rattle.circuits.specs.declared.port.PortKind.{PortKind}
 use Rattle.net_core.specs.declared.graphs.Side.{Side}
 use Rattle.net_core.specs.declared.graphs.Side.TheVariants.{First, Second}
 use Rattle.account_core.specs.Tallies.{port_on}
-use Rattle.port_covers.specs.Held.{AreApart}
+use Rattle.port_sides.specs.Held.{AreApart}
 use Rattle.class_refine.specs.declared.entry.Entry.{Entry}
 use Rattle.class_refine.specs.Numbers.{at_ports, pair_number, pairs_of_ports, port_number}
 use Rattle.class_refine.specs.Trails.{Domained, AreEntries, IsFreePort, IsOpen, IsPairOf, held_in, is_at, is_held, ports_of}

@@ -5,9 +5,9 @@ use Rattle.circuits.specs.declared.port.Pair.{Pair}
 use Rattle.circuits.specs.declared.port.PortKind.{PortKind}
 use Rattle.circuits.specs.declared.port.PortKind.TheVariants.{Input, Output}
 use Rattle.net_core.specs.declared.graphs.Side.{Side}
-use Rattle.query_core.specs.Images.{same_kind}
+use Rattle.claim_core.specs.Images.{same_kind}
 use Rattle.account_core.specs.Tallies.{port_on}
-use Rattle.port_covers.specs.Held.{AreApart}
+use Rattle.port_sides.specs.Held.{AreApart}
 use Rattle.class_refine.specs.declared.entry.Entry.{Entry}
 use Rattle.class_refine.specs.declared.entry.Fate.{Fate}
 use Rattle.class_refine.specs.declared.entry.Reason.{Reason}

@@ -10,7 +10,7 @@ use Rattle.net_core.specs.Sides.{Graphs}
 use Rattle.account_core.specs.declared.step.Ban.{Ban}
 use Rattle.account_core.specs.Ports.{ports_in, IsKnown}
 use Rattle.ban_book.specs.Covering.{Covers}
-use Rattle.port_covers.specs.Held.{IsPart}
+use Rattle.port_sides.specs.Held.{IsPart}
 use Rattle.port_covers.proofs.ListLemmas.{cons_more}
 use Rattle.class_refine.specs.Trails.{IsPairOf, ports_of}
 use Rattle.conflict_core.specs.declared.port.Resolved.{Resolved}

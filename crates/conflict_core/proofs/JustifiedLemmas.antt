@@ -6,7 +6,7 @@ use Rattle.std.proofs.lemmas.List.Elements.{Contains-append_left, filter-append}
 use Rattle.circuits.specs.declared.port.Pair.{Pair}
 use Rattle.net_core.specs.declared.graphs.Side.{Side}
 use Rattle.account_core.specs.declared.step.Ban.{Ban}
-use Rattle.port_covers.specs.Held.{AreApart}
+use Rattle.port_sides.specs.Held.{AreApart}
 use Rattle.class_refine.specs.declared.entry.Entry.{Entry}
 use Rattle.class_refine.specs.declared.entry.Fate.{Fate}
 use Rattle.class_refine.specs.declared.entry.Fate.TheVariants.{Held, Deleted}

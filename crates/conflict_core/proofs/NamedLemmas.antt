@@ -10,7 +10,7 @@ use Rattle.account_core.specs.declared.step.Ban.{Ban}
 use Rattle.account_core.specs.Ports.{Clash}
 use Rattle.ban_book.specs.Covering.{IsWithin}
 use Rattle.ban_book.proofs.ListLemmas.{zip_map, zip_taken}
-use Rattle.port_covers.specs.Held.{IsPart}
+use Rattle.port_sides.specs.Held.{IsPart}
 use Rattle.port_covers.specs.declared.block.Block.{Block}
 use Rattle.port_covers.specs.Ways.{nth_way, ways_in, IsBlock}
 use Rattle.port_covers.proofs.BlockLemmas.{each_in}

@@ -7,7 +7,7 @@ use Rattle.circuits.specs.declared.port.Pair.{Pair}
 use Rattle.port_covers.proofs.ListLemmas.{cons_more, contains_cons}
 use Rattle.net_core.specs.Sides.{Graphs}
 use Rattle.account_core.specs.Ports.{IsKnown}
-use Rattle.port_covers.specs.Held.{AreApart, AreHeld}
+use Rattle.port_sides.specs.Held.{AreApart, AreHeld}
 use Rattle.class_refine.specs.declared.entry.Entry.{Entry}
 use Rattle.class_refine.specs.declared.entry.Fate.TheVariants.{Held}
 use Rattle.net_core.specs.declared.graphs.Side.{Side}

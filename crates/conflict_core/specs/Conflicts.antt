@@ -6,7 +6,7 @@ use Rattle.net_core.specs.Sides.{Graphs}
 use Rattle.account_core.specs.declared.step.Ban.{Ban}
 use Rattle.account_core.specs.Ports.{HaveAsMany}
 use Rattle.ban_book.specs.Covering.{Covers}
-use Rattle.port_covers.specs.Held.{IsPart}
+use Rattle.port_sides.specs.Held.{IsPart}
 use Rattle.class_refine.specs.declared.entry.Entry.{Entry}
 use Rattle.class_refine.specs.declared.entry.Fate.TheVariants.{Held}
 use Rattle.class_refine.specs.declared.entry.Cause.TheVariants.{Choice}

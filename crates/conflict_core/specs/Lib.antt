@@ -5,6 +5,6 @@ pub mod Justified
 pub mod Grounded
 pub mod Pivots
 pub use Rattle.class_refine.specs.Trails
-pub use Rattle.port_covers.specs.Held
+pub use Rattle.port_sides.specs.Held
 pub use Rattle.port_covers.specs.Ways
 pub use Rattle.class_refine.specs.Kept

@@ -2,7 +2,7 @@
 
 ghost use Rattle.std.specs.Prelude.{◌≡◌, All, AllPairs, Contains, IfOk, OnOk};
 ghost use Rattle.ban_book.specs.Covering.{Covers};
-ghost use Rattle.port_covers.specs.Held.{AreApart, AreHeld, IsPart};
+ghost use Rattle.port_sides.specs.Held.{AreApart, AreHeld, IsPart};
 ghost use Rattle.port_covers.specs.Ways.{IsBlock, ways_in};
 ghost use Rattle.class_refine.specs.Trails.{ports_of};
 ghost use Rattle.conflict_core.specs.Conflicts.{FitPorts, IsConflict};

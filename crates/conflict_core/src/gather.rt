@@ -2,7 +2,7 @@
 
 ghost use Rattle.std.specs.Prelude.{◌≡◌, ◌↔◌, All, AllPairs, Contains, IfOk, IsTrue, OnOk, Some};
 ghost use Rattle.account_core.specs.Covers.{IsImpossible};
-ghost use Rattle.port_covers.specs.Held.{AddsHeld, AreApart, IsPart};
+ghost use Rattle.port_sides.specs.Held.{AddsHeld, AreApart, IsPart};
 ghost use Rattle.class_refine.specs.Trails.{IsPairOf};
 ghost use Rattle.conflict_core.specs.Named.{AreAllGathered, AreAllNamed, AreNamed, IsGathered, IsLeftOutOr, IsNamedIn};
 

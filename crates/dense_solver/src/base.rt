@@ -3,7 +3,7 @@
 ghost use Rattle.std.specs.Prelude.{◌≡◌, ◌<◌, ◌^◌, ◌++◌, All, IfOk, length, map};
 ghost use Rattle.cnf_core.specs.Clauses.{clause_at};
 ghost use Rattle.cnf_core.specs.Derivations.{clauses_of};
-ghost use Rattle.query_core.specs.Formulas.{formula_of, query_clauses};
+ghost use Rattle.claim_core.specs.Formulas.{formula_of, query_clauses};
 ghost use Rattle.watch_lists.specs.Propagations.{AreKnown};
 ghost use Rattle.dense_solver.specs.Renamings.{AreShort, IsRenaming, numbers_of, renamed, small_formula};
 

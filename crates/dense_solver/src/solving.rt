@@ -2,7 +2,7 @@
 
 ghost use Rattle.std.specs.Prelude.{◌≡◌, ◌<◌, ◌^◌, All, IfOk, IfErr, true, false, length};
 ghost use Rattle.cnf_core.specs.Derivations.{AreDerived, clauses_of};
-ghost use Rattle.query_core.specs.Formulas.{formula_of};
+ghost use Rattle.claim_core.specs.Formulas.{formula_of};
 ghost use Rattle.learn_solver.specs.Solvers.{IsAsking, IsExtended, IsStopped};
 ghost use Rattle.dense_solver.specs.Renamings.{AreShort, IsRenaming, small_formula};
 ghost use Rattle.dense_solver.specs.Solved.{IsDenseVerdict, IsOf, IsSettled, IsUnsettled, start_of, with_lines_of};

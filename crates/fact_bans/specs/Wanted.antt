@@ -1,6 +1,6 @@
 -- Facts that are wanted of an output.
 use Rattle.std.specs.Prelude.{ℕ, Bool, true, false, List, map}
-use Rattle.query_core.specs.declared.claims.Shape.{Shape}
+use Rattle.claim_core.specs.declared.claims.Shape.{Shape}
 use Rattle.account_core.specs.Given.{decided_by}
 use Rattle.account_core.specs.Tallies.{AreBothOfEach, AreOfEach}
 use Rattle.oracle_core.specs.Oracles.{Known}

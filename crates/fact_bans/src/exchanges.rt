@@ -5,8 +5,8 @@ ghost use Rattle.circuits.specs.declared.port.PortKind.TheVariants.{Input, Outpu
 ghost use Rattle.net_core.specs.declared.graphs.Side.TheVariants as AnySide;
 ghost use Rattle.account_core.specs.Ports.{IsKnown};
 ghost use Rattle.ban_book.specs.Covering.{Covers};
-ghost use Rattle.query_core.specs.declared.claims.Shape.TheVariants as AnyShape;
-ghost use Rattle.query_core.specs.Images.{moved_value, two_inputs};
+ghost use Rattle.claim_core.specs.declared.claims.Shape.TheVariants as AnyShape;
+ghost use Rattle.claim_core.specs.Images.{moved_value, two_inputs};
 ghost use Rattle.fact_bans.specs.Serving.{HoldsBans, MayHold};
 
 use crate::mismatched::hold_by;

@@ -2,7 +2,7 @@
 
 ghost use Rattle.std.specs.Prelude.{◌≡◌, ◌+◌, ◌<◌, IfOk, IfSome, IsTrue, length, true};
 ghost use Rattle.net_core.specs.Sides.{graph_of};
-ghost use Rattle.query_core.specs.Images.{one_input};
+ghost use Rattle.claim_core.specs.Images.{one_input};
 ghost use Rattle.account_core.specs.Facts.{AreFacts};
 ghost use Rattle.oracle_core.specs.Oracles.{Serves, Suits};
 ghost use Rattle.fact_bans.specs.Wanted.{ListsWanted};

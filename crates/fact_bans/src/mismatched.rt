@@ -1,7 +1,7 @@
 //! Bans by a claim of the first circuit that is decided otherwise than the one that pairs carry it to.
 
 ghost use Rattle.std.specs.Prelude.{All, IfOk, IfSome, map};
-ghost use Rattle.query_core.specs.Claims.{IsClaim};
+ghost use Rattle.claim_core.specs.Claims.{IsClaim};
 ghost use Rattle.account_core.specs.Facts.{AreFacts};
 ghost use Rattle.account_core.specs.Given.{decided_by};
 ghost use Rattle.account_core.specs.Mismatches.{IsImage};

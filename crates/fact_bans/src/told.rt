@@ -1,7 +1,7 @@
 //! What an oracle says of a claim.
 
 ghost use Rattle.std.specs.Prelude.{◌≡◌, ◌++◌, ◌∷◌, [], IfOk, IfSome, IsTrue, map};
-ghost use Rattle.query_core.specs.Claims.{IsClaim};
+ghost use Rattle.claim_core.specs.Claims.{IsClaim};
 ghost use Rattle.account_core.specs.Given.{decided_by};
 ghost use Rattle.oracle_core.specs.Oracles.{IsNumberOf, Serves, Suits};
 ghost use Rattle.claim_rows.specs.Told.{AddsFact, IsToldAs};

@@ -9,7 +9,7 @@ use Rattle.std.specs.Borrow.{Bor}
 use Rattle.std.proofs.lemmas.Bool.{false≢true, false_from_ne_true}
 use Rattle.std.proofs.lemmas.Map.{NonePasses, none_passes_from_lookup}
 use Rattle.indexmap.specs.IndexMap.{insert_entry}
-use Rattle.query_core.specs.declared.query.Query.{Query}
+use Rattle.claim_core.specs.declared.query.Query.{Query}
 use Rattle.ask_core.specs.declared.question.Answer.{Answer}
 use Rattle.fact_tests.specs.Kept.{Kept, kept_of}
 

@@ -11,14 +11,14 @@ use Rattle.net_core.specs.Sides.{Graphs}
 use Rattle.net_core.specs.Cones.{output_signal}
 use Rattle.net_core.specs.Graph.{IsGraph}
 use Rattle.net_core.specs.Sides.{graph_of}
-use Rattle.query_core.specs.declared.claims.Claim.{Claim}
-use Rattle.query_core.specs.declared.query.Query.{Query}
-use Rattle.query_core.specs.Claims.{IsClaim}
-use Rattle.query_core.specs.ClaimQueries.{claim_query}
-use Rattle.query_core.specs.Formulas.{formula_of}
+use Rattle.claim_core.specs.declared.claims.Claim.{Claim}
+use Rattle.claim_core.specs.declared.query.Query.{Query}
+use Rattle.claim_core.specs.Claims.{IsClaim}
+use Rattle.claim_core.specs.ClaimQueries.{claim_query}
+use Rattle.claim_core.specs.Formulas.{formula_of}
 use Rattle.query_core.specs.Ledgers.{Ledgered, opened, with_line, IsRefused}
-use Rattle.query_core.specs.Queries.{IsQuery}
-use Rattle.query_core.proofs.ClaimQueryLemmas.{claim_query_fits}
+use Rattle.claim_core.specs.Queries.{IsQuery}
+use Rattle.claim_core.proofs.ClaimQueryLemmas.{claim_query_fits}
 use Rattle.oracle_core.specs.Work.{IsLearned, IsWorkOn}
 use Rattle.ask_core.specs.Answers.{IsAskedIn, IsAskedWith}
 use Rattle.shared_lemmas.specs.Shared.{IsAskedBy}

@@ -13,17 +13,17 @@ use Rattle.net_core.specs.Sides.{Graphs}
 use Rattle.net_core.specs.declared.matching.Matching.{Matching}
 use Rattle.net_core.specs.declared.graphs.Side.TheVariants.{First, Second}
 use Rattle.net_core.specs.Sides.{graph_of}
-use Rattle.query_core.specs.declared.claims.Claim.{Claim}
-use Rattle.query_core.specs.declared.claims.Shape.{Shape}
-use Rattle.query_core.specs.declared.claims.Shape.TheVariants.{Up, Down, Swap}
-use Rattle.query_core.specs.declared.query.Feed.{Feed}
-use Rattle.query_core.specs.declared.query.Feed.TheVariants.{Fixed, Wire}
-use Rattle.query_core.specs.declared.query.Query.{Query}
-use Rattle.query_core.specs.Claims.{IsClaim, IsPlaced}
-use Rattle.query_core.specs.ClaimQueries.{claim_query, values_feed, with_fixed}
-use Rattle.query_core.specs.MatchQueries.{match_query, straight}
+use Rattle.claim_core.specs.declared.claims.Claim.{Claim}
+use Rattle.claim_core.specs.declared.claims.Shape.{Shape}
+use Rattle.claim_core.specs.declared.claims.Shape.TheVariants.{Up, Down, Swap}
+use Rattle.claim_core.specs.declared.query.Feed.{Feed}
+use Rattle.claim_core.specs.declared.query.Feed.TheVariants.{Fixed, Wire}
+use Rattle.claim_core.specs.declared.query.Query.{Query}
+use Rattle.claim_core.specs.Claims.{IsClaim, IsPlaced}
+use Rattle.claim_core.specs.ClaimQueries.{claim_query, values_feed, with_fixed}
+use Rattle.claim_core.specs.MatchQueries.{match_query, straight}
 use Rattle.query_core.specs.Ledgers.{Ledgered}
-use Rattle.query_core.proofs.MatchLemmas.{straight_count}
+use Rattle.claim_core.proofs.MatchLemmas.{straight_count}
 use Rattle.account_core.specs.declared.fact.Evidence.{Evidence}
 use Rattle.account_core.specs.declared.fact.Evidence.TheVariants.{Fails}
 use Rattle.account_core.specs.declared.fact.Fact.{Fact}
@@ -41,7 +41,7 @@ use Rattle.fact_tests.specs.Books.{IsKept, known_by}
 use Rattle.fact_tests.proofs.MatchBits.{met_difference}
 use Rattle.fact_tests.proofs.StructureLemmas.{first_of, second_of, apart_from, own_bit}
 use Rattle.fact_tests.proofs.WorkLemmas.{IsUnanswered, asked_keeps, asked_suits, asked_work}
-use Rattle.query_core.proofs.FeedLemmas.{straight_at}
+use Rattle.claim_core.proofs.FeedLemmas.{straight_at}
 
 -- ---- different claims ask different queries
 

@@ -4,9 +4,9 @@ use Rattle.std.proofs.lemmas.Bool.{false≢true}
 use Rattle.std.specs.Bool.{Decides}
 use Rattle.circuits.specs.Netlists.{Net}
 use Rattle.net_core.specs.Sides.{Graphs}
-use Rattle.query_core.specs.declared.claims.Claim.{Claim}
-use Rattle.query_core.specs.declared.claims.Shape.{Shape}
-use Rattle.query_core.specs.declared.claims.Shape.TheVariants.{Up, Down}
+use Rattle.claim_core.specs.declared.claims.Claim.{Claim}
+use Rattle.claim_core.specs.declared.claims.Shape.{Shape}
+use Rattle.claim_core.specs.declared.claims.Shape.TheVariants.{Up, Down}
 use Rattle.cnf_core.proofs.DerivationLaws.{refuted_unmet}
 use Rattle.net_core.specs.Graph.{IsGraph}
 use Rattle.net_core.specs.Sides.{graph_of}
@@ -15,15 +15,15 @@ use Rattle.account_core.specs.declared.fact.Evidence.TheVariants.{Fails, Holds a
 use Rattle.account_core.specs.declared.fact.Fact.{Fact}
 use Rattle.account_core.specs.Facts.{AreFacts, IsEvidence, IsFact}
 use Rattle.oracle_core.specs.Oracles.{IsNumberOf}
-use Rattle.query_core.specs.ClaimQueries.{claim_query}
-use Rattle.query_core.specs.Claims.{output_bit, Holds, IsClaim, IsPlaced, ShapeHolds, ShapeFails}
-use Rattle.query_core.specs.Formulas.{formula_of}
-use Rattle.query_core.specs.Queries.{IsQuery, IsUnmet}
-use Rattle.query_core.proofs.AssignmentLemmas.{assignment_there}
-use Rattle.query_core.proofs.ClaimQueryLemmas.{claim_query_fits, holds-unmet}
-use Rattle.query_core.proofs.ClaimLaws.{no_break, inside-fails, holds_or_fails, symmetric-swaps, skew-swaps}
+use Rattle.claim_core.specs.ClaimQueries.{claim_query}
+use Rattle.claim_core.specs.Claims.{output_bit, Holds, IsClaim, IsPlaced, ShapeHolds, ShapeFails}
+use Rattle.claim_core.specs.Formulas.{formula_of}
+use Rattle.claim_core.specs.Queries.{IsQuery, IsUnmet}
+use Rattle.claim_core.proofs.AssignmentLemmas.{assignment_there}
+use Rattle.claim_core.proofs.ClaimQueryLemmas.{claim_query_fits, holds-unmet}
+use Rattle.claim_core.proofs.ClaimLaws.{no_break, inside-fails, holds_or_fails, symmetric-swaps, skew-swaps}
 use Rattle.fact_tests.specs.Outputs.{IsAlike, IsDependence, IsSymmetry, dependence, half_swap, is_for, symmetry}
-use Rattle.fact_tests.specs.Functions.{InSupport, IsSymmetric, IsSkew}
+use Rattle.claim_core.specs.Facts.{InSupport, IsSymmetric, IsSkew}
 
 -- an input is outside the support where both claims hold, and inside where one of them doesn't
 outside : (net : Net) (k i : ℕ) → i < net.inputs → ShapeHolds net k (Up i) → ShapeHolds net k (Down i) → InSupport net.inputs (output_bit net k) i → ⊥

@@ -9,11 +9,11 @@ use Rattle.net_core.specs.declared.graphs.Side.{Side}
 use Rattle.net_core.specs.declared.graphs.Side.TheVariants.{First, Second}
 use Rattle.net_core.specs.Graph.{IsGraph}
 use Rattle.net_core.specs.Sides.{graph_of}
-use Rattle.query_core.specs.declared.query.Query.{Query}
-use Rattle.query_core.specs.Queries.{IsQuery, circuit_of}
-use Rattle.query_core.specs.Formulas.{query_clauses, gate_clauses, half_clauses, left_literals, right_literals}
-use Rattle.query_core.specs.ConeClauses.{AllOfCones, IsConeId}
-use Rattle.query_core.proofs.FormulaLemmas.{count_of}
+use Rattle.claim_core.specs.declared.query.Query.{Query}
+use Rattle.claim_core.specs.Queries.{IsQuery, circuit_of}
+use Rattle.claim_core.specs.Formulas.{query_clauses, gate_clauses, half_clauses, left_literals, right_literals}
+use Rattle.claim_core.specs.ConeClauses.{AllOfCones, IsConeId}
+use Rattle.claim_core.proofs.FormulaLemmas.{count_of}
 use Rattle.oracle_core.specs.Work.{IsNewBeside}
 use Rattle.query_core.proofs.VariableLemmas.{reached_there}
 

@@ -6,9 +6,9 @@ use Rattle.circuits.specs.Matches.{HavePorts}
 use Rattle.circuits.specs.Netlists.{function_of}
 use Rattle.net_core.specs.Sides.{Graphs}
 use Rattle.net_core.specs.declared.matching.Matching.{Matching}
-use Rattle.query_core.specs.Queries.{MeetsQuery}
-use Rattle.query_core.specs.MatchQueries.{match_query}
-use Rattle.query_core.proofs.MatchLemmas.{left_bit, not_both, right_bit}
+use Rattle.claim_core.specs.Queries.{MeetsQuery}
+use Rattle.claim_core.specs.MatchQueries.{match_query}
+use Rattle.claim_core.proofs.MatchLemmas.{left_bit, not_both, right_bit}
 use Rattle.oracle_core.specs.Oracles.{IsDifference}
 
 pub met_difference : (graphs : Graphs) (matching : Matching) (k : ℕ) (value : Bool) (x : List Bool) → HavePorts graphs.first graphs.second matching.inputs matching.outputs → length x ≡ graphs.first.inputs → MeetsQuery graphs (match_query graphs.first.inputs matching k value) x → IsDifference graphs matching k x

@@ -2,15 +2,15 @@
 use Rattle.std.proofs.Common.{◌≡◌, ◌⊎◌, ℕ, zero, suc, ◌<◌, Bool, true, false, not, List, [], ◌∷◌, length, set, AllPairs, Contains, get_or, refl, sym, subst, ap, ◌∙◌, inl, inr, arith}
 use Rattle.std.proofs.lemmas.List.{get_or_default}
 use Rattle.circuits.specs.Literals.{bit}
-use Rattle.query_core.specs.Claims.{with_input}
+use Rattle.claim_core.specs.Claims.{with_input}
 use Rattle.output_info.specs.declared.info.OutputInfo.{OutputInfo}
 use Rattle.output_info.specs.declared.info.Unate.{Unate}
 use Rattle.output_info.specs.declared.info.Unate.TheVariants.{Positive, Negative, Binate}
 use Rattle.output_info.specs.declared.info.Sym.{Sym}
 use Rattle.output_info.specs.declared.info.Sym.TheVariants.{Symmetric, Skew, Both}
-use Rattle.fact_tests.specs.Functions.{InSupport, IsPositive, IsNegative, IsSymmetric, IsSkew}
-use Rattle.fact_tests.specs.Rows.{IsUnate, IsSym, IsEntry, ListsSupport, IsPair, IsBefore, ListsPairs, IsRow}
-use Rattle.query_core.proofs.ClaimLaws.{no_fall_both, set-here}
+use Rattle.claim_core.specs.Facts.{InSupport, IsPositive, IsNegative, IsSymmetric, IsSkew}
+use Rattle.output_info.specs.Rows.{IsUnate, IsSym, IsEntry, ListsSupport, IsPair, IsBefore, ListsPairs, IsRow}
+use Rattle.claim_core.proofs.ClaimLaws.{no_fall_both, set-here}
 
 -- lists that ascend and have the same elements
 module _ {X : Type 0} (R : X → X → Type 0) (one_way : (x y : X) → R x y → R y x → ⊥) where

@@ -8,12 +8,12 @@ use Rattle.circuits.specs.Literals.{bit, differ, signal_of, is_negated as invert
 use Rattle.circuits.specs.Netlists.{Net, IsOrdered, gate_bit, with_gates, valuation_of}
 use Rattle.circuits.proofs.Valuations.{ReadsBelow, ReadsBelow-tail, ReadsBelow-start, first_operand, second_operand, length-with_gates}
 use Rattle.net_core.specs.Cones.{output_signal}
-use Rattle.query_core.specs.Claims.{output_bit, with_input}
-use Rattle.query_core.specs.Formulas.{reaching}
-use Rattle.fact_tests.specs.Functions.{InSupport}
+use Rattle.claim_core.specs.Claims.{output_bit, with_input}
+use Rattle.claim_core.specs.Formulas.{reaching}
+use Rattle.claim_core.specs.Facts.{InSupport}
 use Rattle.net_supports.specs.Supports.{only_input, output_reaches}
 use Rattle.fact_tests.proofs.StructureLemmas.{length-only_input, only_at}
-use Rattle.query_core.proofs.AssignmentLemmas.{gate_agrees}
+use Rattle.claim_core.proofs.AssignmentLemmas.{gate_agrees}
 
 -- two valuations have the same bit at each signal that only marks inputs of which P is said
 abbrev SameWhere : (ℕ → List Bool) → (ℕ → Type 0) → List Bool → List Bool → Type 0

@@ -21,21 +21,21 @@ use Rattle.net_core.specs.declared.graphs.Side.{Side}
 use Rattle.net_core.specs.declared.graphs.Side.TheVariants.{First, Second}
 use Rattle.net_core.specs.Cones.{output_signal}
 use Rattle.net_core.specs.Sides.{graph_of}
-use Rattle.query_core.specs.declared.claims.Claim.{Claim}
-use Rattle.query_core.specs.declared.claims.Shape.{Shape}
-use Rattle.query_core.specs.declared.claims.Shape.TheVariants.{Up, Down, Swap}
-use Rattle.query_core.specs.declared.query.Feed.{Feed}
-use Rattle.query_core.specs.declared.query.Feed.TheVariants.{Fixed, Wire}
-use Rattle.query_core.specs.declared.query.Query.{Query}
-use Rattle.query_core.specs.Queries.{IsQuery}
-use Rattle.query_core.specs.MatchQueries.{straight}
-use Rattle.query_core.specs.ClaimQueries.{claim_query, opposite_shape, values_feed, with_fixed}
-use Rattle.query_core.specs.Formulas.{feeds_differ, formula_of, query_clauses, reaching, same_feed, same_side, stand_in, stands_for, left_literals, right_literals, half_clauses}
-use Rattle.query_core.proofs.ClaimQueryLemmas.{values_count}
-use Rattle.query_core.proofs.EqualLemmas.{bool_decides}
+use Rattle.claim_core.specs.declared.claims.Claim.{Claim}
+use Rattle.claim_core.specs.declared.claims.Shape.{Shape}
+use Rattle.claim_core.specs.declared.claims.Shape.TheVariants.{Up, Down, Swap}
+use Rattle.claim_core.specs.declared.query.Feed.{Feed}
+use Rattle.claim_core.specs.declared.query.Feed.TheVariants.{Fixed, Wire}
+use Rattle.claim_core.specs.declared.query.Query.{Query}
+use Rattle.claim_core.specs.Queries.{IsQuery}
+use Rattle.claim_core.specs.MatchQueries.{straight}
+use Rattle.claim_core.specs.ClaimQueries.{claim_query, opposite_shape, values_feed, with_fixed}
+use Rattle.claim_core.specs.Formulas.{feeds_differ, formula_of, query_clauses, reaching, same_feed, same_side, stand_in, stands_for, left_literals, right_literals, half_clauses}
+use Rattle.claim_core.proofs.ClaimQueryLemmas.{values_count}
+use Rattle.claim_core.proofs.EqualLemmas.{bool_decides}
 use Rattle.query_core.proofs.ReachingLemmas.{differ_at}
 use Rattle.net_core.proofs.ConeLemmas.{within_bit}
-use Rattle.query_core.proofs.FormulaLemmas.{count_of, first_output, second_output, gate_clause_count, length-feeds_differ}
+use Rattle.claim_core.proofs.FormulaLemmas.{count_of, first_output, second_output, gate_clause_count, length-feeds_differ}
 use Rattle.net_supports.specs.Supports.{only_input, output_reaches}
 use Rattle.fact_tests.specs.Supports.{IsOutside, closing_line}
 use Rattle.joint_hash.proofs.SharedLemmas.{same_literals}

@@ -2,7 +2,7 @@
 use Rattle.std.specs.Prelude.{◌≡◌, List, ◌++◌, map, All}
 use Rattle.circuits.specs.Netlists.{Net}
 use Rattle.net_core.specs.Sides.{Graphs}
-use Rattle.query_core.specs.ClaimQueries.{claim_query}
+use Rattle.claim_core.specs.ClaimQueries.{claim_query}
 use Rattle.account_core.specs.declared.fact.Fact.{Fact}
 use Rattle.oracle_core.specs.Work.{IsOfMatch}
 use Rattle.account_core.specs.Facts.{AreFacts}

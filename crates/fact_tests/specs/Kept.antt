@@ -1,5 +1,5 @@
 -- Queries that were answered, each with its answer.
-use Rattle.query_core.specs.declared.query.Query.{Query}
+use Rattle.claim_core.specs.declared.query.Query.{Query}
 use Rattle.ask_core.specs.declared.question.Answer.{Answer}
 
 -- A query with its answer.

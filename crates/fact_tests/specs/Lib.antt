@@ -3,15 +3,14 @@ pub mod Asking
 pub mod Hunting
 pub mod Kept
 pub mod Books
-pub mod Functions
-pub mod Rows
 pub mod Outputs
 pub use Rattle.account_core.specs.Facts as DecidedFacts
 pub use Rattle.net_supports.specs.Supports as Reached
 pub use Rattle.oracle_core.specs.Oracles
 pub use Rattle.oracle_core.specs.Work
 pub use Rattle.ask_core.specs.Answers
-pub use Rattle.query_core.specs.Claims
-pub use Rattle.query_core.specs.ClaimQueries
-pub use Rattle.query_core.specs.Facts
-pub use Rattle.query_core.specs.Queries
+pub use Rattle.claim_core.specs.Claims
+pub use Rattle.claim_core.specs.ClaimQueries
+pub use Rattle.claim_core.specs.Facts
+pub use Rattle.claim_core.specs.Queries
+pub use Rattle.output_info.specs.Rows

@@ -4,9 +4,9 @@ use Rattle.circuits.specs.Netlists.{Net}
 use Rattle.cnf_core.specs.declared.log.LogLine.{LogLine}
 use Rattle.net_core.specs.Sides.{Graphs, graph_of}
 use Rattle.net_supports.specs.Supports.{output_reaches}
-use Rattle.query_core.specs.declared.claims.Claim.{Claim}
-use Rattle.query_core.specs.declared.claims.Shape.{Shape}
-use Rattle.query_core.specs.declared.claims.Shape.TheVariants.{Up, Down, Swap}
+use Rattle.claim_core.specs.declared.claims.Claim.{Claim}
+use Rattle.claim_core.specs.declared.claims.Shape.{Shape}
+use Rattle.claim_core.specs.declared.claims.Shape.TheVariants.{Up, Down, Swap}
 
 -- output k reaches none of a shape's inputs
 abbrev pub IsOutside : Net → ℕ → Shape → Type 0

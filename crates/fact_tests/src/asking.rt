@@ -2,8 +2,8 @@
 
 ghost use Rattle.std.specs.Prelude.{◌≡◌, ◌+◌, ◌*◌, ◌^◌, ◌<◌, [], ◌∷◌, false, IfOk, IfErr};
 ghost use Rattle.net_core.specs.Sides.{graph_of};
-ghost use Rattle.query_core.specs.Claims.{IsClaim};
-ghost use Rattle.query_core.specs.Queries.{IsQuery};
+ghost use Rattle.claim_core.specs.Claims.{IsClaim};
+ghost use Rattle.claim_core.specs.Queries.{IsQuery};
 ghost use Rattle.ask_core.specs.Answers.{IsAnswer};
 ghost use Rattle.fact_tests.specs.Asking.{Decides, IsAsked, IsHalted};
 ghost use Rattle.fact_tests.specs.Supports.{IsOutside};

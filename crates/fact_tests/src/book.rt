@@ -3,12 +3,12 @@
 ghost use Rattle.std.specs.Prelude.{◌≡◌, ◌≢◌, ◌<◌, [], false, true, All, IfOk, length};
 ghost use Rattle.circuits.specs.Matches.{HavePorts};
 ghost use Rattle.cnf_core.specs.Derivations.{IsRefutation};
-ghost use Rattle.query_core.specs.Claims.{IsClaim};
+ghost use Rattle.claim_core.specs.Claims.{IsClaim};
 ghost use Rattle.account_core.specs.Facts.{AreFacts};
-ghost use Rattle.query_core.specs.Formulas.{formula_of};
+ghost use Rattle.claim_core.specs.Formulas.{formula_of};
 ghost use Rattle.query_core.specs.Ledgers.{Ledgered};
-ghost use Rattle.query_core.specs.MatchQueries.{match_query};
-ghost use Rattle.query_core.specs.Queries.{IsQuery};
+ghost use Rattle.claim_core.specs.MatchQueries.{match_query};
+ghost use Rattle.claim_core.specs.Queries.{IsQuery};
 ghost use Rattle.oracle_core.specs.Oracles.{Claims, Compares, IsAnswered, Serves, Suits};
 ghost use Rattle.oracle_core.specs.Work.{IsOfMatch};
 ghost use Rattle.ask_core.specs.Answers.{IsAnswer};

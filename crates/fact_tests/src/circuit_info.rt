@@ -2,7 +2,7 @@
 
 ghost use Rattle.std.specs.Prelude.{◌≡◌, IfOk};
 ghost use Rattle.oracle_core.specs.Oracles.{Serves, Suits};
-ghost use Rattle.fact_tests.specs.Rows.{AreRows};
+ghost use Rattle.output_info.specs.Rows.{AreRows};
 
 use crate::fact_book::FactBook;
 use crate::rows::rows_by;

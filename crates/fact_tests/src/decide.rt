@@ -2,9 +2,9 @@
 
 ghost use Rattle.std.specs.Prelude.{◌≡◌, false, IfOk, IfErr};
 ghost use Rattle.net_core.specs.Sides.{Graphs as AnyGraphs};
-ghost use Rattle.query_core.specs.Claims.{IsClaim};
-ghost use Rattle.query_core.specs.ClaimQueries.{claim_query};
-ghost use Rattle.query_core.specs.Queries.{IsQuery};
+ghost use Rattle.claim_core.specs.Claims.{IsClaim};
+ghost use Rattle.claim_core.specs.ClaimQueries.{claim_query};
+ghost use Rattle.claim_core.specs.Queries.{IsQuery};
 ghost use Rattle.account_core.specs.Facts.{IsEvidence};
 ghost use Rattle.oracle_core.specs.Work.{IsOfMatch};
 ghost use Rattle.ask_core.specs.Answers.{IsAnswer};

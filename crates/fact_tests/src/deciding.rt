@@ -2,8 +2,8 @@
 
 ghost use Rattle.std.specs.Prelude.{◌≡◌, ◌<◌, false, IsTrue, IfOk, IfErr, IfSome, length};
 ghost use Rattle.net_core.specs.Sides.{graph_of};
-ghost use Rattle.query_core.specs.Claims.{BreaksShape, IsClaim, IsPlaced, with_values};
-ghost use Rattle.query_core.specs.ClaimQueries.{claim_query};
+ghost use Rattle.claim_core.specs.Claims.{BreaksShape, IsClaim, IsPlaced, with_values};
+ghost use Rattle.claim_core.specs.ClaimQueries.{claim_query};
 ghost use Rattle.account_core.specs.Facts.{IsEvidence};
 ghost use Rattle.ask_core.specs.Answers.{IsAnswer};
 ghost use Rattle.fact_tests.specs.Asking.{Decides};

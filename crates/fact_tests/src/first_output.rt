@@ -3,7 +3,7 @@
 ghost use Rattle.std.specs.Prelude.{◌≡◌, ◌<◌, IfOk, length};
 ghost use Rattle.std.specs.Bool.{Decides};
 ghost use Rattle.oracle_core.specs.Oracles.{Serves};
-ghost use Rattle.query_core.specs.Claims.{IsPlaced, ShapeHolds};
+ghost use Rattle.claim_core.specs.Claims.{IsPlaced, ShapeHolds};
 ghost use Rattle.fact_tests.specs.Outputs.{MayAsk, is_for};
 ghost use Rattle.net_supports.specs.Supports.{output_reaches};
 

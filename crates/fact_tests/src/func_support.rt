@@ -3,7 +3,7 @@
 ghost use Rattle.std.specs.Prelude.{◌≡◌, ◌<◌, ◌++◌, IfOk, OnOk, length};
 ghost use Rattle.oracle_core.specs.Oracles.{Serves};
 ghost use Rattle.fact_tests.specs.Outputs.{MayAsk, entry_of, function_at, inputs_in};
-ghost use Rattle.fact_tests.specs.Rows.{ListsSupport};
+ghost use Rattle.output_info.specs.Rows.{ListsSupport};
 
 use crate::first_output::FirstOutput;
 use crate::unate_test::unateness;

@@ -5,28 +5,11 @@ ghost use Rattle.circuits.specs.Circuits.{Circuit};
 ghost use Rattle.circuits.specs.Functions.{Computes};
 ghost use Rattle.circuits.specs.Literals.{bit};
 ghost use Rattle.circuits.specs.Netlists.{IsOrdered, Net};
-ghost use Rattle.query_core.specs.Claims.{output_bit};
-ghost use Rattle.query_core.specs.Facts as of_net;
+ghost use Rattle.claim_core.specs.Claims.{output_bit};
 ghost use Rattle.output_info.specs.declared.info.OutputInfo.{OutputInfo as Row};
-ghost use Rattle.fact_tests.specs.Functions.{InSupport, IsPositive, IsNegative, IsBinate, IsSymmetric, IsSkew};
-ghost use Rattle.fact_tests.specs.Rows.{AreRows, AreRowsOf, IsRow};
+ghost use Rattle.claim_core.specs.Facts.{InSupport};
+ghost use Rattle.output_info.specs.Rows.{AreRows, AreRowsOf, IsRow};
 ghost use Rattle.net_supports.specs.Supports.{output_reaches};
-
-/// What is said of the function of an output is what is said of the output.
-pub fn facts_of_outputs()
-    ensures support { (net : Net) (k i : ℕ)
-        → InSupport net.inputs (output_bit net k) i ↔ of_net.InSupport net k i }
-    ensures positive { (net : Net) (k i : ℕ)
-        → IsPositive net.inputs (output_bit net k) i ↔ of_net.IsPositive net k i }
-    ensures negative { (net : Net) (k i : ℕ)
-        → IsNegative net.inputs (output_bit net k) i ↔ of_net.IsNegative net k i }
-    ensures binate { (net : Net) (k i : ℕ)
-        → IsBinate net.inputs (output_bit net k) i ↔ of_net.IsBinate net k i }
-    ensures symmetric { (net : Net) (k i j : ℕ)
-        → IsSymmetric net.inputs (output_bit net k) i j ↔ of_net.IsSymmetric net k i j }
-    ensures skew { (net : Net) (k i j : ℕ)
-        → IsSkew net.inputs (output_bit net k) i j ↔ of_net.IsSkew net k i j }
-{}
 
 /// The rows of a netlist in order are those of the circuit that it computes.
 pub fn rows_of_a_circuit()

@@ -2,7 +2,7 @@
 
 ghost use Rattle.std.specs.Prelude.{◌≡◌, ◌<◌, All, IfOk, IfSome, length};
 ghost use Rattle.circuits.specs.Netlists.{Net};
-ghost use Rattle.query_core.specs.Claims.{BreaksShape, IsPlaced};
+ghost use Rattle.claim_core.specs.Claims.{BreaksShape, IsPlaced};
 ghost use Rattle.fact_tests.specs.Hunting.{IsOf};
 
 use crate::sightings::group_with;

@@ -3,7 +3,7 @@
 ghost use Rattle.std.specs.Prelude.{◌≡◌, ◌<◌, IfOk, length};
 ghost use Rattle.oracle_core.specs.Oracles.{Serves, Suits};
 ghost use Rattle.fact_tests.specs.Outputs.{MayAsk, function_at, inputs_in};
-ghost use Rattle.fact_tests.specs.Rows.{AreRows, IsRow};
+ghost use Rattle.output_info.specs.Rows.{AreRows, IsRow};
 
 use crate::first_output::FirstOutput;
 use crate::func_support::support;

@@ -1,7 +1,7 @@
 //! Vectors that were seen to break claims.
 
 ghost use Rattle.std.specs.Prelude.{◌≡◌, ◌+◌, ◌<◌, ◌≤◌, IfOk, IfSome, length};
-ghost use Rattle.query_core.specs.Claims.{BreaksShape, IsPlaced};
+ghost use Rattle.claim_core.specs.Claims.{BreaksShape, IsPlaced};
 ghost use Rattle.fact_tests.specs.Hunting.{IsGroup};
 
 use bit_list::Bits;

@@ -3,9 +3,9 @@
 ghost use Rattle.std.specs.Prelude.{◌≡◌, ◌+◌, ◌<◌, ◌++◌, ℕ, IfOk, OnOk, length};
 ghost use Rattle.std.specs.Bool.{Decides};
 ghost use Rattle.oracle_core.specs.Oracles.{Serves};
-ghost use Rattle.query_core.specs.Claims.{IsPlaced};
+ghost use Rattle.claim_core.specs.Claims.{IsPlaced};
 ghost use Rattle.fact_tests.specs.Outputs.{IsAlike, IsSymmetry, MayAsk, function_at, half_swap, inputs_in, may_be_alike, pair_of, symmetry};
-ghost use Rattle.fact_tests.specs.Rows.{IsEntry, ListsPairs, ListsSupport};
+ghost use Rattle.output_info.specs.Rows.{IsEntry, ListsPairs, ListsSupport};
 
 use crate::first_output::FirstOutput;
 use cnf_core::Stop;

@@ -6,9 +6,9 @@ use Rattle.cnf_core.specs.Clauses.{opposite, variable_of}
 use Rattle.cnf_core.specs.Derivations.{clauses_of}
 use Rattle.net_core.specs.Sides.{Graphs}
 use Rattle.net_core.specs.Graph.{IsGraph}
-use Rattle.query_core.specs.declared.query.Query.{Query}
-use Rattle.query_core.specs.Queries.{IsQuery}
-use Rattle.query_core.specs.Formulas.{formula_of, query_clauses}
+use Rattle.claim_core.specs.declared.query.Query.{Query}
+use Rattle.claim_core.specs.Queries.{IsQuery}
+use Rattle.claim_core.specs.Formulas.{formula_of, query_clauses}
 use Rattle.joint_hash.specs.declared.gates.ConeGate.{ConeGate}
 use Rattle.joint_hash.specs.declared.twins.Twin.{Twin}
 use Rattle.joint_hash.specs.Trees.{IsGateOf}

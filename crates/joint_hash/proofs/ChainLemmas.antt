@@ -7,7 +7,7 @@ use Rattle.std.specs.List.{AllByRecursion}
 use Rattle.cnf_core.specs.declared.literal.SatLit.{SatLit}
 use Rattle.cnf_core.specs.Clauses.{clause_at, is_negated, opposite, variable_of}
 use Rattle.cnf_core.specs.Derivations.{is_false, is_same, is_true}
-use Rattle.query_core.specs.Formulas.{plain}
+use Rattle.claim_core.specs.Formulas.{plain}
 use Rattle.joint_hash.specs.declared.gates.ConeGate.{ConeGate}
 use Rattle.joint_hash.specs.declared.twins.Twin.{Twin}
 use Rattle.joint_hash.specs.Chains.{LeadOn, LeavesOnly}

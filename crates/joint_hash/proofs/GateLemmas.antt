@@ -12,15 +12,15 @@ use Rattle.cnf_core.specs.Clauses.{clause_at, is_negated, opposite, variable_of}
 use Rattle.net_core.specs.Sides.{Graphs}
 use Rattle.net_core.specs.Graph.{IsGraph}
 use Rattle.net_core.specs.Cones.{Reaches, ReachesGate}
-use Rattle.query_core.specs.declared.query.Feed.{Feed}
-use Rattle.query_core.specs.declared.query.Feed.TheVariants.{Fixed, Wire}
-use Rattle.query_core.specs.declared.query.Query.{Query}
-use Rattle.query_core.specs.Queries.{IsQuery, IsWired, bits_in, circuit_of}
-use Rattle.query_core.specs.Formulas.{and_clauses, feed_literal, formula_of, half_clauses, left_literals, left_variables, output_literal, plain, query_clauses, right_literals, right_variables, signal_literals, stand_in, stands_for}
-use Rattle.query_core.specs.ConeClauses.{IsConeId, left_gates, right_gates}
-use Rattle.query_core.proofs.FormulaLemmas.{clause_below, clause_of_left, clause_of_right, count_of, gate_clause_at, gate_clause_count, right_variable_count}
-use Rattle.query_core.proofs.ConeLaws.{first_reached, second_reached}
-use Rattle.query_core.proofs.LawLemmas.{ordered_side}
+use Rattle.claim_core.specs.declared.query.Feed.{Feed}
+use Rattle.claim_core.specs.declared.query.Feed.TheVariants.{Fixed, Wire}
+use Rattle.claim_core.specs.declared.query.Query.{Query}
+use Rattle.claim_core.specs.Queries.{IsQuery, IsWired, bits_in, circuit_of}
+use Rattle.claim_core.specs.Formulas.{and_clauses, feed_literal, formula_of, half_clauses, left_literals, left_variables, output_literal, plain, query_clauses, right_literals, right_variables, signal_literals, stand_in, stands_for}
+use Rattle.claim_core.specs.ConeClauses.{IsConeId, left_gates, right_gates}
+use Rattle.claim_core.proofs.FormulaLemmas.{clause_below, clause_of_left, clause_of_right, count_of, gate_clause_at, gate_clause_count, right_variable_count}
+use Rattle.claim_core.proofs.ConeLaws.{first_reached, second_reached}
+use Rattle.claim_core.proofs.LawLemmas.{ordered_side}
 use Rattle.query_core.proofs.VariableLemmas.{reached_there}
 use Rattle.joint_hash.specs.declared.gates.ConeGate.{ConeGate}
 use Rattle.joint_hash.specs.Trees.{IsGateOf, IsReachedGate}

@@ -7,8 +7,8 @@ use Rattle.cnf_core.specs.declared.log.LogLine.{LogLine}
 use Rattle.cnf_core.specs.Clauses.{opposite, variable_of}
 use Rattle.cnf_core.specs.Derivations.{clauses_of, hint_fault}
 use Rattle.net_core.specs.Sides.{Graphs}
-use Rattle.query_core.specs.declared.query.Query.{Query}
-use Rattle.query_core.specs.Formulas.{formula_of}
+use Rattle.claim_core.specs.declared.query.Query.{Query}
+use Rattle.claim_core.specs.Formulas.{formula_of}
 use Rattle.joint_hash.specs.Trees.{AreEqualBy, AreJoining}
 use Rattle.joint_hash.proofs.LineLemmas.{lemma_more}
 

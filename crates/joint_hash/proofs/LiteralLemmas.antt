@@ -5,7 +5,7 @@ use Rattle.std.proofs.lemmas.Bool.Decides.{eqb_tells}
 use Rattle.cnf_core.specs.declared.literal.SatLit.{SatLit}
 use Rattle.cnf_core.specs.Clauses.{is_negated, opposite, variable_of}
 use Rattle.cnf_core.specs.Derivations.{is_same}
-use Rattle.query_core.specs.Formulas.{plain}
+use Rattle.claim_core.specs.Formulas.{plain}
 use Rattle.joint_hash.specs.declared.twins.Twin.{Twin}
 use Rattle.cnf_core.proofs.LiteralLemmas.{negated-opposite, opposite_twice, same_itself, same_literal, same_number, variable_of-opposite}
 use Rattle.joint_hash.specs.Classes.{in_order, representative, same_operands, twin_literal}

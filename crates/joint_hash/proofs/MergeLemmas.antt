@@ -4,7 +4,7 @@ use Rattle.std.proofs.lemmas.Bool.{false≢true, cases_Bool, cases_eq, or_cases,
 use Rattle.std.proofs.lemmas.List.{get_or_append_left}
 use Rattle.cnf_core.specs.declared.literal.SatLit.{SatLit}
 use Rattle.cnf_core.specs.Clauses.{clause_at, is_negated, opposite, variable_of}
-use Rattle.query_core.specs.Formulas.{plain}
+use Rattle.claim_core.specs.Formulas.{plain}
 use Rattle.joint_hash.specs.declared.gates.ConeGate.{ConeGate}
 use Rattle.joint_hash.specs.declared.twins.Twin.{Twin}
 use Rattle.joint_hash.specs.Trees.{IsCongruence}

@@ -11,16 +11,16 @@ use Rattle.circuits.specs.Literals.{bit, signal_of}
 use Rattle.circuits.specs.Netlists.{IsOrdered, Net}
 use Rattle.net_core.specs.Graph.{AreInOrder}
 use Rattle.net_core.specs.Sides.{Graphs, graph_of}
-use Rattle.query_core.specs.declared.query.Feed.{Feed}
-use Rattle.query_core.specs.declared.query.Feed.TheVariants.{Fixed, Wire}
-use Rattle.query_core.specs.declared.query.Query.{Query}
-use Rattle.query_core.specs.Queries.{IsQuery, bits_in, circuit_of}
-use Rattle.query_core.specs.Formulas.{false_literal, feed_literal, feeds_differ, left_literals, left_variables, plain, reaches, right_literals, right_variables, same_feed, same_side, shared_from, signal_literals, stand_in}
-use Rattle.query_core.specs.ConeClauses.{left_gates}
-use Rattle.query_core.proofs.AssignmentLemmas.{one_side, shared_at}
-use Rattle.query_core.proofs.EqualLemmas.{bool_decides}
+use Rattle.claim_core.specs.declared.query.Feed.{Feed}
+use Rattle.claim_core.specs.declared.query.Feed.TheVariants.{Fixed, Wire}
+use Rattle.claim_core.specs.declared.query.Query.{Query}
+use Rattle.claim_core.specs.Queries.{IsQuery, bits_in, circuit_of}
+use Rattle.claim_core.specs.Formulas.{false_literal, feed_literal, feeds_differ, left_literals, left_variables, plain, reaches, right_literals, right_variables, same_feed, same_side, shared_from, signal_literals, stand_in}
+use Rattle.claim_core.specs.ConeClauses.{left_gates}
+use Rattle.claim_core.proofs.AssignmentLemmas.{one_side, shared_at}
+use Rattle.claim_core.proofs.EqualLemmas.{bool_decides}
 use Rattle.query_core.proofs.ReachingLemmas.{reaching_at, reaching_keeps}
-use Rattle.query_core.proofs.FormulaLemmas.{length-feeds_differ, reached_count, right_variable_count, stand_in_gate}
+use Rattle.claim_core.proofs.FormulaLemmas.{length-feeds_differ, reached_count, right_variable_count, stand_in_gate}
 
 -- the literal of a gate is its variable
 pub gate_literal : (n : ℕ) (feed : List Feed) (variables : List ℕ) (t : ℕ) → length feed ≡ n → t < length variables → stand_in (signal_literals feed variables) (n + 1 + t) ≡ plain (slice_index_or variables t 0)

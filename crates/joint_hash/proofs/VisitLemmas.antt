@@ -6,10 +6,10 @@ use Rattle.cnf_core.specs.declared.literal.SatLit.{SatLit}
 use Rattle.cnf_core.specs.declared.log.LogLine.{LogLine}
 use Rattle.net_core.specs.Sides.{Graphs}
 use Rattle.net_core.specs.Graph.{IsGraph}
-use Rattle.query_core.specs.declared.query.Query.{Query}
-use Rattle.query_core.specs.Queries.{IsQuery}
-use Rattle.query_core.specs.Formulas.{formula_of, query_clauses}
-use Rattle.query_core.specs.ConeClauses.{IsConeId}
+use Rattle.claim_core.specs.declared.query.Query.{Query}
+use Rattle.claim_core.specs.Queries.{IsQuery}
+use Rattle.claim_core.specs.Formulas.{formula_of, query_clauses}
+use Rattle.claim_core.specs.ConeClauses.{IsConeId}
 use Rattle.joint_hash.specs.declared.gates.ConeGate.{ConeGate}
 use Rattle.joint_hash.specs.declared.twins.Twin.{Twin}
 use Rattle.joint_hash.specs.Trees.{AreJoined, IsGateOf}

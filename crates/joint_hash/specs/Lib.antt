@@ -2,5 +2,5 @@ pub mod Trees
 pub mod Merging
 pub mod Chains
 pub mod Classes
-pub use Rattle.query_core.specs.Formulas
+pub use Rattle.claim_core.specs.Formulas
 pub use Rattle.cnf_core.specs.Derivations

@@ -9,10 +9,10 @@ use Rattle.cnf_core.specs.Clauses.{opposite}
 use Rattle.cnf_core.specs.Derivations.{clauses_of}
 use Rattle.net_core.specs.Sides.{Graphs}
 use Rattle.net_core.specs.Cones.{ReachesGate}
-use Rattle.query_core.specs.declared.query.Query.{Query}
-use Rattle.query_core.specs.Queries.{circuit_of}
-use Rattle.query_core.specs.Formulas.{formula_of, left_literals, right_literals, stand_in, stands_for}
-use Rattle.query_core.specs.ConeClauses.{left_gates}
+use Rattle.claim_core.specs.declared.query.Query.{Query}
+use Rattle.claim_core.specs.Queries.{circuit_of}
+use Rattle.claim_core.specs.Formulas.{formula_of, left_literals, right_literals, stand_in, stands_for}
+use Rattle.claim_core.specs.ConeClauses.{left_gates}
 use Rattle.joint_hash.specs.declared.gates.ConeGate.{ConeGate}
 use Rattle.joint_hash.specs.Merging.{AreLemmas}
 

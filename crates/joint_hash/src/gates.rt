@@ -1,8 +1,8 @@
 //! The gates of a query's cones, read from its clauses.
 
 ghost use Rattle.std.specs.Prelude.{◌≡◌, ◌≢◌, ◌+◌, ◌%◌, ◌<◌, ◌^◌, IfSome, length};
-ghost use Rattle.query_core.specs.ConeClauses.{IsConeId};
-ghost use Rattle.query_core.specs.Formulas.{query_clauses};
+ghost use Rattle.claim_core.specs.ConeClauses.{IsConeId};
+ghost use Rattle.claim_core.specs.Formulas.{query_clauses};
 ghost use Rattle.joint_hash.specs.Classes.{is_last};
 ghost use Rattle.joint_hash.specs.Trees.{IsGateOf};
 

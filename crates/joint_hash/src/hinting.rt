@@ -3,7 +3,7 @@
 ghost use Rattle.std.specs.Prelude.{◌≡◌, ◌≢◌, ◌<◌, ◌++◌, Contains, None, IfOk, IfSome, length, map, nat_lt};
 ghost use Rattle.cnf_core.specs.Clauses.{clause_at, opposite};
 ghost use Rattle.cnf_core.specs.Derivations.{clauses_of, effect_of, hint_fault};
-ghost use Rattle.query_core.specs.Formulas.{query_clauses};
+ghost use Rattle.claim_core.specs.Formulas.{query_clauses};
 ghost use Rattle.joint_hash.specs.Chains.{AreListed, LeadOn};
 
 use cnf_core::{Effect, LogLine, SatLit, ShortAssignment, effect_of};

@@ -3,7 +3,7 @@
 ghost use Rattle.std.specs.Prelude.{◌≡◌, ◌≢◌, ◌<◌, ◌∷◌, ◌++◌, [], IfOk, OnOk, length};
 ghost use Rattle.cnf_core.specs.Clauses.{opposite, variable_of};
 ghost use Rattle.cnf_core.specs.Derivations.{clauses_of};
-ghost use Rattle.query_core.specs.Formulas.{formula_of, query_clauses};
+ghost use Rattle.claim_core.specs.Formulas.{formula_of, query_clauses};
 ghost use Rattle.joint_hash.specs.Chains.{AreListed, LeadOn, clauses_with};
 ghost use Rattle.joint_hash.specs.Merging.{AreLemmas};
 ghost use Rattle.joint_hash.specs.Trees.{AreJoining};

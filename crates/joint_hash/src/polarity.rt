@@ -1,7 +1,7 @@
 //! Questions that polarity excludes: of gates of the one cone it is derived that they imply their copies in the other one.
 
 ghost use Rattle.std.specs.Prelude.{◌≡◌, IfOk, IfSome, OnOk, length};
-ghost use Rattle.query_core.specs.Formulas.{query_clauses};
+ghost use Rattle.claim_core.specs.Formulas.{query_clauses};
 ghost use Rattle.joint_hash.specs.Chains.{AreListed};
 ghost use Rattle.joint_hash.specs.Classes.{AreLate, twin_of};
 ghost use Rattle.joint_hash.specs.Trees.{AreJoining, IsGateOf};

@@ -11,10 +11,10 @@ use Rattle.account_core.specs.Shown.{AreSame, AreLogs, AreLogsOf, IsShownMatch}
 use Rattle.oracle_core.specs.Oracles.{Known, Suits}
 use Rattle.circuits.specs.Matches.{HavePorts}
 use Rattle.net_core.specs.Graph.{IsGraph}
-use Rattle.query_core.specs.Formulas.{IsRefuted}
-use Rattle.query_core.specs.MatchQueries.{match_query}
-use Rattle.query_core.proofs.MatchLemmas.{match_query_fits}
-use Rattle.query_core.proofs.RefutedLemmas.{match_of_refuted}
+use Rattle.claim_core.specs.Formulas.{IsRefuted}
+use Rattle.claim_core.specs.MatchQueries.{match_query}
+use Rattle.claim_core.proofs.MatchLemmas.{match_query_fits}
+use Rattle.claim_core.proofs.RefutedLemmas.{match_of_refuted}
 use Rattle.match_search.specs.Founds.{AddsLogs}
 use Rattle.match_search.specs.States.{HasServed}
 use Rattle.fact_bans.proofs.ServeLemmas.{served_same}

@@ -9,7 +9,7 @@ use Rattle.circuits.specs.Bijections.{IsSignedBijection}
 use Rattle.net_core.specs.Sides.{Graphs}
 use Rattle.net_core.specs.declared.graphs.Side.TheVariants.{First}
 use Rattle.account_core.specs.Ports.{ports_in, IsKnown}
-use Rattle.port_covers.specs.Held.{AreHeld, IsEntryOf, IsOf, IsWhole}
+use Rattle.port_sides.specs.Held.{AreHeld, IsEntryOf, IsOf, IsWhole}
 use Rattle.port_covers.proofs.ListLemmas.{contained_of_any}
 use Rattle.port_covers.proofs.OrderLemmas.{held_apart}
 

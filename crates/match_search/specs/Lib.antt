@@ -1,6 +1,6 @@
 pub mod States
 pub mod Founds
-pub use Rattle.port_covers.specs.Held
+pub use Rattle.port_sides.specs.Held
 pub use Rattle.port_covers.specs.Ways
 pub use Rattle.pair_search.specs.Progress
 pub use Rattle.pair_search.specs.Impasses

@@ -5,7 +5,7 @@ ghost use Rattle.account_core.specs.Given.{decided_by};
 ghost use Rattle.account_core.specs.Shown.{IsShownMatch};
 ghost use Rattle.fact_bans.specs.Serving.{HoldsBans, MayHold};
 ghost use Rattle.match_search.specs.Founds.{IsDecidedFound, IsFound};
-ghost use Rattle.port_covers.specs.Held.{IsWhole};
+ghost use Rattle.port_sides.specs.Held.{IsWhole};
 ghost use Rattle.class_refine.specs.Trails.{held_in};
 ghost use Rattle.pair_search.specs.Progress.{left};
 ghost use Rattle.match_search.specs.States.{IsAhead, IsShownTrail, MaySearch, MayStep, Searches, Steps};

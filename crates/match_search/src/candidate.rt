@@ -6,7 +6,7 @@ ghost use Rattle.oracle_core.specs.Oracles.{IsDifference, Serves, Suits};
 ghost use Rattle.circuits.specs.Matches.{HavePorts};
 ghost use Rattle.account_core.specs.Shown.{AreLogs};
 ghost use Rattle.match_search.specs.Founds.{IsComparison};
-ghost use Rattle.port_covers.specs.Held.{AreHeld, IsWhole};
+ghost use Rattle.port_sides.specs.Held.{AreHeld, IsWhole};
 ghost use Rattle.fact_bans.specs.Serving.{HoldsBans, MayHold};
 ghost use Rattle.match_search.specs.States.{IsSettled};
 ghost use Rattle.table_guess.specs.Trials.{AreTrials};

@@ -3,8 +3,8 @@
 ghost use Rattle.std.specs.Prelude.{◌≡◌, ◌<◌, All, AllPairs, IfOk, length};
 ghost use Rattle.circuits.specs.declared.port.Pair.{Pair as AnyPair};
 ghost use Rattle.circuits.specs.Matches.{HavePorts};
-ghost use Rattle.query_core.specs.Images.{Extends};
-ghost use Rattle.port_covers.specs.Held.{AreApart, AreHeld, IsEntryOf, IsWhole};
+ghost use Rattle.claim_core.specs.Images.{Extends};
+ghost use Rattle.port_sides.specs.Held.{AreApart, AreHeld, IsEntryOf, IsWhole};
 
 use circuits::{Pair, PortKind};
 use items::Items;

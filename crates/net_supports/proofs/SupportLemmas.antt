@@ -14,7 +14,7 @@ use Rattle.circuits.specs.declared.netlist.Gate.{Gate}
 use Rattle.circuits.specs.declared.netlist.Lit.{Lit}
 use Rattle.circuits.specs.Literals.{bit, signal_of}
 use Rattle.circuits.specs.Netlists.{Net}
-use Rattle.query_core.specs.Formulas.{reaching}
+use Rattle.claim_core.specs.Formulas.{reaching}
 use Rattle.word_sim.specs.Columns.{lane, word_bit}
 use Rattle.word_sim.proofs.Lanes.{lane-bit, or-bit, zero-bit}
 use Rattle.net_supports.specs.Supports.{IsBlock, only_input, output_reaches, reaches_input}

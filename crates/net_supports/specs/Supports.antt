@@ -4,7 +4,7 @@ use Rattle.std.specs.List.{range_with_len}
 use Rattle.circuits.specs.Literals.{EachAt, bit}
 use Rattle.circuits.specs.Netlists.{Net}
 use Rattle.net_core.specs.Cones.{output_signal}
-use Rattle.query_core.specs.Formulas.{reaching}
+use Rattle.claim_core.specs.Formulas.{reaching}
 use Rattle.word_sim.specs.Columns.{word_bit}
 
 -- one of n inputs

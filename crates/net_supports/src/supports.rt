@@ -4,7 +4,7 @@ ghost use Rattle.std.specs.Prelude.{◌≡◌, ◌+◌, ◌/◌, ◌%◌, ◌*�
 ghost use Rattle.std.specs.List.{range_with_len};
 ghost use Rattle.circuits.specs.Literals.{signal_of};
 ghost use Rattle.net_core.specs.Graph.{AreInOrder};
-ghost use Rattle.query_core.specs.Formulas.{reaching};
+ghost use Rattle.claim_core.specs.Formulas.{reaching};
 ghost use Rattle.word_sim.specs.Columns.{lane, word_bit};
 ghost use Rattle.net_supports.specs.Supports.{AreBlocks, IsBlock, inputs_reached, output_reaches};
 

@@ -3,7 +3,7 @@
 ghost use Rattle.std.specs.Prelude.{◌≡◌, ℕ, Err, IfOk, IfErr};
 ghost use Rattle.cnf_core.specs.declared.stop.Stop.TheVariants.{Spent};
 ghost use Rattle.shelf_core.specs.State.{Closed};
-ghost use Rattle.fact_tests.specs.Rows.{AreRows};
+ghost use Rattle.output_info.specs.Rows.{AreRows};
 ghost use Rattle.port_report.specs.Infos.{info_text};
 ghost use Rattle.run_steps.specs.Info.{IsSpentOf, with_itself};
 ghost use Rattle.run_steps.specs.Steps.{Decides, InformsOf, IsNew};

@@ -2,11 +2,11 @@ pub mod Work
 pub mod Oracles
 pub use Rattle.account_core.specs.Facts
 pub use Rattle.account_core.specs.Shown
-pub use Rattle.query_core.specs.Claims
-pub use Rattle.query_core.specs.Queries
-pub use Rattle.query_core.specs.Formulas
-pub use Rattle.query_core.specs.MatchQueries
-pub use Rattle.query_core.specs.ClaimQueries
-pub use Rattle.query_core.specs.ConeClauses
+pub use Rattle.claim_core.specs.Claims
+pub use Rattle.claim_core.specs.Queries
+pub use Rattle.claim_core.specs.Formulas
+pub use Rattle.claim_core.specs.MatchQueries
+pub use Rattle.claim_core.specs.ClaimQueries
+pub use Rattle.claim_core.specs.ConeClauses
 pub use Rattle.query_core.specs.Ledgers
 pub use Rattle.cnf_core.specs.Derivations

@@ -9,15 +9,15 @@ use Rattle.cnf_core.specs.declared.log.LogLine.{LogLine}
 use Rattle.cnf_core.specs.Derivations.{AreDerived, clauses_of, is_true, line_fault}
 use Rattle.net_core.specs.Sides.{Graphs}
 use Rattle.net_core.specs.declared.matching.Matching.{Matching}
-use Rattle.query_core.specs.declared.claims.Claim.{Claim}
-use Rattle.query_core.specs.declared.query.Query.{Query}
+use Rattle.claim_core.specs.declared.claims.Claim.{Claim}
+use Rattle.claim_core.specs.declared.query.Query.{Query}
 use Rattle.query_core.specs.declared.ledger.Asked.{Asked}
-use Rattle.query_core.specs.Queries.{IsQuery}
-use Rattle.query_core.specs.Formulas.{formula_of}
-use Rattle.query_core.specs.Claims.{IsClaim}
-use Rattle.query_core.specs.MatchQueries.{match_query}
-use Rattle.query_core.specs.ClaimQueries.{claim_query}
-use Rattle.query_core.specs.ConeClauses.{AllOfCones}
+use Rattle.claim_core.specs.Queries.{IsQuery}
+use Rattle.claim_core.specs.Formulas.{formula_of}
+use Rattle.claim_core.specs.Claims.{IsClaim}
+use Rattle.claim_core.specs.MatchQueries.{match_query}
+use Rattle.claim_core.specs.ClaimQueries.{claim_query}
+use Rattle.claim_core.specs.ConeClauses.{AllOfCones}
 use Rattle.query_core.specs.Ledgers.{Ledgered}
 
 -- lines were learned for the entry, after its lemmas

@@ -2,7 +2,7 @@
 
 ghost use Rattle.std.specs.Prelude.{◌≡◌, ◌<◌, length};
 ghost use Rattle.circuits.specs.Matches.{HavePorts};
-ghost use Rattle.query_core.specs.Claims.{IsClaim};
+ghost use Rattle.claim_core.specs.Claims.{IsClaim};
 ghost use Rattle.account_core.specs.Facts.{AreFacts};
 ghost use Rattle.oracle_core.specs.Oracles.{Claims, Compares, Known, Suits};
 

@@ -10,7 +10,7 @@ use Rattle.net_core.specs.Sides.{Graphs}
 use Rattle.account_core.specs.Ports.{AreOrdered, IsKnown, StandInOrder}
 use Rattle.claim_rows.specs.Rows.{HasOneOutput}
 use Rattle.claim_rows.proofs.MismatchLemmas.{input_before}
-use Rattle.port_covers.specs.Held.{AddsHeld, AreHeld, IsPart}
+use Rattle.port_sides.specs.Held.{AddsHeld, AreHeld, IsPart}
 use Rattle.port_covers.proofs.ListLemmas.{contains_cons}
 use Rattle.pair_refine.specs.Rows.{AreInputs, AreInputsOf}
 

@@ -5,8 +5,8 @@ use Rattle.std.proofs.lemmas.List.Elements.{All-contains, Contains-append_left, 
 use Rattle.circuits.specs.declared.port.Pair.{Pair}
 use Rattle.circuits.specs.declared.port.PortKind.TheVariants.{Input, Output}
 use Rattle.net_core.specs.Sides.{Graphs}
-use Rattle.query_core.specs.declared.claims.Claim.{Claim}
-use Rattle.query_core.specs.Images.{image_of}
+use Rattle.claim_core.specs.declared.claims.Claim.{Claim}
+use Rattle.claim_core.specs.Images.{image_of}
 use Rattle.account_core.specs.declared.step.Ban.{Ban}
 use Rattle.account_core.specs.declared.step.Step.TheVariants as step
 use Rattle.account_core.specs.declared.step.Tallied.{Tallied}
@@ -18,7 +18,7 @@ use Rattle.ban_book.proofs.ShownLemmas.{tally_in}
 use Rattle.claim_rows.specs.Shown.{IsShownBan}
 use Rattle.claim_rows.proofs.AlikeLemmas.{IsCarried, carried_by, one_back}
 use Rattle.claim_rows.proofs.MismatchLemmas.{one_image, pair_of-one}
-use Rattle.port_covers.specs.Held.{AreHeld}
+use Rattle.port_sides.specs.Held.{AreHeld}
 use Rattle.port_covers.proofs.ListLemmas.{among_more, cons_cases}
 use Rattle.pair_refine.specs.Rows.{AreInputsOf, ShowNothingAt}
 use Rattle.pair_refine.proofs.InputLemmas.{inputs_known, kinds_differ, one_input, ordered_with}

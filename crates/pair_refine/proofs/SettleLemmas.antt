@@ -20,7 +20,7 @@ use Rattle.class_refine.specs.Trails.{Domained, IsDeleted, IsPairOf, held_in, is
 use Rattle.class_refine.proofs.EntryLemmas.{one_if}
 use Rattle.class_refine.proofs.NumberLemmas.{same_pair}
 use Rattle.conflict_core.specs.Named.{deleted}
-use Rattle.port_covers.specs.Held.{AreApart}
+use Rattle.port_sides.specs.Held.{AreApart}
 use Rattle.port_covers.specs.Ways.{nth_way}
 use Rattle.port_covers.proofs.ListLemmas.{among_more, cons_cases, contained_of_any}
 use Rattle.port_covers.proofs.OrderLemmas.{held_apart}

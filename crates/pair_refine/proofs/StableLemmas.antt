@@ -8,7 +8,7 @@ use Rattle.circuits.specs.declared.port.Pair.{Pair}
 use Rattle.circuits.specs.declared.port.PortKind.{PortKind}
 use Rattle.net_core.specs.declared.graphs.Side.{Side}
 use Rattle.account_core.specs.declared.step.Ban.{Ban}
-use Rattle.port_covers.specs.Held.{AreHeld}
+use Rattle.port_sides.specs.Held.{AreHeld}
 use Rattle.class_refine.specs.Trails.{AreDomains, Domained, IsPairOf, held_in, ports_of}
 use Rattle.conflict_core.proofs.PivotLemmas.{held_known}
 use Rattle.pair_refine.specs.declared.grounds.Grounds.{Grounds}

@@ -2,9 +2,9 @@
 use Rattle.std.proofs.Common.{◌≡◌, ◌≢◌, ℕ, ◌+◌, ◌<◌, Bool, true, false, List, [], length, AllPairs, None, Some, inl, inr, refl, sym, ap, subst, ◌∙◌, arith}
 use Rattle.std.specs.Prelude.{IfSome, IsSome, if◌then◌else◌}
 use Rattle.std.proofs.lemmas.Bool.{cases_order, false≢true}
-use Rattle.query_core.specs.declared.claims.Claim.{Claim}
-use Rattle.query_core.specs.contracts.claims.ClaimPartialEq.TheImpl.{eq-value as claim_eq}
-use Rattle.query_core.proofs.EqualLemmas.{claim_decides}
+use Rattle.claim_core.specs.declared.claims.Claim.{Claim}
+use Rattle.claim_core.specs.contracts.claims.ClaimPartialEq.TheImpl.{eq-value as claim_eq}
+use Rattle.claim_core.proofs.EqualLemmas.{claim_decides}
 use Rattle.account_core.specs.Given.{Decided, fact_at, given_of}
 use Rattle.claim_rows.specs.Told.{IsToldAs}
 use Rattle.pair_refine.specs.Stable.{HasTwoInputs}

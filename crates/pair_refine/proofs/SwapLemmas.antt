@@ -8,11 +8,11 @@ use Rattle.circuits.specs.declared.port.PortKind.{PortKind}
 use Rattle.circuits.specs.declared.port.PortKind.TheVariants.{Input, Output}
 use Rattle.net_core.specs.Sides.{Graphs, graph_of}
 use Rattle.net_core.specs.declared.graphs.Side.TheVariants.{First, Second}
-use Rattle.query_core.specs.declared.claims.Claim.{Claim}
-use Rattle.query_core.specs.declared.claims.Shape.{Shape}
-use Rattle.query_core.specs.declared.claims.Shape.TheVariants.{Up, Down, Swap}
-use Rattle.query_core.specs.Claims.{IsClaim, IsPlaced}
-use Rattle.query_core.specs.Images.{claim_of_second, image_of, is_of, moved_one, moved_shape, moved_two, moved_value, pair_of, two_inputs}
+use Rattle.claim_core.specs.declared.claims.Claim.{Claim}
+use Rattle.claim_core.specs.declared.claims.Shape.{Shape}
+use Rattle.claim_core.specs.declared.claims.Shape.TheVariants.{Up, Down, Swap}
+use Rattle.claim_core.specs.Claims.{IsClaim, IsPlaced}
+use Rattle.claim_core.specs.Images.{claim_of_second, image_of, is_of, moved_one, moved_shape, moved_two, moved_value, pair_of, two_inputs}
 use Rattle.account_core.specs.Given.{Decided, fact_at, given_of}
 use Rattle.account_core.specs.Mismatches.{IsImage}
 use Rattle.account_core.specs.Ports.{IsKnown}
@@ -23,7 +23,7 @@ use Rattle.claim_rows.specs.Shown.{IsShownBan}
 use Rattle.claim_rows.specs.Told.{IsToldAs}
 use Rattle.claim_rows.proofs.MismatchLemmas.{inputs_image, some_pair, three_known, three_ordered}
 use Rattle.claim_rows.proofs.MismatchedLemmas.{mismatch_valid}
-use Rattle.port_covers.specs.Held.{AreApart}
+use Rattle.port_sides.specs.Held.{AreApart}
 use Rattle.port_covers.proofs.OrderLemmas.{held_apart}
 use Rattle.pair_refine.specs.declared.swaps.Exchange.{Exchange}
 use Rattle.pair_refine.specs.Stable.{HaveNoSwapMismatch}

@@ -3,7 +3,7 @@ pub mod Stable
 pub mod Swaps
 pub mod Refining
 pub mod Settling
-pub use Rattle.port_covers.specs.Held
+pub use Rattle.port_sides.specs.Held
 pub use Rattle.conflict_core.specs.Grounded
 pub use Rattle.conflict_core.specs.Justified
 pub use Rattle.class_refine.specs.Trails

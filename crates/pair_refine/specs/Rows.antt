@@ -12,7 +12,7 @@ use Rattle.account_core.specs.Ports.{AreOrdered, IsKnown}
 use Rattle.ban_book.specs.Vectors.{HaveNoFacts}
 use Rattle.claim_rows.specs.declared.told.InputTold.{InputTold}
 use Rattle.claim_rows.specs.Rows.{IsRow}
-use Rattle.port_covers.specs.Held.{IsPart}
+use Rattle.port_sides.specs.Held.{IsPart}
 use Rattle.pair_refine.specs.declared.grounds.Grounds.{Grounds}
 use Rattle.pair_refine.specs.declared.rows.Rows.{Rows}
 use Rattle.pair_refine.specs.Swaps.{IsSwapIndex}

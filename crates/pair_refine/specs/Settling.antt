@@ -7,7 +7,7 @@ use Rattle.account_core.specs.Covers.{IsImpossible}
 use Rattle.account_core.specs.declared.step.Ban.{Ban}
 use Rattle.ban_book.specs.Covering.{Covers}
 use Rattle.claim_rows.specs.Shown.{IsShownBan}
-use Rattle.port_covers.specs.Held.{IsOf}
+use Rattle.port_sides.specs.Held.{IsOf}
 use Rattle.class_refine.specs.declared.entry.Fate.TheVariants.{Deleted}
 use Rattle.class_refine.specs.Trails.{Domained, IsDeleted, IsPairOf, held_in}
 use Rattle.conflict_core.specs.Grounded.{IsGrounded}

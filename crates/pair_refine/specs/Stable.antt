@@ -7,14 +7,14 @@ use Rattle.net_core.specs.Sides.{Graphs, graph_of}
 use Rattle.net_core.specs.declared.graphs.Side.{Side}
 use Rattle.net_core.specs.declared.graphs.Side.TheVariants.{First, Second}
 use Rattle.account_core.specs.Covers.{IsImpossible}
-use Rattle.query_core.specs.declared.claims.Shape.{Shape}
-use Rattle.query_core.specs.declared.claims.Shape.TheVariants.{Up, Down, Swap}
+use Rattle.claim_core.specs.declared.claims.Shape.{Shape}
+use Rattle.claim_core.specs.declared.claims.Shape.TheVariants.{Up, Down, Swap}
 use Rattle.account_core.specs.Given.{Decided, fact_at, given_of}
 use Rattle.account_core.specs.declared.step.Ban.{Ban}
 use Rattle.account_core.specs.declared.step.Step.TheVariants as step
 use Rattle.ban_book.specs.Covering.{Covers, IsWithin}
 use Rattle.ban_book.specs.Vectors.{AreInputsDecided, HaveNoFacts, IsShownBy}
-use Rattle.port_covers.specs.Held.{IsOf}
+use Rattle.port_sides.specs.Held.{IsOf}
 use Rattle.class_refine.specs.Trails.{Domained, IsDeleted, IsPairOf, held_in, ports_of}
 use Rattle.pair_refine.specs.declared.refined.Refined.{Refined}
 use Rattle.pair_refine.specs.declared.refined.Refined.TheVariants as refined

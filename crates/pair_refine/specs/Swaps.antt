@@ -4,10 +4,10 @@ use Rattle.std.specs.Map.{lookup}
 use Rattle.circuits.specs.declared.port.Pair.{Pair}
 use Rattle.circuits.specs.declared.port.PortKind.TheVariants.{Input, Output}
 use Rattle.net_core.specs.declared.graphs.Side.TheVariants.{First}
-use Rattle.query_core.specs.declared.claims.Claim.{Claim}
-use Rattle.query_core.specs.declared.claims.Shape.TheVariants.{Swap}
-use Rattle.query_core.specs.contracts.claims.ClaimPartialEq.TheImpl.{eq-value as claim_eq}
-use Rattle.query_core.specs.Images.{claim_of_second, moved_value, pair_of, two_inputs}
+use Rattle.claim_core.specs.declared.claims.Claim.{Claim}
+use Rattle.claim_core.specs.declared.claims.Shape.TheVariants.{Swap}
+use Rattle.claim_core.specs.contracts.claims.ClaimPartialEq.TheImpl.{eq-value as claim_eq}
+use Rattle.claim_core.specs.Images.{claim_of_second, moved_value, pair_of, two_inputs}
 use Rattle.account_core.specs.Given.{Decided, fact_at, given_of}
 use Rattle.account_core.specs.Mismatches.{IsImage}
 use Rattle.pair_refine.specs.declared.swaps.Exchange.{Exchange}

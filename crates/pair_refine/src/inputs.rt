@@ -2,7 +2,7 @@
 
 ghost use Rattle.std.specs.Prelude.{◌≡◌, All, AllPairs, Contains, IfOk, OnOk};
 ghost use Rattle.circuits.specs.declared.port.PortKind.TheVariants.{Input as InputKind};
-ghost use Rattle.port_covers.specs.Held.{AddsHeld, AreApart, IsPart};
+ghost use Rattle.port_sides.specs.Held.{AddsHeld, AreApart, IsPart};
 ghost use Rattle.pair_refine.specs.Rows.{AreInputsOf};
 
 use circuits::{Pair, PortKind};

@@ -5,7 +5,7 @@ ghost use Rattle.circuits.specs.declared.port.PortKind.TheVariants as AnyKind;
 ghost use Rattle.account_core.specs.Ports.{IsKnown};
 ghost use Rattle.ban_book.specs.Vectors.{HaveNoFacts};
 ghost use Rattle.claim_rows.specs.Shown.{IsShownBan};
-ghost use Rattle.port_covers.specs.Held.{AreHeld};
+ghost use Rattle.port_sides.specs.Held.{AreHeld};
 ghost use Rattle.pair_refine.specs.Rows.{AreGrounds, AreInputs, AreInputsOf, ShowNothingAt, decided};
 
 use crate::grounds::Grounds;

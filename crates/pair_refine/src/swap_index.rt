@@ -1,8 +1,8 @@
 //! Facts of claims of two inputs, found by their claims.
 
 ghost use Rattle.std.specs.Prelude.{◌≡◌, ◌+◌, ◌<◌, ◌↔◌, IfOk, IsTrue, OnOk, Some as There, if◌then◌else◌, length, map};
-ghost use Rattle.query_core.specs.declared.claims.Claim.{Claim as AnyClaim};
-ghost use Rattle.query_core.specs.contracts.claims.ClaimPartialEq.TheImpl.{eq-value as claim_eq};
+ghost use Rattle.claim_core.specs.declared.claims.Claim.{Claim as AnyClaim};
+ghost use Rattle.claim_core.specs.contracts.claims.ClaimPartialEq.TheImpl.{eq-value as claim_eq};
 ghost use Rattle.account_core.specs.Given.{decided_by};
 ghost use Rattle.pair_refine.specs.Stable.{HasTwoInputs};
 ghost use Rattle.pair_refine.specs.Swaps.{IsIndexOfFirst, IsSwapIndex, number_in};

@@ -1,7 +1,7 @@
 //! Bans of pairs that decided claims of two inputs show.
 
 ghost use Rattle.std.specs.Prelude.{◌≡◌, ◌≢◌, ◌<◌, ℕ, [], All, AllPairs, IfNone, IfOk, IfSome, length, map};
-ghost use Rattle.query_core.specs.declared.claims.Claim.{Claim as AnyClaim};
+ghost use Rattle.claim_core.specs.declared.claims.Claim.{Claim as AnyClaim};
 ghost use Rattle.account_core.specs.Given.{decided_by, fact_at, given_of};
 ghost use Rattle.account_core.specs.Mismatches.{IsImage};
 ghost use Rattle.account_core.specs.Ports.{IsKnown};

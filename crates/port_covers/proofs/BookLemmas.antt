@@ -22,7 +22,7 @@ use Rattle.ban_book.proofs.VectorLemmas.{no_vector_none, no_vector_one}
 use Rattle.ban_book.proofs.ListLemmas.{zip_map}
 use Rattle.port_covers.specs.declared.block.Block.{Block}
 use Rattle.account_core.specs.Tallies.{Ascend, other_side}
-use Rattle.port_covers.specs.Held.{AreHeld, IsPart}
+use Rattle.port_sides.specs.Held.{AreHeld, IsPart}
 use Rattle.port_covers.specs.Ways.{block_of, ports_tried, ways_in, AreClosed, HoldsMore, IsBlock, IsClosed}
 use Rattle.port_covers.proofs.ClosedLemmas.{held_at}
 

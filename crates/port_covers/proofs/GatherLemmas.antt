@@ -3,7 +3,7 @@ use Rattle.std.proofs.Common.{◌+◌, ◌<◌, ℕ, List, ◌∷◌, length, ta
 use Rattle.std.specs.Prelude.{Contains}
 use Rattle.std.proofs.lemmas.List.Elements.{All-more, All-weaker}
 use Rattle.circuits.specs.declared.port.Pair.{Pair}
-use Rattle.port_covers.specs.Held.{IsPart}
+use Rattle.port_sides.specs.Held.{IsPart}
 use Rattle.port_covers.proofs.ListLemmas.{among_more, cons_more}
 
 -- The pairs gathered so far are some of those held; those before are among them, and the pairs that were gone through are too,

@@ -9,7 +9,7 @@ use Rattle.circuits.specs.declared.port.Pair.{Pair}
 use Rattle.circuits.specs.declared.port.PortKind.{PortKind}
 use Rattle.circuits.specs.declared.port.PortKind.TheVariants.{Input, Output}
 use Rattle.account_core.specs.Ports.{StandInOrder, AreOrdered}
-use Rattle.port_covers.specs.Held.{AreApart, ArePortsInTurn, StandsBefore}
+use Rattle.port_sides.specs.Held.{AreApart, ArePortsInTurn, StandsBefore}
 use Rattle.port_covers.proofs.ListLemmas.{all_pairs_insert, apart_or_same}
 
 turn_inputs : (k l : PortKind) (a b : ℕ) → ArePortsInTurn k l a b → k ≡ Output → l ≡ Output

@@ -7,7 +7,7 @@ ghost use Rattle.account_core.specs.Given.{Decided as AnyFact, given_of};
 ghost use Rattle.account_core.specs.Steps.{IsValidBan};
 ghost use Rattle.ban_book.specs.Covering.{Covers};
 ghost use Rattle.ban_book.specs.Vectors.{IsVector};
-ghost use Rattle.port_covers.specs.Held.{AddsHeld, AreApart, IsPart};
+ghost use Rattle.port_sides.specs.Held.{AddsHeld, AreApart, IsPart};
 ghost use Rattle.port_covers.specs.Ways.{ways_in, AreClosed, HoldsMore, IsBlock};
 
 use crate::block::Block;

@@ -3,7 +3,7 @@
 ghost use Rattle.std.specs.Prelude.{◌≡◌, ◌⊎◌, ◌≤◌, All, Contains, IsTrue, OnOk, ◌↔◌, ◌<◌, length, slice_index_or, take};
 ghost use Rattle.circuits.specs.declared.port.Pair.{Pair as AnyPair};
 ghost use Rattle.account_core.specs.Ports.{AreOrdered};
-ghost use Rattle.port_covers.specs.Held.{AreApart, StandsBefore};
+ghost use Rattle.port_sides.specs.Held.{AreApart, StandsBefore};
 
 use circuits::{Pair, PortKind};
 use std::alloc::AllocError;

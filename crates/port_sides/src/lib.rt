@@ -1,4 +1,4 @@
-//! Two circuits whose ports can be paired, and a pair's port of either side.
+//! Two circuits whose ports can be paired, a pair's port of either side, and what pairs are that are held together.
 #![tactic(auto)]
 
 mod pairable;

@@ -4,10 +4,10 @@ use Rattle.std.proofs.lemmas.List.Elements.{Contains-get_or, Contains-append_lef
 use Rattle.std.proofs.lemmas.List.{append_assoc}
 use Rattle.circuits.specs.Netlists.{Net}
 use Rattle.net_core.specs.Sides.{Graphs}
-use Rattle.query_core.specs.declared.query.Query.{Query}
-use Rattle.query_core.specs.Queries.{circuit_of}
-use Rattle.query_core.specs.ConeClauses.{AreConeIds, AreReached, IsConeId, IsOfReachedGate, gate_ids, left_gates, right_gates}
-use Rattle.query_core.proofs.FormulaLemmas.{count_of}
+use Rattle.claim_core.specs.declared.query.Query.{Query}
+use Rattle.claim_core.specs.Queries.{circuit_of}
+use Rattle.claim_core.specs.ConeClauses.{AreConeIds, AreReached, IsConeId, IsOfReachedGate, gate_ids, left_gates, right_gates}
+use Rattle.claim_core.proofs.FormulaLemmas.{count_of}
 
 -- numbers from `low` on ascend, and stay below `high`
 abbrev Ascends : ℕ → ℕ → List ℕ → Type 0

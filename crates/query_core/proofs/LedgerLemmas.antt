@@ -6,7 +6,7 @@ use Rattle.std.proofs.lemmas.List.{get_or_default, length-append, take_all}
 use Rattle.std.proofs.lemmas.List.Sums.{sum_by-set, sum_by_push, sum_by_more}
 use Rattle.std.proofs.lemmas.List.Elements.{All-set, All-push, All-take}
 use Rattle.cnf_core.specs.declared.log.LogLine.{LogLine}
-use Rattle.query_core.specs.declared.query.Query.{Query}
+use Rattle.claim_core.specs.declared.query.Query.{Query}
 use Rattle.query_core.specs.declared.ledger.Asked.{Asked}
 use Rattle.query_core.specs.Ledgers.{IsLedger, IsSpent, Ledgered, charged_front, charged_in, entry_of, last_asked, learned_in, nothing_asked, one_if, opened, with_line}
 

@@ -1,17 +1,5 @@
-pub mod AssignmentLemmas
-pub mod FeedLemmas
-pub mod FormulaLemmas
 pub mod VariableLemmas
 pub mod ReachingLemmas
-pub mod LawLemmas
-pub mod MatchLemmas
-pub mod RefutedLemmas
 pub mod LedgerLemmas
 pub mod ChargingLemmas
-pub mod ClaimLaws
-pub mod ClaimQueryLemmas
-pub mod ConeLaws
 pub mod ConeIdLemmas
-pub mod ImageLemmas
-pub mod ImageLaws
-pub mod EqualLemmas

@@ -8,13 +8,13 @@ use Rattle.circuits.specs.Netlists.{Net}
 use Rattle.net_core.specs.Graph.{AreInOrder, IsGraph}
 use Rattle.net_core.specs.Cones.{Reaches, ReachesGate}
 use Rattle.number_marks.proofs.MarkLemmas.{marked_where}
-use Rattle.query_core.specs.declared.query.Feed.{Feed}
-use Rattle.query_core.specs.contracts.query.FeedPartialEq.TheImpl.{eq-value as feed_eq}
-use Rattle.query_core.specs.Formulas.{feeds_differ, reaching, same_feed}
-use Rattle.query_core.specs.ConeClauses.{AreReached}
-use Rattle.query_core.proofs.EqualLemmas.{feed_same}
-use Rattle.query_core.proofs.ConeLaws.{first_reached, second_reached}
-use Rattle.query_core.proofs.FormulaLemmas.{length-feeds_differ}
+use Rattle.claim_core.specs.declared.query.Feed.{Feed}
+use Rattle.claim_core.specs.contracts.query.FeedPartialEq.TheImpl.{eq-value as feed_eq}
+use Rattle.claim_core.specs.Formulas.{feeds_differ, reaching, same_feed}
+use Rattle.claim_core.specs.ConeClauses.{AreReached}
+use Rattle.claim_core.proofs.EqualLemmas.{feed_same}
+use Rattle.claim_core.proofs.ConeLaws.{first_reached, second_reached}
+use Rattle.claim_core.proofs.FormulaLemmas.{length-feeds_differ}
 
 -- the first signals stay
 pub reaching_keeps : (so_far : List Bool) (gates : List Gate) (s : ℕ) → s < length so_far → bit (reaching so_far gates) s ≡ bit so_far s

@@ -11,19 +11,19 @@ use Rattle.cnf_core.specs.declared.literal.SatLit.{SatLit}
 use Rattle.cnf_core.specs.Clauses.{clause_at, opposite}
 use Rattle.net_core.specs.Sides.{Graphs}
 use Rattle.net_core.specs.Cones.{Reaches, ReachesGate, output_signal}
-use Rattle.query_core.specs.declared.query.Feed.{Feed}
-use Rattle.query_core.specs.declared.query.Feed.TheVariants.{Fixed}
-use Rattle.query_core.specs.declared.query.Query.{Query}
+use Rattle.claim_core.specs.declared.query.Feed.{Feed}
+use Rattle.claim_core.specs.declared.query.Feed.TheVariants.{Fixed}
+use Rattle.claim_core.specs.declared.query.Query.{Query}
 use Rattle.query_core.specs.declared.variables.Variables.{Variables}
 use Rattle.query_core.specs.declared.variables.Variables.TheVariants.{Own, Shared}
-use Rattle.query_core.specs.Queries.{circuit_of}
-use Rattle.query_core.specs.Formulas.{and_clauses, clauses_by, half_clauses, left_literals, left_variables, output_literal, plain, query_clauses, right_literals, right_variables, shared_from, signal_literals, stand_in, stands_for}
-use Rattle.query_core.specs.ConeClauses.{IsConeId, left_gates, right_gates}
+use Rattle.claim_core.specs.Queries.{circuit_of}
+use Rattle.claim_core.specs.Formulas.{and_clauses, clauses_by, half_clauses, left_literals, left_variables, output_literal, plain, query_clauses, right_literals, right_variables, shared_from, signal_literals, stand_in, stands_for}
+use Rattle.claim_core.specs.ConeClauses.{IsConeId, left_gates, right_gates}
 use Rattle.query_core.specs.Variables.{AreFor, IsConing, IsHalf, clauses_over, literals_by, variable_at, variables_in}
-use Rattle.query_core.proofs.FormulaLemmas.{at_left, at_outputs, at_right, gate_clause_at, gate_clause_count, length-shared_from, right_variable_count, stand_in_gate, stand_in_input}
-use Rattle.query_core.proofs.AssignmentLemmas.{shared_at}
-use Rattle.query_core.proofs.ConeLaws.{first_reached, second_reached}
-pub use Rattle.query_core.proofs.ConeLaws.{reached_there}
+use Rattle.claim_core.proofs.FormulaLemmas.{at_left, at_outputs, at_right, gate_clause_at, gate_clause_count, length-shared_from, right_variable_count, stand_in_gate, stand_in_input}
+use Rattle.claim_core.proofs.AssignmentLemmas.{shared_at}
+use Rattle.claim_core.proofs.ConeLaws.{first_reached, second_reached}
+pub use Rattle.claim_core.proofs.ConeLaws.{reached_there}
 
 -- how many there are
 pub variable_count : (variables : Variables) (count : ℕ) → AreFor count variables → length (variables_in variables count) ≡ count

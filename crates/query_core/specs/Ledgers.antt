@@ -5,8 +5,8 @@ use Rattle.cnf_core.specs.declared.stop.Stop.{Stop}
 use Rattle.cnf_core.specs.declared.stop.Stop.TheVariants.{Spent, Memory}
 use Rattle.cnf_core.specs.Charges.{Charging}
 use Rattle.net_core.specs.declared.graphs.Side.TheVariants.{First}
-use Rattle.query_core.specs.declared.query.Cone.{Cone}
-use Rattle.query_core.specs.declared.query.Query.{Query}
+use Rattle.claim_core.specs.declared.query.Cone.{Cone}
+use Rattle.claim_core.specs.declared.query.Query.{Query}
 use Rattle.query_core.specs.declared.ledger.Asked.{Asked}
 
 -- The budget, what was asked in order, and whether the last line was refused.

@@ -6,13 +6,13 @@ use Rattle.circuits.specs.Netlists.{Net}
 use Rattle.cnf_core.specs.declared.literal.SatLit.{SatLit}
 use Rattle.net_core.specs.Sides.{Graphs}
 use Rattle.net_core.specs.Cones.{ReachesGate}
-use Rattle.query_core.specs.declared.query.Feed.{Feed}
-use Rattle.query_core.specs.declared.query.Query.{Query}
+use Rattle.claim_core.specs.declared.query.Feed.{Feed}
+use Rattle.claim_core.specs.declared.query.Query.{Query}
 use Rattle.query_core.specs.declared.variables.Variables.{Variables}
 use Rattle.query_core.specs.declared.variables.Variables.TheVariants.{Own, Shared}
-use Rattle.query_core.specs.Queries.{circuit_of, IsQuery}
-use Rattle.query_core.specs.Formulas.{clauses_by, half_clauses, left_variables, output_literal, right_variables, shared_from, signal_literals}
-use Rattle.query_core.specs.ConeClauses.{AreConeIds, left_gates, right_gates}
+use Rattle.claim_core.specs.Queries.{circuit_of, IsQuery}
+use Rattle.claim_core.specs.Formulas.{clauses_by, half_clauses, left_variables, output_literal, right_variables, shared_from, signal_literals}
+use Rattle.claim_core.specs.ConeClauses.{AreConeIds, left_gates, right_gates}
 
 -- the variable of gate t
 abbrev pub variable_at : Variables → ℕ → ℕ

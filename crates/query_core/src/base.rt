@@ -2,12 +2,12 @@
 
 ghost use Rattle.std.specs.Prelude.{◌≡◌, ◌<◌, IfOk, length};
 ghost use Rattle.circuits.specs.Matches.{HavePorts};
-ghost use Rattle.query_core.specs.Queries.{IsQuery};
-ghost use Rattle.query_core.specs.MatchQueries.{match_query, IsOfMatching};
+ghost use Rattle.claim_core.specs.Queries.{IsQuery};
+ghost use Rattle.claim_core.specs.MatchQueries.{match_query, IsOfMatching};
 
 use crate::clauses::{clause_over, count_of, variables_of};
-use crate::query::Query;
 use crate::variables::{Variables, left_variables, right_variables};
+use claim_core::Query;
 use cnf_core::{Base, Clause3};
 use net_core::{Graphs, Matching};
 use std::alloc::{AllocError, Global};
@@ -24,7 +24,7 @@ pub struct QueryBase<'a> {
 }
 
 impl<'a> Model for QueryBase<'a> {
-    ghost use Rattle.query_core.specs.Formulas.{Asking};
+    ghost use Rattle.claim_core.specs.Formulas.{Asking};
     ghost use Rattle.query_core.specs.Variables.{IsAsking};
 
     ghost Value = { Asking };
@@ -88,7 +88,7 @@ impl<'a> QueryBase<'a> {
 }
 
 impl<'a> Base for QueryBase<'a> {
-    ghost use Rattle.query_core.specs.Formulas.{formula_of};
+    ghost use Rattle.claim_core.specs.Formulas.{formula_of};
 
     ghost formula = { λ a. formula_of a.graphs a.query };
 

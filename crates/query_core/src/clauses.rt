@@ -3,14 +3,13 @@
 ghost use Rattle.std.specs.Prelude.{◌≡◌, ◌+◌, ◌*◌, ◌<◌, ◌≤◌, ◌^◌, length};
 ghost use Rattle.circuits.specs.Literals.{signal_of};
 ghost use Rattle.cnf_core.specs.Clauses.{clause_at, literals_of};
-ghost use Rattle.query_core.specs.ConeClauses.{left_gates, right_gates};
-ghost use Rattle.query_core.specs.Formulas.{and_clauses, clauses_by, feed_literal, formula_of, half_clauses, output_literal, query_clauses, stand_in, stands_for};
-ghost use Rattle.query_core.specs.Queries.{IsQuery};
+ghost use Rattle.claim_core.specs.ConeClauses.{left_gates, right_gates};
+ghost use Rattle.claim_core.specs.Formulas.{and_clauses, clauses_by, feed_literal, formula_of, half_clauses, output_literal, query_clauses, stand_in, stands_for};
+ghost use Rattle.claim_core.specs.Queries.{IsQuery};
 ghost use Rattle.query_core.specs.Variables.{AreFor, IsHalf, clauses_over, literals_by};
 
-use crate::feeds::Feeds;
-use crate::query::{Feed, Query};
 use crate::variables::Variables;
+use claim_core::{Feed, Feeds, Query};
 use cnf_core::{Clause3, SatLit};
 use net_core::{Graph, Graphs, Lit};
 

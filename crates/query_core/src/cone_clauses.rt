@@ -2,14 +2,14 @@
 
 ghost use Rattle.std.specs.Prelude.{◌≡◌, ◌<◌, ◌≤◌, ◌^◌, All, Contains, IfOk, length};
 ghost use Rattle.cnf_core.specs.Clauses.{clause_at, literals_of, variable_of};
-ghost use Rattle.query_core.specs.ConeClauses.{AreConeIds};
-ghost use Rattle.query_core.specs.Formulas.{formula_of, query_clauses};
-ghost use Rattle.query_core.specs.Queries.{IsQuery};
+ghost use Rattle.claim_core.specs.ConeClauses.{AreConeIds};
+ghost use Rattle.claim_core.specs.Formulas.{formula_of, query_clauses};
+ghost use Rattle.claim_core.specs.Queries.{IsQuery};
 
 use crate::clauses::{clause_over, count_of, variables_of};
 use crate::cones::{gates_of, query_ids};
-use crate::query::Query;
 use crate::variables::{Variables, cone_variables, left_variables};
+use claim_core::Query;
 use cnf_core::Clause3;
 use net_core::Graphs;
 use std::alloc::{AllocError, Global};
@@ -29,7 +29,7 @@ pub struct ConeClauses<'a> {
 }
 
 impl<'a> Model for ConeClauses<'a> {
-    ghost use Rattle.query_core.specs.ConeClauses.{Coned};
+    ghost use Rattle.claim_core.specs.ConeClauses.{Coned};
     ghost use Rattle.query_core.specs.Variables.{IsConing};
 
     ghost Value = { Coned };

@@ -1,10 +1,10 @@
 //! The numbers of the clauses that belong to a query's cones.
 
 ghost use Rattle.std.specs.Prelude.{◌≡◌, ◌+◌, ◌*◌, ◌^◌, ◌<◌, ◌++◌, IfOk, OnOk, length};
-ghost use Rattle.query_core.specs.Queries.{IsQuery, circuit_of};
-ghost use Rattle.query_core.specs.ConeClauses.{AreConeIds, AreReached, gate_ids};
+ghost use Rattle.claim_core.specs.Queries.{IsQuery, circuit_of};
+ghost use Rattle.claim_core.specs.ConeClauses.{AreConeIds, AreReached, gate_ids};
 
-use crate::query::{Cone, Query};
+use claim_core::{Cone, Query};
 use net_core::Graphs;
 use std::alloc::{AllocError, Global};
 

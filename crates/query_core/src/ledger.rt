@@ -4,7 +4,7 @@ ghost use Rattle.std.specs.Prelude.{◌≡◌, ◌+◌, ◌-◌, ◌<◌, ◌≤
 ghost use Rattle.query_core.specs.Ledgers.{IsRefused, charged_front, entry_of, last_asked, learned_in, opened, with_line};
 
 use crate::lines::Lines;
-use crate::query::Query;
+use claim_core::Query;
 use cnf_core::{Charge, LogLine, Stop};
 use std::alloc::{AllocError, Global};
 use std::marker::Model;

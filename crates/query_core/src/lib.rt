@@ -1,31 +1,19 @@
-//! What is asked of two circuits, and its clauses.
+//! The clauses of what is asked of two circuits, of all their gates or of the two cones alone; and what was asked in a run, with
+//! the lines learned for it.
 #![tactic(auto)]
 
 mod base;
-mod claim_queries;
-mod claims;
 mod clauses;
 mod cone_clauses;
 mod cones;
-pub mod fact_laws;
-mod feeds;
-mod images;
-pub mod laws;
 mod ledger;
 mod lines;
-mod matches;
-mod query;
 mod reaching;
 mod variables;
 
 pub use base::QueryBase;
-pub use claim_queries::of_claim;
-pub use claims::{Claim, Shape};
+pub use claim_core::{Claim, Cone, Feed, Feeds, Query, Shape, image, of_claim, of_match, pair_of};
 pub use clauses::count_of;
 pub use cone_clauses::ConeClauses;
-pub use feeds::Feeds;
-pub use images::{image, pair_of};
 pub use ledger::{Asked, Ledger};
 pub use lines::Lines;
-pub use matches::of_match;
-pub use query::{Cone, Feed, Query};

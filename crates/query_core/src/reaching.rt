@@ -3,11 +3,10 @@
 ghost use Rattle.std.specs.Prelude.{◌≡◌, ◌+◌, ◌<◌, ◌++◌, ◌∷◌, ℕ, false, All, IfOk, OnOk, length, take};
 ghost use Rattle.circuits.specs.Literals.{bit};
 ghost use Rattle.net_core.specs.Graph.{AreInOrder};
-ghost use Rattle.query_core.specs.ConeClauses.{AreReached, IsSomeCone};
-ghost use Rattle.query_core.specs.Formulas.{feeds_differ, reaching, reaches};
+ghost use Rattle.claim_core.specs.ConeClauses.{AreReached, IsSomeCone};
+ghost use Rattle.claim_core.specs.Formulas.{feeds_differ, reaching, reaches};
 
-use crate::feeds::Feeds;
-use crate::query::Query;
+use claim_core::{Feeds, Query};
 use net_core::{Gate, Graph};
 use number_marks::Marks;
 use std::alloc::{AllocError, Global};

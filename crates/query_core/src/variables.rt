@@ -1,13 +1,13 @@
 //! The variables that stand for the gates of a query's circuits.
 
 ghost use Rattle.std.specs.Prelude.{◌≡◌, ◌+◌, ◌<◌, ◌^◌, All, IfOk, length, slice_index_or};
-ghost use Rattle.query_core.specs.ConeClauses.{AreReached, left_gates, right_gates};
-ghost use Rattle.query_core.specs.Formulas.{left_variables, right_variables};
-ghost use Rattle.query_core.specs.Queries.{IsQuery, bits_in, circuit_of};
+ghost use Rattle.claim_core.specs.ConeClauses.{AreReached, left_gates, right_gates};
+ghost use Rattle.claim_core.specs.Formulas.{left_variables, right_variables};
+ghost use Rattle.claim_core.specs.Queries.{IsQuery, bits_in, circuit_of};
 ghost use Rattle.query_core.specs.Variables.{AreFor, HasGate, variable_at, variables_in};
 
-use crate::query::Query;
 use crate::reaching::{reaches, reaches_in_cone};
+use claim_core::Query;
 use net_core::Graphs;
 use number_marks::Marks;
 use std::alloc::{AllocError, Global};

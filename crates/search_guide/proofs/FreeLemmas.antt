@@ -7,7 +7,7 @@ use Rattle.circuits.specs.declared.port.PortKind.TheVariants.{Input, Output}
 use Rattle.net_core.specs.Sides.{Graphs}
 use Rattle.net_core.specs.declared.graphs.Side.{Side}
 use Rattle.net_core.specs.declared.graphs.Side.TheVariants.{First}
-use Rattle.port_covers.specs.Held.{IsOf, IsTaken, IsWhole}
+use Rattle.port_sides.specs.Held.{IsOf, IsTaken, IsWhole}
 use Rattle.port_covers.proofs.ListLemmas.{any_of_contained}
 use Rattle.class_refine.specs.declared.entry.Entry.{Entry}
 use Rattle.class_refine.specs.Trails.{IsHeldAt, held_in}

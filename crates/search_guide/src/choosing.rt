@@ -2,7 +2,7 @@
 
 ghost use Rattle.std.specs.Prelude.{ℕ, ◌≡◌, ◌<◌, false, IfNone, IfOk, IfSome, IsTrue};
 ghost use Rattle.net_core.specs.declared.graphs.Side.TheVariants as AnySide;
-ghost use Rattle.port_covers.specs.Held.{IsTaken, IsWhole};
+ghost use Rattle.port_sides.specs.Held.{IsTaken, IsWhole};
 ghost use Rattle.class_refine.specs.Trails.{IsFreePort, held_in, ports_of};
 ghost use Rattle.conflict_core.specs.Conflicts.{FitPorts};
 

@@ -1,7 +1,7 @@
 //! Claims whose answers are known, or found by trying all vectors.
 
 ghost use Rattle.std.specs.Prelude.{IsTrue};
-ghost use Rattle.query_core.specs.Claims.{IsClaim, IsPlaced};
+ghost use Rattle.claim_core.specs.Claims.{IsClaim, IsPlaced};
 
 use crate::sample_circuits::{
     AND, AND_OF_THREE, Sample, WIRE, are_small, drawn_pair, output_on, pair,

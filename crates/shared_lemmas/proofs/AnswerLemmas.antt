@@ -3,7 +3,7 @@ use Rattle.std.proofs.Common.{◌≡◌, false, List, Result, Ok, Err, IfOk, IfE
 use Rattle.cnf_core.specs.declared.log.LogLine.{LogLine}
 use Rattle.cnf_core.specs.declared.stop.Stop.{Stop}
 use Rattle.net_core.specs.Sides.{Graphs}
-use Rattle.query_core.specs.declared.query.Query.{Query}
+use Rattle.claim_core.specs.declared.query.Query.{Query}
 use Rattle.query_core.specs.Ledgers.{Ledgered}
 use Rattle.ask_core.specs.declared.question.Answer.{Answer}
 use Rattle.ask_core.specs.Answers.{IsAnswer, IsAskedIn, IsAskedWith, IsBounded, IsBoundedStop, IsStoppedAfter}

@@ -5,11 +5,11 @@ use Rattle.cnf_core.specs.declared.literal.SatLit.{SatLit}
 use Rattle.cnf_core.specs.Clauses.{clause_at}
 use Rattle.net_core.specs.Sides.{Graphs}
 use Rattle.net_core.specs.declared.graphs.Side.{Side}
-use Rattle.query_core.specs.declared.query.Feed.{Feed}
-use Rattle.query_core.specs.declared.query.Query.{Query}
-use Rattle.query_core.specs.Queries.{circuit_of}
-use Rattle.query_core.specs.Formulas.{clauses_by, formula_of, half_clauses, left_literals, output_literal, query_clauses, right_literals}
-use Rattle.query_core.proofs.FormulaLemmas.{clause_count, clause_of_left, clause_of_right}
+use Rattle.claim_core.specs.declared.query.Feed.{Feed}
+use Rattle.claim_core.specs.declared.query.Query.{Query}
+use Rattle.claim_core.specs.Queries.{circuit_of}
+use Rattle.claim_core.specs.Formulas.{clauses_by, formula_of, half_clauses, left_literals, output_literal, query_clauses, right_literals}
+use Rattle.claim_core.proofs.FormulaLemmas.{clause_count, clause_of_left, clause_of_right}
 use Rattle.log_parts.specs.Parts.{HaveCommon}
 use Rattle.shared_lemmas.specs.Shared.{HaveSameFeeds}
 

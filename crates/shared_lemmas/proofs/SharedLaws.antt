@@ -5,8 +5,8 @@ use Rattle.cnf_core.specs.declared.log.LogLine.{LogLine}
 use Rattle.cnf_core.specs.Clauses.{Formula}
 use Rattle.cnf_core.specs.Derivations.{AreDerived}
 use Rattle.net_core.specs.Sides.{Graphs}
-use Rattle.query_core.specs.declared.query.Query.{Query}
-use Rattle.query_core.specs.Formulas.{formula_of, query_clauses}
+use Rattle.claim_core.specs.declared.query.Query.{Query}
+use Rattle.claim_core.specs.Formulas.{formula_of, query_clauses}
 use Rattle.log_parts.specs.Parts.{GoesOn, HaveCommon, MayGoOn}
 use Rattle.log_parts.proofs.PartLemmas.{nothing_goes_on}
 use Rattle.shared_lemmas.specs.Shared.{AreShared, HaveSameFeeds, HoldUnder, IsUnder}

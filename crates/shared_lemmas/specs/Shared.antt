@@ -3,8 +3,8 @@ use Rattle.std.specs.Prelude.{◌≡◌, ◌<◌, false, List, length, All, slic
 use Rattle.cnf_core.specs.declared.log.LogLine.{LogLine}
 use Rattle.cnf_core.specs.declared.stop.Stop.{Stop}
 use Rattle.net_core.specs.Sides.{Graphs}
-use Rattle.query_core.specs.declared.query.Query.{Query}
-use Rattle.query_core.specs.Formulas.{formula_of}
+use Rattle.claim_core.specs.declared.query.Query.{Query}
+use Rattle.claim_core.specs.Formulas.{formula_of}
 use Rattle.query_core.specs.Ledgers.{Ledgered}
 use Rattle.log_parts.specs.Parts.{MayGoOn}
 use Rattle.ask_core.specs.declared.question.Answer.{Answer}

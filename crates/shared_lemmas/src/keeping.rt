@@ -2,7 +2,7 @@
 
 ghost use Rattle.std.specs.Prelude.{◌≡◌, OnOk, length};
 ghost use Rattle.cnf_core.specs.Derivations.{AreDerived};
-ghost use Rattle.query_core.specs.Formulas.{formula_of};
+ghost use Rattle.claim_core.specs.Formulas.{formula_of};
 ghost use Rattle.log_parts.specs.Parts.{ArePlaced};
 ghost use Rattle.shared_lemmas.specs.Shared.{HoldUnder};
 

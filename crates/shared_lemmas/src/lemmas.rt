@@ -1,7 +1,7 @@
 //! The lemmas of a question.
 
 ghost use Rattle.std.specs.Prelude.{◌≡◌, IfOk, OnOk, length};
-ghost use Rattle.query_core.specs.Formulas.{formula_of};
+ghost use Rattle.claim_core.specs.Formulas.{formula_of};
 ghost use Rattle.log_parts.specs.Parts.{ArePlaced, MayGoOn};
 
 use crate::choosing::chosen;

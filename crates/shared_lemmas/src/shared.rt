@@ -1,8 +1,8 @@
 //! Questions that share what they learn.
 
 ghost use Rattle.std.specs.Prelude.{◌≡◌, ◌∷◌, [], false, IsTrue, IfOk, IfErr, OnOk};
-ghost use Rattle.query_core.specs.Formulas.{formula_of};
-ghost use Rattle.query_core.specs.Queries.{IsQuery};
+ghost use Rattle.claim_core.specs.Formulas.{formula_of};
+ghost use Rattle.claim_core.specs.Queries.{IsQuery};
 ghost use Rattle.ask_core.specs.Answers.{IsAnswer, IsBounded, IsBoundedStop};
 ghost use Rattle.log_parts.specs.Parts.{MayGoOn};
 ghost use Rattle.shared_lemmas.specs.Shared.{AreShared, HoldUnder, IsAnswered, IsAskedBy, IsHalted, IsStoppedBy, IsUnder};

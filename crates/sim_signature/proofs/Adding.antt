@@ -1,7 +1,7 @@
 -- Lists that elements are added to, so that they have all shapes that are wanted.
 use Rattle.std.proofs.Common.{ℕ, ◌+◌, ◌<◌, ◌≡◌, ◌⊎◌, List, inl, inr, arith}
 use Rattle.std.proofs.lemmas.Bool.{cases_lt}
-use Rattle.query_core.specs.declared.claims.Shape.{Shape}
+use Rattle.claim_core.specs.declared.claims.Shape.{Shape}
 use Rattle.sim_signature.specs.Sightings.{Adds}
 
 -- what two steps want, and less than one step wants

@@ -3,9 +3,9 @@ use Rattle.std.proofs.Common.{ℕ, ◌<◌, ◌≡◌, ◌≢◌, Bool, false, n
 use Rattle.std.proofs.Math.Bool.{not-not}
 use Rattle.std.proofs.lemmas.List.{get_or-set_same, get_or-set_other, set-set, set_comm, set-get_or}
 use Rattle.circuits.specs.Literals.{bit}
-use Rattle.query_core.specs.declared.claims.Shape.{Shape}
-use Rattle.query_core.specs.declared.claims.Shape.TheVariants.{Up, Down, Swap}
-use Rattle.query_core.specs.Claims.{HasValues, IsPlaced, with_opposites}
+use Rattle.claim_core.specs.declared.claims.Shape.{Shape}
+use Rattle.claim_core.specs.declared.claims.Shape.TheVariants.{Up, Down, Swap}
+use Rattle.claim_core.specs.Claims.{HasValues, IsPlaced, with_opposites}
 use Rattle.sim_signature.specs.declared.change.Change.{Change}
 use Rattle.sim_signature.specs.declared.change.Change.TheVariants.{Nothing, Inverted}
 use Rattle.sim_signature.specs.Changes.{AreEnds, IsChange, changed, ends_of}

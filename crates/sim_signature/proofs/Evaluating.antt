@@ -9,7 +9,7 @@ use Rattle.circuits.specs.Literals.{bit, differ, is_negated, literal_bit, signal
 use Rattle.circuits.specs.Netlists.{Net, valuation_of, with_gates}
 use Rattle.circuits.proofs.Valuations.{valuation_of-fits}
 use Rattle.net_core.specs.Graph.{IsGraph}
-use Rattle.query_core.specs.Claims.{output_bit}
+use Rattle.claim_core.specs.Claims.{output_bit}
 use Rattle.word_sim.specs.Columns.{lane, row_of, with_gate_words, word_bit, word_of}
 use Rattle.word_sim.proofs.DualRail.{no-bit}
 use Rattle.word_sim.proofs.Lanes.{lane-bit, lane-gates}

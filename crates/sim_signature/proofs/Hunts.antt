@@ -4,8 +4,8 @@ use Rattle.std.specs.List.{Contains}
 use Rattle.std.proofs.lemmas.List.{length_push, get_or_append_left, take_more}
 use Rattle.std.proofs.lemmas.List.Elements.{All-push, Contains-push_cases}
 use Rattle.std.proofs.lemmas.List.Quantifiers.{Any-push}
-use Rattle.query_core.specs.declared.claims.Shape.{Shape}
-use Rattle.query_core.specs.Claims.{ShapeFails}
+use Rattle.claim_core.specs.declared.claims.Shape.{Shape}
+use Rattle.claim_core.specs.Claims.{ShapeFails}
 use Rattle.sim_signature.specs.declared.sighting.Sighting.{Sighting}
 use Rattle.sim_signature.specs.Signatures.{HasAllVectors, Signed}
 use Rattle.sim_signature.specs.Sightings.{AreLeft, IsBroken, IsSighted, Hunted}

@@ -6,8 +6,8 @@ use Rattle.std.proofs.lemmas.Bool.{cases_lt}
 use Rattle.std.proofs.lemmas.List.{length_push, get_or_append_left, get_or_push}
 use Rattle.circuits.specs.Literals.{vector_of}
 use Rattle.circuits.proofs.Codes.{code_of, code_of-below, vector_of-code_of}
-use Rattle.query_core.specs.declared.claims.Shape.{Shape}
-use Rattle.query_core.specs.Claims.{output_bit, HasValues, BreaksShape, IsPlaced}
+use Rattle.claim_core.specs.declared.claims.Shape.{Shape}
+use Rattle.claim_core.specs.Claims.{output_bit, HasValues, BreaksShape, IsPlaced}
 use Rattle.sim_signature.specs.declared.change.Change.{Change}
 use Rattle.sim_signature.specs.declared.change.Change.TheVariants.{Nothing, Inverted}
 use Rattle.sim_signature.specs.Changes.{AreEnds, IsChange, changed, ends_of}

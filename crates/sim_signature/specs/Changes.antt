@@ -1,9 +1,9 @@
 -- Changes of a vector: one input inverted, or none.
 use Rattle.std.specs.Prelude.{◌≡◌, ℕ, ◌<◌, ◌==◌, Bool, false, not, List, length}
 use Rattle.circuits.specs.Literals.{bit}
-use Rattle.query_core.specs.declared.claims.Shape.{Shape}
-use Rattle.query_core.specs.declared.claims.Shape.TheVariants.{Up, Down, Swap}
-use Rattle.query_core.specs.Claims.{HasValues, with_input, with_opposites}
+use Rattle.claim_core.specs.declared.claims.Shape.{Shape}
+use Rattle.claim_core.specs.declared.claims.Shape.TheVariants.{Up, Down, Swap}
+use Rattle.claim_core.specs.Claims.{HasValues, with_input, with_opposites}
 use Rattle.sim_signature.specs.declared.change.Change.{Change}
 use Rattle.sim_signature.specs.declared.change.Change.TheVariants.{Nothing, Inverted}
 

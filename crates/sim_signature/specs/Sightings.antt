@@ -2,9 +2,9 @@
 use Rattle.std.specs.Prelude.{◌≡◌, ◌⊎◌, ℕ, Bool, true, List, length, All, Any, Contains}
 use Rattle.circuits.specs.Literals.{bit}
 use Rattle.circuits.specs.Netlists.{Net}
-use Rattle.query_core.specs.declared.claims.Shape.{Shape}
-use Rattle.query_core.specs.declared.claims.Shape.TheVariants.{Up, Down, Swap}
-use Rattle.query_core.specs.Claims.{IsPlaced, BreaksShape, ShapeFails}
+use Rattle.claim_core.specs.declared.claims.Shape.{Shape}
+use Rattle.claim_core.specs.declared.claims.Shape.TheVariants.{Up, Down, Swap}
+use Rattle.claim_core.specs.Claims.{IsPlaced, BreaksShape, ShapeFails}
 use Rattle.sim_signature.specs.Signatures.{HasAllVectors, Signed}
 use Rattle.sim_signature.specs.declared.sighting.Sighting.{Sighting}
 

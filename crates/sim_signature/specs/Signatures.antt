@@ -4,8 +4,8 @@ use Rattle.std.specs.Prelude.{◌≡◌, ℕ, ◌+◌, ◌<◌, ◌≤◌, ◌�
 use Rattle.circuits.specs.Literals.{EachAt}
 use Rattle.circuits.specs.Netlists.{Net}
 use Rattle.net_core.specs.Graph.{IsGraph}
-use Rattle.query_core.specs.declared.claims.Shape.{Shape}
-use Rattle.query_core.specs.Claims.{output_bit}
+use Rattle.claim_core.specs.declared.claims.Shape.{Shape}
+use Rattle.claim_core.specs.Claims.{output_bit}
 use Rattle.sim_signature.specs.declared.change.Change.{Change}
 use Rattle.sim_signature.specs.declared.change.Change.TheVariants.{Nothing, Inverted}
 use Rattle.sim_signature.specs.Changes.{IsChange, changed, ends_of}

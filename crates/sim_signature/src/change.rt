@@ -3,7 +3,7 @@
 ghost use Rattle.std.specs.Prelude.{◌≡◌};
 ghost use Rattle.sim_signature.specs.Changes.{ends_of as the_ends, is_inverted as the_inverted};
 
-use query_core::Shape;
+use claim_core::Shape;
 
 /// A vector as it is, or with one input inverted.
 #[derive(Clone, Copy, Debug)]

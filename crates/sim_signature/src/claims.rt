@@ -1,10 +1,10 @@
 //! The claims that are hunted.
 
 ghost use Rattle.std.specs.Prelude.{ℕ, ◌≡◌, ◌<◌, ◌^◌, [], length, IfOk, OnOk};
-ghost use Rattle.query_core.specs.Claims.{IsPlaced};
+ghost use Rattle.claim_core.specs.Claims.{IsPlaced};
 ghost use Rattle.sim_signature.specs.Sightings.{Added, IsHunted, first_of, last_of};
 
-use query_core::Shape;
+use claim_core::Shape;
 use std::alloc::{AllocError, Global};
 
 /// All claims about the inputs that are marked. Those that invert the same inputs stand side by side.

@@ -3,7 +3,7 @@
 ghost use Rattle.std.specs.Prelude.{◌≡◌, ◌≢◌, ◌+◌, ◌<◌, ◌≤◌, ◌∷◌, ◌||◌, [], ℕ, Bool, false, not, List, length, replicate, slice_index_or, take};
 ghost use Rattle.circuits.specs.Literals.{bit, signal_of};
 ghost use Rattle.circuits.specs.Netlists.{signals_of};
-ghost use Rattle.query_core.specs.Claims.{with_input};
+ghost use Rattle.claim_core.specs.Claims.{with_input};
 ghost use Rattle.sim_signature.specs.Blocks.{AreSimulated, IsEvaluated, IsFlipped, IsRunOrKept, IsValuation, bit_of_gate, block_after as the_block_after, block_bit, pattern};
 
 use net_core::{Gate, Graph};

@@ -1,8 +1,8 @@
 //! The hunt for vectors that break claims.
 
 ghost use Rattle.std.specs.Prelude.{◌≡◌, ◌<◌, ◌≤◌, true, length, All, Contains, IfOk, OnOk};
-ghost use Rattle.query_core.specs.declared.claims.Shape.{Shape};
-ghost use Rattle.query_core.specs.Claims.{IsPlaced, ShapeFails};
+ghost use Rattle.claim_core.specs.declared.claims.Shape.{Shape};
+ghost use Rattle.claim_core.specs.Claims.{IsPlaced, ShapeFails};
 ghost use Rattle.sim_signature.specs.Sightings.{AreBroken, AreLeft, Hunted, IsSighted};
 ghost use Rattle.sim_signature.specs.Signatures.{Covers};
 
@@ -12,7 +12,7 @@ use crate::sighting::Sighting;
 use crate::signatures::Signatures;
 use crate::vectors::FEW;
 use net_core::Graph;
-use query_core::Shape;
+use claim_core::Shape;
 use rand_pcg::Pcg32;
 use std::alloc::{AllocError, Global};
 

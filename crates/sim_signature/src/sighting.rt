@@ -1,7 +1,7 @@
 //! What simulation saw.
 
 use bit_list::Bits;
-use query_core::Shape;
+use claim_core::Shape;
 
 /// A vector that breaks the claim of a shape: it has the shape's values and gives 1, and with the shape's
 /// inputs inverted it gives 0.

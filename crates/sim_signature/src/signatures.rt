@@ -2,7 +2,7 @@
 
 ghost use Rattle.std.specs.Prelude.{◌≡◌, ◌<◌, ◌≤◌, ◌+◌, ◌↔◌, ℕ, Bool, List, true, false, length, IfOk, IfSome, IsSome, IsTrue};
 ghost use Rattle.circuits.specs.Literals.{bit};
-ghost use Rattle.query_core.specs.Claims.{BreaksShape, HasValues, IsPlaced, output_bit};
+ghost use Rattle.claim_core.specs.Claims.{BreaksShape, HasValues, IsPlaced, output_bit};
 ghost use Rattle.sim_signature.specs.Changes.{AreEnds, IsChange, changed};
 ghost use Rattle.sim_signature.specs.Blocks.{block_bit, pattern};
 ghost use Rattle.sim_signature.specs.Signatures.{AreOf, Covers, HasAllVectors, IsOneOf, IsTried, place_of as the_place};
@@ -14,7 +14,7 @@ use crate::vectors::{near_vectors, vectors};
 use bit_list::Bits;
 use items::Items;
 use net_core::Graph;
-use query_core::Shape;
+use claim_core::Shape;
 use rand_pcg::Pcg32;
 use std::alloc::{AllocError, Global};
 use std::marker::Model;

@@ -3,7 +3,7 @@
 ghost use Rattle.std.specs.Prelude.{◌≡◌, ◌<◌, ℕ, Bool, List, IfOk, length};
 ghost use Rattle.circuits.specs.Literals.{signal_of};
 ghost use Rattle.circuits.specs.Netlists.{signals_of};
-ghost use Rattle.query_core.specs.Claims.{output_bit};
+ghost use Rattle.claim_core.specs.Claims.{output_bit};
 ghost use Rattle.sim_signature.specs.declared.change.Change.TheVariants.{Inverted as inverted, Nothing as nothing};
 ghost use Rattle.sim_signature.specs.Changes.{changed};
 ghost use Rattle.sim_signature.specs.Blocks.{IsValuation, bit_of_literal, block_after as the_block_after, block_bit, pattern};

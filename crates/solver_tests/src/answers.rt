@@ -1,7 +1,7 @@
 //! Questions whose answers are known, or found by trying all vectors.
 
 ghost use Rattle.std.specs.Prelude.{◌≡◌, ◌<◌, All, IsTrue, false, length};
-ghost use Rattle.query_core.specs.Queries.{IsCone, IsQuery, IsWired};
+ghost use Rattle.claim_core.specs.Queries.{IsCone, IsQuery, IsWired};
 
 use crate::drawn_circuits::{drawn, outputs};
 use crate::refutation::is_refutation;

@@ -1,6 +1,6 @@
 //! Lemmas that merge gates of one structure.
 
-ghost use Rattle.query_core.specs.Queries.{IsQuery};
+ghost use Rattle.claim_core.specs.Queries.{IsQuery};
 
 use crate::answers::{exceeds, falls, is_query};
 use crate::drawn_circuits::drawn;

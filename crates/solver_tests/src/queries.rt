@@ -1,7 +1,7 @@
 //! Queries whose clauses are worked out by hand.
 
 ghost use Rattle.std.specs.Prelude.{IfOk, IfSome};
-ghost use Rattle.query_core.specs.Queries.{IsQuery};
+ghost use Rattle.claim_core.specs.Queries.{IsQuery};
 
 use cnf_core::{Base, SatLit};
 use items::Items;

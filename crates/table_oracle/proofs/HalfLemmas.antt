@@ -8,10 +8,10 @@ use Rattle.cnf_core.specs.declared.literal.SatLit.{SatLit}
 use Rattle.cnf_core.specs.declared.effect.Effect.TheVariants.{Neither}
 use Rattle.cnf_core.specs.Clauses.{clause_at, literal_of, opposite}
 use Rattle.cnf_core.specs.Derivations.{effect_of, is_false, is_true}
-use Rattle.query_core.specs.declared.query.Feed.{Feed}
-use Rattle.query_core.specs.declared.query.Feed.TheVariants.{Fixed, Wire}
-use Rattle.query_core.specs.Queries.{IsWired}
-use Rattle.query_core.specs.Formulas.{and_clauses, false_literal, feed_literal, signal_literals, stand_in, stands_for, true_literal}
+use Rattle.claim_core.specs.declared.query.Feed.{Feed}
+use Rattle.claim_core.specs.declared.query.Feed.TheVariants.{Fixed, Wire}
+use Rattle.claim_core.specs.Queries.{IsWired}
+use Rattle.claim_core.specs.Formulas.{and_clauses, false_literal, feed_literal, signal_literals, stand_in, stands_for, true_literal}
 use Rattle.joint_hash.proofs.GateLemmas.{no_gate}
 use Rattle.joint_hash.proofs.SharedLemmas.{input_literal}
 use Rattle.table_oracle.proofs.KnownLemmas.{AreApart, IsHeld, IsKnown, gate_held, gate_known, known_opposite}

@@ -13,9 +13,9 @@ use Rattle.cnf_core.specs.Derivations.{effect_of, fault_after, hint_fault, is_fa
 use Rattle.learn_solver.specs.Analyses.{has_all}
 use Rattle.net_core.specs.Sides.{Graphs}
 use Rattle.net_core.specs.Graph.{IsGraph}
-use Rattle.query_core.specs.declared.query.Query.{Query}
-use Rattle.query_core.specs.Queries.{IsQuery, bits_in}
-use Rattle.query_core.specs.Formulas.{query_clauses}
+use Rattle.claim_core.specs.declared.query.Query.{Query}
+use Rattle.claim_core.specs.Queries.{IsQuery, bits_in}
+use Rattle.claim_core.specs.Formulas.{query_clauses}
 use Rattle.cnf_core.proofs.LiteralLemmas.{not_opposite, opposite_twice, same_from, same_itself, same_literal}
 use Rattle.cnf_core.proofs.EffectLemmas.{conflict_from, makes_from, makes_says}
 use Rattle.learn_solver.proofs.KeptLemmas.{opposite_there}

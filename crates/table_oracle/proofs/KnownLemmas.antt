@@ -7,7 +7,7 @@ use Rattle.cnf_core.specs.declared.literal.SatLit.{SatLit}
 use Rattle.cnf_core.specs.declared.effect.Effect.TheVariants.{Neither}
 use Rattle.cnf_core.specs.Clauses.{clause_at, opposite}
 use Rattle.cnf_core.specs.Derivations.{effect_of, is_false, is_same, is_true}
-use Rattle.query_core.specs.Formulas.{and_clauses}
+use Rattle.claim_core.specs.Formulas.{and_clauses}
 use Rattle.cnf_core.proofs.LiteralLemmas.{same_itself, same_literal}
 use Rattle.cnf_core.proofs.EffectLemmas.{not_neither}
 use Rattle.cnf_core.proofs.LiteralLemmas.{opposite_twice}

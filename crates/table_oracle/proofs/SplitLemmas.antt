@@ -16,9 +16,9 @@ use Rattle.cnf_core.specs.Derivations.{IsRefutation, clauses_of, hint_fault, is_
 use Rattle.cnf_core.specs.declared.stop.Stop.{Stop}
 use Rattle.net_core.specs.Sides.{Graphs}
 use Rattle.net_core.specs.Graph.{IsGraph}
-use Rattle.query_core.specs.declared.query.Query.{Query}
-use Rattle.query_core.specs.Queries.{IsQuery}
-use Rattle.query_core.specs.Formulas.{Asking, formula_of, query_clauses}
+use Rattle.claim_core.specs.declared.query.Query.{Query}
+use Rattle.claim_core.specs.Queries.{IsQuery}
+use Rattle.claim_core.specs.Formulas.{Asking, formula_of, query_clauses}
 use Rattle.cnf_core.specs.Charges.{Charging, IsCharged, IsRefused}
 use Rattle.learn_solver.specs.Analyses.{has_all}
 use Rattle.learn_solver.specs.Searches.{last_line}

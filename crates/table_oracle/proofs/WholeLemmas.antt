@@ -15,13 +15,13 @@ use Rattle.cnf_core.specs.Derivations.{effect_of, is_true}
 use Rattle.cnf_core.proofs.LiteralLemmas.{itself, its_opposite}
 use Rattle.net_core.specs.Sides.{Graphs}
 use Rattle.net_core.specs.Graph.{IsGraph}
-use Rattle.query_core.specs.declared.query.Query.{Query}
-use Rattle.query_core.specs.Queries.{IsQuery, IsUnmet, bits_in, circuit_of, vector_in}
-use Rattle.query_core.specs.Formulas.{formula_of, half_clauses, left_literals, left_variables, output_literal, query_clauses, right_literals, right_variables, true_literal}
-use Rattle.query_core.specs.ConeClauses.{left_gates, right_gates}
-use Rattle.query_core.proofs.FormulaLemmas.{clause_below, count_of, first_output, gate_clause_count, second_output}
-use Rattle.query_core.proofs.ConeLaws.{vector_there}
-use Rattle.query_core.proofs.LawLemmas.{literal_of_bit, ordered_side}
+use Rattle.claim_core.specs.declared.query.Query.{Query}
+use Rattle.claim_core.specs.Queries.{IsQuery, IsUnmet, bits_in, circuit_of, vector_in}
+use Rattle.claim_core.specs.Formulas.{formula_of, half_clauses, left_literals, left_variables, output_literal, query_clauses, right_literals, right_variables, true_literal}
+use Rattle.claim_core.specs.ConeClauses.{left_gates, right_gates}
+use Rattle.claim_core.proofs.FormulaLemmas.{clause_below, count_of, first_output, gate_clause_count, second_output}
+use Rattle.claim_core.proofs.ConeLaws.{vector_there}
+use Rattle.claim_core.proofs.LawLemmas.{literal_of_bit, ordered_side}
 use Rattle.joint_hash.proofs.GateLemmas.{left_clause, right_clause}
 use Rattle.table_oracle.proofs.KnownLemmas.{AreApart, IsHeld, IsKnown, unit_held}
 use Rattle.table_oracle.proofs.HalfLemmas.{IsHalfHeld, next_held}

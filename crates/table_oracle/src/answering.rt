@@ -2,9 +2,9 @@
 
 ghost use Rattle.std.specs.Prelude.{◌≡◌, ◌≤◌, false, IfOk, IfErr};
 ghost use Rattle.net_core.specs.Sides.{graph_of};
-ghost use Rattle.query_core.specs.Claims.{IsClaim};
-ghost use Rattle.query_core.specs.ClaimQueries.{claim_query};
-ghost use Rattle.query_core.specs.Queries.{IsQuery, bits_in};
+ghost use Rattle.claim_core.specs.Claims.{IsClaim};
+ghost use Rattle.claim_core.specs.ClaimQueries.{claim_query};
+ghost use Rattle.claim_core.specs.Queries.{IsQuery, bits_in};
 ghost use Rattle.account_core.specs.Facts.{IsEvidence};
 ghost use Rattle.ask_core.specs.Answers.{IsAnswer};
 ghost use Rattle.fact_tests.specs.Asking.{IsDecided, IsHalted};

@@ -2,7 +2,7 @@
 
 ghost use Rattle.std.specs.Prelude.{◌≡◌, ◌≤◌, ◌↔◌, All, IfOk, IfSome, IfNone, IsTrue, length, map};
 ghost use Rattle.circuits.specs.Literals.{vector_of};
-ghost use Rattle.query_core.specs.Queries.{IsCone, IsQuery, IsUnmet, IsWired, MeetsQuery, bits_in, cone_bit, feed_bit};
+ghost use Rattle.claim_core.specs.Queries.{IsCone, IsQuery, IsUnmet, IsWired, MeetsQuery, bits_in, cone_bit, feed_bit};
 ghost use Rattle.ask_core.specs.Answers.{IsVector};
 
 use circuits::plain::write_vector;

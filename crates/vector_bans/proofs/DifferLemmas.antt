@@ -17,7 +17,7 @@ use Rattle.net_core.specs.Sides.{Graphs}
 use Rattle.net_core.specs.declared.graphs.Side.TheVariants.{First}
 use Rattle.net_core.specs.declared.matching.Matching.{Matching}
 use Rattle.net_core.specs.Graph.{IsGraph}
-use Rattle.query_core.specs.Images.{HasPair, Extends, entries_of, pair_of}
+use Rattle.claim_core.specs.Images.{HasPair, Extends, entries_of, pair_of}
 use Rattle.word_sim.specs.declared.tri.Tri.{Tri}
 use Rattle.word_sim.specs.declared.tri.Tri.TheVariants.{X}
 use Rattle.word_sim.specs.ThreeValues.{tri_outputs}
@@ -28,7 +28,7 @@ use Rattle.account_core.specs.declared.step.Step.TheVariants as step
 use Rattle.account_core.specs.Given.{Given}
 use Rattle.account_core.specs.Steps.{IsValidBan}
 use Rattle.account_core.proofs.SentOnly.{sent_only}
-use Rattle.port_covers.specs.Held.{IsOf, IsWhole}
+use Rattle.port_sides.specs.Held.{IsOf, IsWhole}
 use Rattle.vector_bans.specs.Differences.{of_bit, pair_from, pairs_from, IsShown}
 use Rattle.port_covers.proofs.ListLemmas.{contained_of_any}
 use Rattle.claim_rows.proofs.MismatchLemmas.{pair_of-one}

@@ -10,7 +10,7 @@ use Rattle.net_core.specs.Sides.{Graphs}
 use Rattle.net_core.specs.Graph.{IsGraph}
 use Rattle.account_core.specs.Ports.{AreOrdered, StandInOrder}
 use Rattle.word_sim.specs.declared.tri.Tri.{Tri}
-use Rattle.port_covers.specs.Held.{AreHeld, IsPart}
+use Rattle.port_sides.specs.Held.{AreHeld, IsPart}
 use Rattle.claim_rows.specs.Rows.{HasOneOutput}
 use Rattle.vector_bans.specs.Differences.{of_bit, AreHeldInputs, IsShown, IsWrong}
 use Rattle.vector_bans.proofs.DefiniteLemmas.{of_bit_definite, of_output}

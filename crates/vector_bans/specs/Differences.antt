@@ -10,7 +10,7 @@ use Rattle.word_sim.specs.declared.tri.Tri.{Tri}
 use Rattle.word_sim.specs.declared.tri.Tri.TheVariants.{Zero, One, X}
 use Rattle.account_core.specs.Ports.{AreOrdered, IsKnown}
 use Rattle.account_core.specs.Vectors.{first_value, second_value, signed}
-use Rattle.port_covers.specs.Held.{IsPart}
+use Rattle.port_sides.specs.Held.{IsPart}
 use Rattle.claim_rows.specs.Rows.{HasOneOutput}
 use Rattle.vector_bans.specs.declared.difference.Shown.{Shown}
 

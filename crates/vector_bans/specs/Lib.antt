@@ -1,6 +1,6 @@
 pub mod Differences
 pub mod Resorts
-pub use Rattle.port_covers.specs.Held
+pub use Rattle.port_sides.specs.Held
 pub use Rattle.table_guess.specs.Trials
 pub use Rattle.fact_bans.specs.Serving
 pub use Rattle.oracle_core.specs.Oracles

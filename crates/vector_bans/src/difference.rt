@@ -5,14 +5,14 @@ ghost use Rattle.circuits.specs.declared.port.Pair.{Pair as AnyPair};
 ghost use Rattle.circuits.specs.declared.port.PortKind.TheVariants.{Input};
 ghost use Rattle.word_sim.specs.declared.tri.Tri.TheVariants.{X};
 ghost use Rattle.circuits.specs.Matches.{HavePorts};
-ghost use Rattle.query_core.specs.Images.{Extends};
+ghost use Rattle.claim_core.specs.Images.{Extends};
 ghost use Rattle.oracle_core.specs.Oracles.{IsDifference};
 ghost use Rattle.account_core.specs.Ports.{AreOrdered, IsKnown};
 ghost use Rattle.account_core.specs.Vectors.{signed, value_at, values_sent};
 ghost use Rattle.ban_book.specs.Covering.{Covers};
 ghost use Rattle.word_sim.specs.ThreeValues.{tri_outputs};
 ghost use Rattle.vector_bans.specs.Differences.{of_bit, pair_from, pairs_from, AreShown, IsLeftOut, IsShown, IsWrong, MayTry};
-ghost use Rattle.port_covers.specs.Held.{IsWhole};
+ghost use Rattle.port_sides.specs.Held.{IsWhole};
 ghost use Rattle.fact_bans.specs.Serving.{HoldsBans, MayHold};
 
 use crate::last_resort::hold_shown;

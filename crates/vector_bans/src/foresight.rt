@@ -3,7 +3,7 @@
 ghost use Rattle.std.specs.Prelude.{◌≡◌, AllPairs, Contains, IfOk, IfSome, OnOk};
 ghost use Rattle.circuits.specs.declared.port.PortKind.TheVariants.{Output};
 ghost use Rattle.ban_book.specs.Covering.{Covers};
-ghost use Rattle.port_covers.specs.Held.{AreApart, AreHeld, IsPart};
+ghost use Rattle.port_sides.specs.Held.{AreApart, AreHeld, IsPart};
 ghost use Rattle.fact_bans.specs.Serving.{HoldsBans, MayHold};
 ghost use Rattle.table_guess.specs.Trials.{AreTrials, IsSuspect};
 ghost use Rattle.claim_rows.specs.Rows.{HasOneOutput};

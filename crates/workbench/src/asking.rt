@@ -2,7 +2,7 @@
 
 ghost use Rattle.std.specs.Prelude.{IfOk, IsTrue};
 ghost use Rattle.circuits.specs.Matches.{HavePorts};
-ghost use Rattle.query_core.specs.Queries.{IsQuery};
+ghost use Rattle.claim_core.specs.Queries.{IsQuery};
 
 use anyhow::{Result, bail, ensure};
 use ask_core::{Answer, ask};

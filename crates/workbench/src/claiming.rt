@@ -1,7 +1,7 @@
 //! Claims asked, one after the other.
 
 ghost use Rattle.std.specs.Prelude.{◌≡◌, ◌<◌, length};
-ghost use Rattle.query_core.specs.Claims.{IsClaim};
+ghost use Rattle.claim_core.specs.Claims.{IsClaim};
 
 use anyhow::{Result, bail};
 use ask_core::{Answer, ask};

@@ -4,7 +4,7 @@ use Rattle.cnf_core.specs.declared.stop.Stop.TheVariants.{Memory}
 use Rattle.learn_solver.specs.declared.verdict.Finding.{Finding}
 use Rattle.learn_solver.specs.Findings.{IsFinding}
 use Rattle.learn_solver.proofs.StepLemmas.{passed_on}
-use Rattle.query_core.specs.ConeClauses.{MeetsCones}
+use Rattle.claim_core.specs.ConeClauses.{MeetsCones}
 use Rattle.query_core.specs.Ledgers.{charging_of}
 use Rattle.ask_core.proofs.AskLemmas.{asked_with, made_of_base, meets_cones, stopped_with}
 use Rattle.ask_core.proofs.BoundLemmas.{bounded_stop, bounded_with}

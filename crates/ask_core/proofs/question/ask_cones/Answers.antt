@@ -4,7 +4,7 @@ use Rattle.cnf_core.specs.Derivations.{clauses_of}
 use Rattle.dense_solver.specs.declared.verdict.DenseVerdict.{DenseVerdict}
 use Rattle.learn_solver.proofs.StepLemmas.{passed_on}
 use Rattle.dense_solver.specs.Solved.{IsDenseVerdict, start_of, with_lines_of}
-use Rattle.query_core.specs.Formulas.{formula_of}
+use Rattle.claim_core.specs.Formulas.{formula_of}
 use Rattle.cnf_core.specs.Charges.{Charging}
 use Rattle.query_core.specs.Ledgers.{Ledgered, charging_of, one_if}
 use Rattle.query_core.specs.declared.ledger.Asked.{Asked}

@@ -1,8 +1,8 @@
 -- The bits of the input variables are a vector that is asked for.
 use Rattle.std.proofs.Common.{◌≡◌, ◌+◌, Bool, List, length, [], ◌∷◌, ◌++◌, sym, subst, ap, ◌∙◌, arith}
 use Rattle.circuits.specs.Literals.{bit}
-use Rattle.query_core.specs.Queries.{MeetsQuery, bits_in, vector_in}
-use Rattle.query_core.proofs.ConeLaws.{cone_vector_there}
+use Rattle.claim_core.specs.Queries.{MeetsQuery, bits_in, vector_in}
+use Rattle.claim_core.proofs.ConeLaws.{cone_vector_there}
 use Rattle.ask_core.proofs.AskLemmas.{vector_length, vector_more}
 use Rattle.ask_core.proofs.vector.vector_of.Goals as goal
 

@@ -1,5 +1,5 @@
 use Rattle.std.proofs.Common.{◌≡◌}
-use Rattle.query_core.specs.Queries.{vector_in}
+use Rattle.claim_core.specs.Queries.{vector_in}
 use Rattle.ask_core.proofs.vector.vector_of.Given as goal
 
 abbrev pub invariant-loop-input : goal.invariant-loop-input

@@ -1,6 +1,6 @@
 -- One fact more is read.
 use Rattle.std.proofs.Common.{◌+◌, get_or, drop, ap, subst, ◌∙◌, arith}
-use Rattle.query_core.specs.declared.claims.Claim.{Claim}
+use Rattle.claim_core.specs.declared.claims.Claim.{Claim}
 use Rattle.account_core.specs.Given.{fact_at}
 use Rattle.account_core.specs.Tallies.{shapes_of}
 use Rattle.ban_check.specs.Counted.{one_input, IsNext}

@@ -1,7 +1,7 @@
 use Rattle.std.proofs.Common.{◌∷◌, List, Some, All, Contains, sym, subst, arith}
 use Rattle.circuits.specs.declared.port.Pair.{Pair}
 use Rattle.account_core.specs.Tallies.{port_on}
-use Rattle.port_covers.specs.Held.{AreHeld}
+use Rattle.port_sides.specs.Held.{AreHeld}
 use Rattle.port_covers.specs.Ways.{nth_way}
 use Rattle.class_refine.specs.declared.entry.Fate.TheVariants.{Held}
 use Rattle.class_refine.specs.declared.entry.Cause.TheVariants.{LastWay}

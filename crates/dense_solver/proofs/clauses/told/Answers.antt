@@ -1,7 +1,7 @@
 -- One clause more.
 use Rattle.std.proofs.Common.{rules, ◌<◌, ℕ, List, length, slice_index_or, ap, subst, ◌∙◌}
 use Rattle.std.proofs.lemmas.List.{get_or_default}
-use Rattle.query_core.specs.Formulas.{formula_of}
+use Rattle.claim_core.specs.Formulas.{formula_of}
 use Rattle.dense_solver.specs.Renamings.{IsOver}
 use Rattle.dense_solver.proofs.BaseLemmas.{told_more}
 use Rattle.dense_solver.proofs.clauses.told.Goals as goal

@@ -1,7 +1,7 @@
 -- The clauses of the numbers so far.
 use Rattle.std.proofs.Common.{map, take}
 use Rattle.cnf_core.specs.Clauses.{clause_at}
-use Rattle.query_core.specs.Formulas.{formula_of}
+use Rattle.claim_core.specs.Formulas.{formula_of}
 use Rattle.dense_solver.specs.Renamings.{AreOver}
 use Rattle.dense_solver.proofs.clauses.told.Given as goal
 

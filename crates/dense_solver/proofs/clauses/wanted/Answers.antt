@@ -4,7 +4,7 @@ use Rattle.cnf_core.specs.declared.literal.SatLit.{SatLit}
 use Rattle.cnf_core.specs.Clauses.{clause_at}
 use Rattle.watch_lists.specs.Propagations.{AreKnown}
 use Rattle.learn_solver.proofs.StartLemmas.{line_clause}
-use Rattle.query_core.specs.Formulas.{formula_of}
+use Rattle.claim_core.specs.Formulas.{formula_of}
 use Rattle.dense_solver.proofs.BaseLemmas.{lemma_over_more}
 use Rattle.dense_solver.proofs.clauses.wanted.Goals as goal
 

@@ -2,7 +2,7 @@
 use Rattle.std.proofs.Common.{map, take, ◌++◌}
 use Rattle.cnf_core.specs.Clauses.{clause_at}
 use Rattle.cnf_core.specs.Derivations.{clauses_of}
-use Rattle.query_core.specs.Formulas.{formula_of}
+use Rattle.claim_core.specs.Formulas.{formula_of}
 use Rattle.dense_solver.specs.Renamings.{AreOver}
 use Rattle.dense_solver.proofs.clauses.wanted.Given as goal
 

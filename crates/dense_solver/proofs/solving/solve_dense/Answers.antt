@@ -1,5 +1,5 @@
 -- What the search over names told is the formula's.
-use Rattle.query_core.specs.Formulas.{formula_of}
+use Rattle.claim_core.specs.Formulas.{formula_of}
 use Rattle.learn_solver.proofs.SolverLemmas.{lines_known}
 use Rattle.dense_solver.proofs.FullLemmas.{dense_asking, dense_extended, dense_stopped, dense_verdict, translating}
 use Rattle.dense_solver.proofs.solving.solve_dense.Goals as goal

@@ -1,7 +1,7 @@
 -- The query was asked by lemmas of its own. The part of a log refutes what the log refutes.
 use Rattle.std.proofs.Common.{sym, subst}
 use Rattle.cnf_core.specs.Derivations.{IsRefutation}
-use Rattle.query_core.specs.Formulas.{formula_of}
+use Rattle.claim_core.specs.Formulas.{formula_of}
 use Rattle.learn_solver.proofs.StepLemmas.{passed_on}
 use Rattle.ask_core.specs.Answers.{IsAnswer}
 use Rattle.ask_core.proofs.AskLemmas.{stopped_weaker}

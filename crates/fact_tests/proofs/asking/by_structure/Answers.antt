@@ -2,8 +2,8 @@
 use Rattle.std.proofs.Common.{[], ◌∷◌, ap, inr, rules, sym, subst, ◌∙◌}
 use Rattle.circuits.specs.Netlists.{Net}
 use Rattle.cnf_core.specs.Derivations.{IsRefutation}
-use Rattle.query_core.specs.ClaimQueries.{claim_query}
-use Rattle.query_core.specs.Formulas.{formula_of}
+use Rattle.claim_core.specs.ClaimQueries.{claim_query}
+use Rattle.claim_core.specs.Formulas.{formula_of}
 use Rattle.query_core.specs.Ledgers.{Ledgered}
 use Rattle.fact_tests.proofs.AskingLemmas.{closed_asked, closed_halted, closing_is, outside_closed}
 use Rattle.fact_tests.proofs.asking.by_structure.Goals as goal

@@ -1,9 +1,9 @@
 -- A vector that meets the claim's query breaks the claim.
 use Rattle.std.proofs.Common.{sym, subst}
 use Rattle.ask_core.specs.Answers.{IsAnswer}
-use Rattle.query_core.specs.Claims.{Breaks}
-use Rattle.query_core.specs.ClaimQueries.{claim_query}
-use Rattle.query_core.proofs.ClaimQueryLemmas.{meets-breaks}
+use Rattle.claim_core.specs.Claims.{Breaks}
+use Rattle.claim_core.specs.ClaimQueries.{claim_query}
+use Rattle.claim_core.proofs.ClaimQueryLemmas.{meets-breaks}
 use Rattle.fact_tests.proofs.deciding.evidence_of.Goals as goal
 
 pub returns-in_ok-vector-in-Vector : goal.returns-in_ok-vector-in-Vector

@@ -3,7 +3,7 @@ use Rattle.std.proofs.Common.{sym, ◌∙◌}
 use Rattle.std.proofs.lemmas.Bool.{false≢true}
 use Rattle.std.proofs.lemmas.Result.{IfOk-weaker}
 use Rattle.std.specs.Bool.{Decides}
-use Rattle.query_core.specs.Claims.{ShapeHolds}
+use Rattle.claim_core.specs.Claims.{ShapeHolds}
 use Rattle.fact_tests.specs.Outputs.{IsAlike, function_at, inputs_in}
 use Rattle.fact_tests.proofs.AlikeLemmas.{never_alike}
 use Rattle.fact_tests.proofs.ClaimFacts.{alike_never, alike_then}

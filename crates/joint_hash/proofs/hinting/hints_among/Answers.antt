@@ -3,7 +3,7 @@ use Rattle.std.proofs.lemmas.Bool.{false≢true, lt-ltb}
 use Rattle.cnf_core.specs.declared.literal.SatLit.{SatLit}
 use Rattle.cnf_core.specs.Clauses.{clause_at, opposite}
 use Rattle.cnf_core.specs.Derivations.{clauses_of, effect_of, hint_fault}
-use Rattle.query_core.specs.Formulas.{query_clauses}
+use Rattle.claim_core.specs.Formulas.{query_clauses}
 use Rattle.joint_hash.proofs.HintLemmas.{IsOnTheWay, hint_ends, not_hinted, way_ends, way_makes, way_neither, way_there}
 use Rattle.joint_hash.proofs.hinting.hints_among.Goals as goal
 use Rattle.joint_hash.proofs.hinting.hints_among.Goals.{in-Makes+in_ok-make-in-Makes+in_ok-push-in-Makes, in-Neither}

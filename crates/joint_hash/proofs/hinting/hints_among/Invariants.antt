@@ -1,7 +1,7 @@
 use Rattle.std.proofs.Common.{map, drop, ◌++◌}
 use Rattle.cnf_core.specs.Clauses.{opposite}
 use Rattle.cnf_core.specs.Derivations.{clauses_of}
-use Rattle.query_core.specs.Formulas.{query_clauses}
+use Rattle.claim_core.specs.Formulas.{query_clauses}
 use Rattle.joint_hash.proofs.HintLemmas.{IsOnTheWay}
 use Rattle.joint_hash.proofs.hinting.hints_among.Given as goal
 

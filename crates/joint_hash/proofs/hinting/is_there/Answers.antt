@@ -3,7 +3,7 @@ use Rattle.std.proofs.Common.{◌≡◌, ◌+◌, ◌++◌, length, nat_lt, ap, 
 use Rattle.std.proofs.lemmas.List.{length-map}
 use Rattle.cnf_core.specs.declared.log.LogLine.{LogLine}
 use Rattle.cnf_core.specs.Derivations.{clauses_of}
-use Rattle.query_core.specs.Formulas.{query_clauses}
+use Rattle.claim_core.specs.Formulas.{query_clauses}
 use Rattle.joint_hash.proofs.hinting.is_there.Goals as goal
 
 pub returns : goal.returns

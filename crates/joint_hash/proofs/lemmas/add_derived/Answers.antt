@@ -2,7 +2,7 @@ use Rattle.std.proofs.Common.{◌≡◌, ◌≢◌, ◌++◌, List, None, map, s
 use Rattle.cnf_core.specs.declared.log.LogLine.{LogLine}
 use Rattle.cnf_core.specs.Clauses.{opposite, variable_of}
 use Rattle.cnf_core.specs.Derivations.{clauses_of, hint_fault}
-use Rattle.query_core.specs.Formulas.{formula_of}
+use Rattle.claim_core.specs.Formulas.{formula_of}
 use Rattle.joint_hash.specs.Trees.{AreJoining}
 use Rattle.joint_hash.proofs.JoiningLemmas.{joining_more}
 use Rattle.joint_hash.proofs.lemmas.add_derived.Goals as goal

@@ -2,7 +2,7 @@ use Rattle.std.proofs.Common.{◌≡◌, ◌++◌, List, None, map, sym, subst, 
 use Rattle.cnf_core.specs.declared.log.LogLine.{LogLine}
 use Rattle.cnf_core.specs.Clauses.{opposite}
 use Rattle.cnf_core.specs.Derivations.{clauses_of, hint_fault}
-use Rattle.query_core.specs.Formulas.{formula_of}
+use Rattle.claim_core.specs.Formulas.{formula_of}
 use Rattle.joint_hash.specs.Merging.{AreLemmas}
 use Rattle.joint_hash.proofs.LineLemmas.{lemma_more}
 use Rattle.joint_hash.proofs.lemmas.add_lemma.Goals as goal

@@ -6,7 +6,7 @@ use Rattle.cnf_core.specs.declared.literal.SatLit.{SatLit}
 use Rattle.cnf_core.specs.declared.log.LogLine.{LogLine}
 use Rattle.cnf_core.specs.Clauses.{opposite, variable_of}
 use Rattle.cnf_core.specs.Derivations.{clauses_of}
-use Rattle.query_core.specs.Formulas.{query_clauses}
+use Rattle.claim_core.specs.Formulas.{query_clauses}
 use Rattle.joint_hash.specs.declared.twins.Twin.{Twin}
 use Rattle.joint_hash.specs.Chains.{AreListed, LeadOn}
 use Rattle.joint_hash.specs.Classes.{twin_of}

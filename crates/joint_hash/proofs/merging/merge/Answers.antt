@@ -1,5 +1,5 @@
 use Rattle.std.proofs.Common.{◌↔◌, List, ℕ, Contains, sym, subst}
-use Rattle.query_core.specs.ConeClauses.{IsConeId}
+use Rattle.claim_core.specs.ConeClauses.{IsConeId}
 use Rattle.joint_hash.proofs.merging.merge.Goals as goal
 
 pub merge_ids-requires-clause-cones : goal.merge_ids-requires-clause-cones

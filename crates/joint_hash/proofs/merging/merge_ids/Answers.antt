@@ -1,10 +1,10 @@
 use Rattle.std.proofs.Common.{length, subst}
 use Rattle.net_core.specs.Sides.{Graphs}
 use Rattle.net_core.specs.Graph.{IsGraph}
-use Rattle.query_core.specs.Formulas.{query_clauses}
+use Rattle.claim_core.specs.Formulas.{query_clauses}
 use Rattle.joint_hash.specs.Chains.{clauses_with}
 use Rattle.joint_hash.specs.Classes.{twin_of}
-use Rattle.query_core.specs.Formulas.{formula_of}
+use Rattle.claim_core.specs.Formulas.{formula_of}
 use Rattle.joint_hash.proofs.ListedLemmas.{twins_late}
 use Rattle.joint_hash.proofs.VisitLemmas.{all_joined}
 use Rattle.joint_hash.proofs.merging.merge_ids.Goals as goal

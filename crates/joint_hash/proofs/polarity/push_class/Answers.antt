@@ -1,6 +1,6 @@
 use Rattle.std.proofs.Common.{List, ℕ, true, false, length, sym, subst}
 use Rattle.std.proofs.lemmas.Result.{on_ok_weaker}
-use Rattle.query_core.specs.Formulas.{query_clauses}
+use Rattle.claim_core.specs.Formulas.{query_clauses}
 use Rattle.joint_hash.specs.Chains.{AreListed}
 use Rattle.joint_hash.specs.Classes.{twin_of}
 use Rattle.joint_hash.proofs.ListedLemmas.{listed_lemma}

@@ -1,5 +1,5 @@
 use Rattle.std.proofs.Common.{List, ℕ, length, inl, refl, sym, subst}
-use Rattle.query_core.specs.Formulas.{query_clauses}
+use Rattle.claim_core.specs.Formulas.{query_clauses}
 use Rattle.joint_hash.specs.Chains.{AreListed}
 use Rattle.joint_hash.proofs.ListedLemmas.{listed_more}
 use Rattle.joint_hash.proofs.polarity.push_constant.Goals as goal

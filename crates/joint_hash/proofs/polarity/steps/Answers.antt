@@ -1,5 +1,5 @@
 use Rattle.std.proofs.Common.{◌≡◌, ◌+◌, List, Contains, ℕ, length, sym, subst, arith}
-use Rattle.query_core.specs.Formulas.{query_clauses}
+use Rattle.claim_core.specs.Formulas.{query_clauses}
 use Rattle.joint_hash.specs.Chains.{AreListed}
 use Rattle.joint_hash.proofs.ListedLemmas.{gate_listed, listed_more, none_listed}
 use Rattle.joint_hash.proofs.polarity.steps.Goals as goal

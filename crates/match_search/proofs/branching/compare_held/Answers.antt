@@ -1,5 +1,5 @@
 use Rattle.std.proofs.Common.{sym, subst}
-use Rattle.port_covers.specs.Held.{AreHeld, IsWhole}
+use Rattle.port_sides.specs.Held.{AreHeld, IsWhole}
 use Rattle.table_guess.specs.Trials.{AreTrials}
 use Rattle.conflict_core.proofs.PivotLemmas.{held_known}
 use Rattle.fact_bans.proofs.HoldingLemmas.{held_one, holds_last, may_later}

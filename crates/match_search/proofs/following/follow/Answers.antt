@@ -1,5 +1,5 @@
 use Rattle.std.proofs.Common.{sym, subst}
-use Rattle.port_covers.specs.Held.{AreHeld}
+use Rattle.port_sides.specs.Held.{AreHeld}
 use Rattle.conflict_core.proofs.PivotLemmas.{held_known}
 use Rattle.match_search.proofs.StepLemmas.{may_go_on, steps_err, steps_ok, way_bans, way_more, way_one, way_start}
 use Rattle.match_search.proofs.following.follow.Goals as goal

@@ -1,4 +1,4 @@
-use Rattle.port_covers.specs.Held.{IsEntryOf}
+use Rattle.port_sides.specs.Held.{IsEntryOf}
 use Rattle.port_covers.proofs.OrderLemmas.{held_more}
 use Rattle.match_search.proofs.table.put_entries.Goals as goal
 

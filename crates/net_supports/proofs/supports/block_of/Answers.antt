@@ -4,7 +4,7 @@ use Rattle.std.specs.List.{range_with_len}
 use Rattle.circuits.specs.declared.netlist.Gate.{Gate}
 use Rattle.circuits.specs.declared.netlist.Lit.{Lit}
 use Rattle.circuits.specs.Literals.{signal_of}
-use Rattle.query_core.specs.Formulas.{reaching}
+use Rattle.claim_core.specs.Formulas.{reaching}
 use Rattle.word_sim.specs.Columns.{lane}
 use Rattle.net_supports.specs.Supports.{IsBlock}
 use Rattle.net_supports.proofs.SupportLemmas.{block_is}

@@ -1,6 +1,6 @@
 use Rattle.std.proofs.Common.{ap, ◌∙◌, ◌+◌, [], ◌∷◌, arith, length, bit_or, drop}
 use Rattle.std.proofs.lemmas.List.{length-append}
-use Rattle.query_core.specs.Formulas.{reaching}
+use Rattle.claim_core.specs.Formulas.{reaching}
 use Rattle.word_sim.specs.Columns.{lane}
 use Rattle.circuits.specs.declared.netlist.Gate.{Gate}
 use Rattle.net_supports.proofs.SupportLemmas.{gates_more}

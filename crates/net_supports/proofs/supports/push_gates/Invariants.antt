@@ -1,5 +1,5 @@
 use Rattle.std.proofs.Common.{◌≡◌, ℕ, ◌+◌, length, drop}
-use Rattle.query_core.specs.Formulas.{reaching}
+use Rattle.claim_core.specs.Formulas.{reaching}
 use Rattle.word_sim.specs.Columns.{lane}
 use Rattle.net_supports.proofs.supports.push_gates.Given as goal
 

@@ -1,5 +1,5 @@
 use Rattle.std.proofs.Common.{subst, sym}
-use Rattle.port_covers.specs.Held.{AreHeld}
+use Rattle.port_sides.specs.Held.{AreHeld}
 use Rattle.conflict_core.proofs.PivotLemmas.{held_known}
 use Rattle.pair_refine.specs.Rows.{ShowNothingAt, decided}
 use Rattle.pair_refine.specs.Stable.{HaveNoBan, HaveNoSwapMismatch}

@@ -5,7 +5,7 @@ use Rattle.account_core.specs.Covers.{IsImpossible}
 use Rattle.account_core.specs.Ports.{IsKnown}
 use Rattle.ban_book.specs.Vectors.{HaveNoFacts}
 use Rattle.class_refine.specs.Trails.{held_in}
-use Rattle.port_covers.specs.Held.{AreHeld}
+use Rattle.port_sides.specs.Held.{AreHeld}
 use Rattle.conflict_core.proofs.PivotLemmas.{held_known}
 use Rattle.pair_refine.specs.Rows.{decided}
 use Rattle.pair_refine.specs.Stable.{HaveNoBan, HaveNoSwapMismatch}

@@ -1,7 +1,7 @@
 use Rattle.std.proofs.Common.{map, sym, subst, ◌∙◌, arith}
 use Rattle.std.proofs.lemmas.Bool.{false≢true}
 use Rattle.std.proofs.lemmas.List.{length-map}
-use Rattle.query_core.specs.declared.claims.Claim.{Claim}
+use Rattle.claim_core.specs.declared.claims.Claim.{Claim}
 use Rattle.account_core.specs.Given.{decided_by}
 use Rattle.pair_refine.specs.Stable.{HasTwoInputs}
 use Rattle.pair_refine.proofs.SwapIndexLemmas.{index_kept, index_more}

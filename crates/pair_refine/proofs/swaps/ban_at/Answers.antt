@@ -1,5 +1,5 @@
 use Rattle.std.proofs.Common.{[], ◌∷◌, ap, subst, sym, ◌∙◌}
-use Rattle.query_core.specs.declared.claims.Claim.{Claim}
+use Rattle.claim_core.specs.declared.claims.Claim.{Claim}
 use Rattle.ban_book.proofs.VectorLemmas.{facts_decided}
 use Rattle.claim_rows.specs.declared.mismatched.Unlike.{Unlike}
 use Rattle.claim_rows.specs.Mismatched.{mismatch_of}

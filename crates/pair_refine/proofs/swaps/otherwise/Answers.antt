@@ -2,7 +2,7 @@ use Rattle.std.proofs.Common.{◌≡◌, ◌<◌, ℕ, Option, length, map, sym,
 use Rattle.std.specs.Prelude.{IfNone}
 use Rattle.std.proofs.lemmas.List.{length-map}
 use Rattle.account_core.specs.Given.{decided_by}
-use Rattle.query_core.specs.declared.claims.Claim.{Claim}
+use Rattle.claim_core.specs.declared.claims.Claim.{Claim}
 use Rattle.claim_rows.specs.declared.told.Told.{Told}
 use Rattle.claim_rows.specs.Told.{IsToldAs}
 use Rattle.pair_refine.specs.Swaps.{SaysOf}

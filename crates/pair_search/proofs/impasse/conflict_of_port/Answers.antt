@@ -1,6 +1,6 @@
 use Rattle.std.proofs.Common.{List, inr, sym, subst}
 use Rattle.circuits.specs.declared.port.Pair.{Pair}
-use Rattle.port_covers.specs.Held.{AreHeld}
+use Rattle.port_sides.specs.Held.{AreHeld}
 use Rattle.port_covers.specs.Ways.{nth_way}
 use Rattle.conflict_core.specs.Named.{AreNamed}
 use Rattle.conflict_core.proofs.JustifiedLemmas.{names_held}

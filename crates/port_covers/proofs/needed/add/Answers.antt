@@ -4,7 +4,7 @@ use Rattle.std.proofs.lemmas.Bool.{false≢true}
 use Rattle.std.proofs.lemmas.List.Elements.{All-contains_itself, Contains-get_or}
 use Rattle.circuits.specs.declared.port.Pair.{Pair}
 use Rattle.account_core.specs.Ports.{AreOrdered}
-use Rattle.port_covers.specs.Held.{StandsBefore}
+use Rattle.port_sides.specs.Held.{StandsBefore}
 use Rattle.port_covers.proofs.ListLemmas.{insert_stays, insert_has, insert_cases}
 use Rattle.port_covers.proofs.OrderLemmas.{ordered_insert}
 use Rattle.port_covers.proofs.needed.add.Goals as goal

@@ -3,7 +3,7 @@ use Rattle.std.proofs.lemmas.Bool.{false≢true}
 use Rattle.std.proofs.lemmas.List.{get_or_default}
 use Rattle.std.proofs.lemmas.List.Elements.{All-more}
 use Rattle.circuits.specs.declared.port.Pair.{Pair}
-use Rattle.port_covers.specs.Held.{StandsBefore}
+use Rattle.port_sides.specs.Held.{StandsBefore}
 use Rattle.port_covers.proofs.needed.place_of.Goals as goal
 
 pub returns-then-not-stands_before-clause-after : goal.returns-then-not-stands_before-clause-after

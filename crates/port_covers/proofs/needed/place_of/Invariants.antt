@@ -1,5 +1,5 @@
 use Rattle.std.proofs.Common.{take, All}
-use Rattle.port_covers.specs.Held.{StandsBefore}
+use Rattle.port_sides.specs.Held.{StandsBefore}
 use Rattle.port_covers.proofs.needed.place_of.Given as goal
 
 abbrev pub invariant-loop-place : goal.invariant-loop-place

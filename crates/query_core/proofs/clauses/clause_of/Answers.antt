@@ -3,9 +3,9 @@ use Rattle.std.proofs.Common.{◌≡◌, ◌+◌, ◌*◌, ◌-◌, ◌<◌, ◌
 use Rattle.cnf_core.specs.declared.literal.SatLit.{SatLit}
 use Rattle.cnf_core.specs.Clauses.{clause_at}
 use Rattle.query_core.specs.declared.clauses.Half.{Half}
-use Rattle.query_core.specs.Formulas.{half_clauses, output_literal}
+use Rattle.claim_core.specs.Formulas.{half_clauses, output_literal}
 use Rattle.query_core.specs.Variables.{literals_by}
-use Rattle.query_core.proofs.FormulaLemmas.{gate_clause_count, clause_of_left, clause_of_right, first_output, second_output}
+use Rattle.claim_core.proofs.FormulaLemmas.{gate_clause_count, clause_of_left, clause_of_right, first_output, second_output}
 use Rattle.query_core.proofs.clauses.clause_of.Goals as goal
 
 -- the clauses of a circuit's gates, how many they are, and the literal of its output

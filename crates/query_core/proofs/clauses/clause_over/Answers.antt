@@ -1,8 +1,8 @@
 -- The number is that of a clause.
 use Rattle.std.proofs.Common.{◌≡◌, length, ap, arith}
 use Rattle.circuits.specs.Netlists.{Net}
-use Rattle.query_core.specs.Queries.{circuit_of}
-use Rattle.query_core.proofs.FormulaLemmas.{count_of}
+use Rattle.claim_core.specs.Queries.{circuit_of}
+use Rattle.claim_core.proofs.FormulaLemmas.{count_of}
 use Rattle.query_core.proofs.clauses.clause_over.Goals as goal
 
 pub clause_of-requires-clause-there : goal.clause_of-requires-clause-there

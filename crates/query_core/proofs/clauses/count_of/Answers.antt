@@ -1,8 +1,8 @@
 use Rattle.std.proofs.Common.{◌≡◌, ◌+◌, ◌*◌, length, ap, ◌∙◌, arith}
 use Rattle.circuits.specs.Netlists.{Net}
-use Rattle.query_core.specs.Queries.{circuit_of}
-use Rattle.query_core.specs.Formulas.{query_clauses}
-use Rattle.query_core.proofs.FormulaLemmas.{count_of}
+use Rattle.claim_core.specs.Queries.{circuit_of}
+use Rattle.claim_core.specs.Formulas.{query_clauses}
+use Rattle.claim_core.proofs.FormulaLemmas.{count_of}
 use Rattle.query_core.proofs.clauses.count_of.Goals as goal
 
 pub returns-clause-value : goal.returns-clause-value

@@ -2,9 +2,9 @@
 use Rattle.std.proofs.Common.{◌≡◌, ◌+◌, ◌*◌, ◌/◌, ◌%◌, ◌<◌, List, length, slice_index_or, sym, ap, ◌∙◌, arith}
 use Rattle.circuits.specs.declared.netlist.Gate.{Gate}
 use Rattle.cnf_core.specs.Clauses.{clause_at}
-use Rattle.query_core.specs.Formulas.{and_clauses, half_clauses, stand_in, stands_for}
+use Rattle.claim_core.specs.Formulas.{and_clauses, half_clauses, stand_in, stands_for}
 use Rattle.query_core.specs.Variables.{literals_by}
-use Rattle.query_core.proofs.FormulaLemmas.{gate_clause_at}
+use Rattle.claim_core.proofs.FormulaLemmas.{gate_clause_at}
 use Rattle.query_core.proofs.clauses.gate_clause.Goals as goal
 
 pub returns-clause-value : goal.returns-clause-value

@@ -1,6 +1,6 @@
 -- The variable of a gate.
 use Rattle.std.proofs.Common.{◌-◌, ◌<◌, length, ap, ◌∙◌, arith}
-use Rattle.query_core.specs.Formulas.{plain}
+use Rattle.claim_core.specs.Formulas.{plain}
 use Rattle.query_core.specs.Variables.{variable_at}
 use Rattle.query_core.proofs.VariableLemmas.{stand_in_by}
 use Rattle.query_core.proofs.clauses.stand_in.Goals as goal

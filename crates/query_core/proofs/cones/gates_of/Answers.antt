@@ -1,7 +1,7 @@
 -- The gates that the graph of the cone's side tells.
 use Rattle.std.proofs.Common.{subst}
 use Rattle.circuits.specs.Netlists.{Net}
-use Rattle.query_core.specs.ConeClauses.{AreReached}
+use Rattle.claim_core.specs.ConeClauses.{AreReached}
 use Rattle.query_core.proofs.cones.gates_of.Goals as goal
 
 pub returns : goal.returns

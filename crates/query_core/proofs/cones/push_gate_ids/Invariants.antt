@@ -1,6 +1,6 @@
 -- The numbers so far, and those of the gates that are left, are those of all.
 use Rattle.std.proofs.Common.{◌≡◌, ◌++◌, drop}
-use Rattle.query_core.specs.ConeClauses.{gate_ids}
+use Rattle.claim_core.specs.ConeClauses.{gate_ids}
 use Rattle.query_core.proofs.cones.push_gate_ids.Given as goal
 
 abbrev pub invariant-loop-gate : goal.invariant-loop-gate

@@ -1,8 +1,8 @@
 -- The numbers were added one after the other.
 use Rattle.std.proofs.Common.{rules, ◌≡◌, ◌+◌, ◌*◌, ◌++◌, ◌∷◌, [], length, ap, ◌∙◌, arith}
 use Rattle.circuits.specs.Netlists.{Net}
-use Rattle.query_core.specs.Queries.{circuit_of}
-use Rattle.query_core.specs.ConeClauses.{gate_ids}
+use Rattle.claim_core.specs.Queries.{circuit_of}
+use Rattle.claim_core.specs.ConeClauses.{gate_ids}
 use Rattle.query_core.proofs.ConeIdLemmas.{built_are}
 use Rattle.query_core.proofs.cones.query_ids.Goals as goal
 

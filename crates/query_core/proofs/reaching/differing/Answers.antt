@@ -1,7 +1,7 @@
 use Rattle.std.proofs.Common.{false, [], ◌∷◌, length, ap, arith}
 use Rattle.std.proofs.lemmas.List.{length-append}
-use Rattle.query_core.specs.Formulas.{feeds_differ}
-use Rattle.query_core.proofs.FormulaLemmas.{length-feeds_differ}
+use Rattle.claim_core.specs.Formulas.{feeds_differ}
+use Rattle.claim_core.proofs.FormulaLemmas.{length-feeds_differ}
 use Rattle.query_core.proofs.reaching.differing.Goals as goal
 
 pub returns-clause-count : goal.returns-clause-count

@@ -1,5 +1,5 @@
 use Rattle.std.proofs.Common.{◌≡◌, ◌++◌, drop}
-use Rattle.query_core.specs.Formulas.{feeds_differ}
+use Rattle.claim_core.specs.Formulas.{feeds_differ}
 use Rattle.query_core.proofs.reaching.push_differing.Given as goal
 
 abbrev pub invariant-loop-input : goal.invariant-loop-input

@@ -1,5 +1,5 @@
 use Rattle.std.proofs.Common.{◌≡◌, ◌+◌, length, drop}
-use Rattle.query_core.specs.Formulas.{reaching}
+use Rattle.claim_core.specs.Formulas.{reaching}
 use Rattle.query_core.proofs.reaching.push_reaching.Given as goal
 
 abbrev pub invariant-loop-gate : goal.invariant-loop-gate

@@ -3,11 +3,11 @@ use Rattle.std.proofs.Common.{rules, ◌≡◌, ◌+◌, ◌<◌, length, drop, 
 use Rattle.circuits.specs.Literals.{bit}
 use Rattle.circuits.specs.Netlists.{Net}
 use Rattle.query_core.specs.declared.variables.Variables.TheVariants.{Own}
-use Rattle.query_core.specs.Queries.{circuit_of}
-use Rattle.query_core.specs.ConeClauses.{right_gates}
-use Rattle.query_core.specs.Formulas.{reaches, right_variables, shared_from}
+use Rattle.claim_core.specs.Queries.{circuit_of}
+use Rattle.claim_core.specs.ConeClauses.{right_gates}
+use Rattle.claim_core.specs.Formulas.{reaches, right_variables, shared_from}
 use Rattle.query_core.specs.Variables.{variables_in}
-use Rattle.query_core.proofs.FormulaLemmas.{reached_count}
+use Rattle.claim_core.proofs.FormulaLemmas.{reached_count}
 use Rattle.query_core.proofs.VariableLemmas.{shared_right, variable_in}
 use Rattle.query_core.proofs.variables.cone_variables.Goals as goal
 

@@ -1,6 +1,6 @@
 use Rattle.std.proofs.Common.{ℕ, ◌<◌}
 use Rattle.net_core.specs.declared.graphs.Side.TheVariants.{First}
-use Rattle.port_covers.specs.Held.{IsTaken}
+use Rattle.port_sides.specs.Held.{IsTaken}
 use Rattle.class_refine.specs.Trails.{held_in}
 use Rattle.search_guide.proofs.choosing.first_of.Given as goal
 

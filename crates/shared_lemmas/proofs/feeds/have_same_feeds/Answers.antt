@@ -1,7 +1,7 @@
 -- The circuits are the same, and so are the feeds.
 use Rattle.std.proofs.Common.{◌&&◌, sym, ◌∙◌}
 use Rattle.std.proofs.lemmas.Bool.{and_parts}
-use Rattle.query_core.proofs.EqualLemmas.{feeds_decide, side_decides}
+use Rattle.claim_core.proofs.EqualLemmas.{feeds_decide, side_decides}
 use Rattle.shared_lemmas.proofs.feeds.have_same_feeds.Goals as goal
 
 pub returns : goal.returns

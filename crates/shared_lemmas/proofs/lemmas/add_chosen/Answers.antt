@@ -1,7 +1,7 @@
 -- The lines of the stock go on after the lemmas.
 use Rattle.std.proofs.Common.{sym, ◌∙◌, subst}
 use Rattle.log_parts.specs.Parts.{ArePlaced, MayGoOn}
-use Rattle.query_core.specs.Formulas.{formula_of}
+use Rattle.claim_core.specs.Formulas.{formula_of}
 use Rattle.shared_lemmas.proofs.SharedLaws.{own_common}
 use Rattle.shared_lemmas.proofs.lemmas.add_chosen.Goals as goal
 

@@ -1,7 +1,7 @@
 -- The part of the log refutes what the log refutes.
 use Rattle.std.proofs.Common.{sym, subst}
 use Rattle.cnf_core.specs.Derivations.{IsRefutation}
-use Rattle.query_core.specs.Formulas.{formula_of}
+use Rattle.claim_core.specs.Formulas.{formula_of}
 use Rattle.ask_core.specs.Answers.{IsAnswer}
 use Rattle.shared_lemmas.proofs.shared.finish.Goals as goal
 

@@ -2,7 +2,7 @@
 use Rattle.std.proofs.Common.{◌≡◌, ◌∙◌, true, replicate, ap, subst, sym}
 use Rattle.std.specs.List.{Contains}
 use Rattle.circuits.specs.Netlists.{Net}
-use Rattle.query_core.specs.Claims.{ShapeFails}
+use Rattle.claim_core.specs.Claims.{ShapeFails}
 use Rattle.sim_signature.proofs.Wanted.{all_marked}
 use Rattle.sim_signature.proofs.hunting.hunt_all.Goals as goal
 

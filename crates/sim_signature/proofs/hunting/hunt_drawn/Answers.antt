@@ -2,7 +2,7 @@
 use Rattle.std.proofs.Common.{subst}
 use Rattle.std.specs.List.{All}
 use Rattle.circuits.specs.Netlists.{Net}
-use Rattle.query_core.specs.Claims.{IsPlaced}
+use Rattle.claim_core.specs.Claims.{IsPlaced}
 use Rattle.sim_signature.specs.Sightings.{AreBroken}
 use Rattle.sim_signature.proofs.hunting.hunt_drawn.Goals as goal
 

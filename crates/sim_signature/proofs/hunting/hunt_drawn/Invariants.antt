@@ -1,6 +1,6 @@
 -- What was sighted is broken, and the claims that are left are placed.
 use Rattle.std.specs.List.{All}
-use Rattle.query_core.specs.Claims.{IsPlaced}
+use Rattle.claim_core.specs.Claims.{IsPlaced}
 use Rattle.sim_signature.specs.Sightings.{AreBroken}
 use Rattle.sim_signature.proofs.hunting.hunt_drawn.Given as goal
 

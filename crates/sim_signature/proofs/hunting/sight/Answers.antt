@@ -2,7 +2,7 @@
 use Rattle.std.proofs.Common.{◌≡◌, refl, subst}
 use Rattle.std.specs.Prelude.{IfSome}
 use Rattle.std.proofs.lemmas.List.Quantifiers.{Any-push}
-use Rattle.query_core.specs.Claims.{BreaksShape}
+use Rattle.claim_core.specs.Claims.{BreaksShape}
 use Rattle.sim_signature.specs.declared.sighting.Sighting.{Sighting}
 use Rattle.sim_signature.proofs.Hunts.{Hunted-none, Hunted-push}
 use Rattle.sim_signature.proofs.Signing.{all-tried, nothing}

@@ -3,9 +3,9 @@ use Rattle.std.proofs.Common.{◌≡◌, ◌<◌, ◌≤◌, ◌∷◌, ◌++◌
 use Rattle.std.specs.List.{Contains}
 use Rattle.std.proofs.lemmas.List.{take_all}
 use Rattle.std.proofs.lemmas.List.Elements.{All-push, Contains-append_left, Contains-push}
-use Rattle.query_core.specs.declared.claims.Shape.{Shape}
-use Rattle.query_core.specs.declared.claims.Shape.TheVariants.{Up}
-use Rattle.query_core.specs.Claims.{IsPlaced}
+use Rattle.claim_core.specs.declared.claims.Shape.{Shape}
+use Rattle.claim_core.specs.declared.claims.Shape.TheVariants.{Up}
+use Rattle.claim_core.specs.Claims.{IsPlaced}
 use Rattle.sim_signature.specs.Signatures.{Signed}
 use Rattle.sim_signature.specs.Sightings.{Hunted}
 use Rattle.sim_signature.proofs.Adding.{Adds-then}

@@ -1,7 +1,7 @@
 -- The claims so far were hunted.
 use Rattle.std.proofs.Common.{take}
 use Rattle.std.specs.List.{All, Contains}
-use Rattle.query_core.specs.Claims.{IsPlaced}
+use Rattle.claim_core.specs.Claims.{IsPlaced}
 use Rattle.sim_signature.specs.Sightings.{AreLeft, Hunted}
 use Rattle.sim_signature.proofs.hunting.sight_all.Given as goal
 

@@ -1,6 +1,6 @@
 use Rattle.std.proofs.Common.{ℕ, ◌<◌, slice_index_or}
-use Rattle.query_core.specs.declared.query.Feed.{Feed}
-use Rattle.query_core.specs.Queries.{IsWired}
+use Rattle.claim_core.specs.declared.query.Feed.{Feed}
+use Rattle.claim_core.specs.Queries.{IsWired}
 use Rattle.solver_tests.proofs.answers.are_wired.Given as goal
 
 abbrev pub invariant-loop-input : goal.invariant-loop-input

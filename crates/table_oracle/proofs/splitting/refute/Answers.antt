@@ -1,7 +1,7 @@
 use Rattle.std.proofs.Common.{List, [], ap, refl, subst, sym, ◌∙◌}
 use Rattle.cnf_core.specs.declared.log.LogLine.{LogLine}
 use Rattle.cnf_core.specs.Derivations.{IsRefutation}
-use Rattle.query_core.specs.Formulas.{Asking, formula_of}
+use Rattle.claim_core.specs.Formulas.{Asking, formula_of}
 use Rattle.query_core.specs.Ledgers.{Ledgered, charging_of}
 use Rattle.query_core.specs.declared.ledger.Asked.{Asked}
 use Rattle.query_core.proofs.ChargingLemmas.{is_opened}

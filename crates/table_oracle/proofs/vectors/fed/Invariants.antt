@@ -1,5 +1,5 @@
 use Rattle.std.proofs.Common.{◌≡◌, map, take}
-use Rattle.query_core.specs.Queries.{feed_bit}
+use Rattle.claim_core.specs.Queries.{feed_bit}
 use Rattle.table_oracle.proofs.vectors.fed.Given as goal
 
 abbrev pub invariant-loop-input : goal.invariant-loop-input

@@ -3,7 +3,7 @@ use Rattle.std.proofs.lemmas.Bool.{false≢true}
 use Rattle.circuits.specs.Literals.{vector_of}
 use Rattle.circuits.proofs.Codes.{code_of, code_of-below, length-vector_of, vector_of-code_of}
 use Rattle.circuits.proofs.MatchLaws.{count-few}
-use Rattle.query_core.specs.Queries.{MeetsQuery, bits_in}
+use Rattle.claim_core.specs.Queries.{MeetsQuery, bits_in}
 use Rattle.table_oracle.proofs.vectors.meeting_vector.Goals as goal
 
 pub meets-requires-clause-bits : goal.meets-requires-clause-bits

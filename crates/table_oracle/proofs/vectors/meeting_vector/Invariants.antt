@@ -1,6 +1,6 @@
 use Rattle.std.proofs.Common.{ℕ, ◌<◌}
 use Rattle.circuits.specs.Literals.{vector_of}
-use Rattle.query_core.specs.Queries.{MeetsQuery, bits_in}
+use Rattle.claim_core.specs.Queries.{MeetsQuery, bits_in}
 use Rattle.table_oracle.proofs.vectors.meeting_vector.Given as goal
 
 abbrev pub invariant-loop-code : goal.invariant-loop-code

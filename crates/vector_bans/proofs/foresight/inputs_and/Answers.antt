@@ -1,5 +1,5 @@
 use Rattle.std.proofs.Common.{sym, subst}
-use Rattle.port_covers.specs.Held.{IsPart}
+use Rattle.port_sides.specs.Held.{IsPart}
 use Rattle.claim_rows.specs.Rows.{HasOneOutput}
 use Rattle.vector_bans.specs.Differences.{AreHeldInputs}
 use Rattle.vector_bans.proofs.ForesightLemmas.{inputs_none, output_one, output_part}

@@ -1,7 +1,7 @@
 -- A line of the open log: what its answer tells, and what is kept.
 use Rattle.std.proofs.Common.{◌≡◌, ◌+◌, Ok, Some, None, sym, ap, subst, rules}
 use Rattle.net_core.specs.Sides.{Graphs}
-use Rattle.query_core.specs.Formulas.{IsRefuted}
+use Rattle.claim_core.specs.Formulas.{IsRefuted}
 use Rattle.account_check.specs.declared.reject.RecordStop.TheVariants as stop
 use Rattle.account_check.specs.Logs.{refutation_of}
 use Rattle.account_check.specs.Proofs.{IsLog}

@@ -2,7 +2,7 @@
 use Rattle.std.proofs.Common.{◌≡◌, [], ◌∷◌, ◌++◌, Bool, true, Result, Ok, sym, ap, subst, ◌∙◌}
 use Rattle.std.specs.List.{list_any}
 use Rattle.cnf_core.specs.Derivations.{is_empty}
-use Rattle.query_core.specs.Formulas.{Asking, IsRefuted}
+use Rattle.claim_core.specs.Formulas.{Asking, IsRefuted}
 use Rattle.refute_check.specs.Refutations.{Refuting}
 use Rattle.account_check.specs.declared.reject.RecordStop.{RecordStop}
 use Rattle.account_check.specs.Proofs.{IsLogSoFar, LogSoFar}

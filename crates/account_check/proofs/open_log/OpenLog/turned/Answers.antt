@@ -1,8 +1,8 @@
 -- The query of the matching fits, and no line was taken.
 use Rattle.std.proofs.Common.{◌≡◌, [], None, subst, rules}
-use Rattle.query_core.specs.Formulas.{Asking}
-use Rattle.query_core.specs.MatchQueries.{match_query}
-use Rattle.query_core.proofs.MatchLemmas.{match_query_fits}
+use Rattle.claim_core.specs.Formulas.{Asking}
+use Rattle.claim_core.specs.MatchQueries.{match_query}
+use Rattle.claim_core.proofs.MatchLemmas.{match_query_fits}
 use Rattle.refute_check.specs.Refutations.{Refuting}
 use Rattle.account_check.specs.Proofs.{IsLogSoFar}
 use Rattle.account_check.proofs.LogLemmas.{log_begun}

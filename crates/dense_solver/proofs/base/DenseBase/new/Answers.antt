@@ -3,7 +3,7 @@ use Rattle.std.proofs.Common.{ℕ, List, All, length, map, ◌++◌, sym, ap, su
 use Rattle.cnf_core.specs.declared.clause.Clause3.{Clause3}
 use Rattle.cnf_core.specs.Clauses.{clause_at, literals_of}
 use Rattle.cnf_core.specs.Derivations.{clauses_of}
-use Rattle.query_core.specs.Formulas.{formula_of}
+use Rattle.claim_core.specs.Formulas.{formula_of}
 use Rattle.dense_solver.specs.Renamings.{AreNames, AreTurned, IsNamed, numbers_of}
 use Rattle.dense_solver.proofs.BaseLemmas.{renaming_made, whole_made}
 use Rattle.dense_solver.proofs.base.DenseBase.new.Goals as goal

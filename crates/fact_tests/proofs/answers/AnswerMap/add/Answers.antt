@@ -1,6 +1,6 @@
-use Rattle.query_core.specs.contracts.query.QueryPartialEq.TheImpl.{eq-value as query_eq}
+use Rattle.claim_core.specs.contracts.query.QueryPartialEq.TheImpl.{eq-value as query_eq}
 use Rattle.fact_tests.proofs.AnswerLemmas.{one_more}
-use Rattle.query_core.proofs.EqualLemmas.{query_decides}
+use Rattle.claim_core.proofs.EqualLemmas.{query_decides}
 use Rattle.fact_tests.proofs.answers.AnswerMap.add.Goals as goal
 
 pub returns : goal.returns

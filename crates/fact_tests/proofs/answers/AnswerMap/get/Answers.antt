@@ -1,6 +1,6 @@
-use Rattle.query_core.specs.contracts.query.QueryPartialEq.TheImpl.{eq-value as query_eq}
+use Rattle.claim_core.specs.contracts.query.QueryPartialEq.TheImpl.{eq-value as query_eq}
 use Rattle.fact_tests.proofs.AnswerLemmas.{got, missed}
-use Rattle.query_core.proofs.EqualLemmas.{query_decides}
+use Rattle.claim_core.proofs.EqualLemmas.{query_decides}
 use Rattle.fact_tests.proofs.answers.AnswerMap.get.Goals as goal
 
 pub returns : goal.returns

@@ -2,8 +2,8 @@ use Rattle.std.proofs.Common.{sym, subst, ap, ◌∙◌}
 use Rattle.net_core.specs.Sides.{Graphs}
 use Rattle.oracle_core.specs.Oracles.{Known, IsAnswered}
 use Rattle.oracle_core.specs.Work.{IsOfMatch}
-use Rattle.query_core.specs.declared.query.Query.{Query}
-use Rattle.query_core.specs.MatchQueries.{match_query}
+use Rattle.claim_core.specs.declared.query.Query.{Query}
+use Rattle.claim_core.specs.MatchQueries.{match_query}
 use Rattle.fact_tests.proofs.BookLemmas.{unanswered_match}
 use Rattle.fact_tests.proofs.book.Book.answer.Goals as goal
 

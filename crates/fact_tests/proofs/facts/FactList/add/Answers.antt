@@ -1,9 +1,9 @@
 use Rattle.std.proofs.Common.{List, [], ◌∷◌, ◌++◌, map, ap, ◌∙◌, sym}
-use Rattle.query_core.specs.declared.claims.Claim.{Claim}
-use Rattle.query_core.specs.contracts.claims.ClaimPartialEq.TheImpl.{eq-value as claim_eq}
+use Rattle.claim_core.specs.declared.claims.Claim.{Claim}
+use Rattle.claim_core.specs.contracts.claims.ClaimPartialEq.TheImpl.{eq-value as claim_eq}
 use Rattle.indexmap.specs.IndexSet.{insert_key}
 use Rattle.fact_tests.proofs.NumberLemmas.{added}
-use Rattle.query_core.proofs.EqualLemmas.{claim_decides}
+use Rattle.claim_core.proofs.EqualLemmas.{claim_decides}
 use Rattle.account_core.specs.declared.fact.Fact.{Fact}
 use Rattle.fact_tests.proofs.facts.FactList.add.Goals as goal
 

@@ -1,10 +1,10 @@
 use Rattle.std.proofs.Common.{ℕ, Option, map, ap, ◌∙◌, sym, subst, All, ◌≢◌, position}
 use Rattle.std.specs.List.{list_any}
 use Rattle.std.specs.Option.{is_some, IfNone}
-use Rattle.query_core.specs.contracts.claims.ClaimPartialEq.TheImpl.{eq-value as claim_eq}
+use Rattle.claim_core.specs.contracts.claims.ClaimPartialEq.TheImpl.{eq-value as claim_eq}
 use Rattle.account_core.specs.declared.fact.Fact.{Fact}
 use Rattle.fact_tests.proofs.NumberLemmas.{found, none}
-use Rattle.query_core.proofs.EqualLemmas.{claim_decides}
+use Rattle.claim_core.proofs.EqualLemmas.{claim_decides}
 use Rattle.fact_tests.proofs.facts.FactList.number_of.Goals as goal
 
 pub returns-in_err-number-clause-none : goal.returns-in_err-number-clause-none

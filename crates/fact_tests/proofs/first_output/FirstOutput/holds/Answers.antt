@@ -2,8 +2,8 @@
 use Rattle.std.proofs.Common.{get_or, ap, sym, subst, ◌∙◌}
 use Rattle.std.specs.Bool.{Decides}
 use Rattle.net_core.specs.declared.graphs.Side.TheVariants.{First}
-use Rattle.query_core.specs.declared.claims.Claim.{Claim}
-use Rattle.query_core.specs.Claims.{Holds}
+use Rattle.claim_core.specs.declared.claims.Claim.{Claim}
+use Rattle.claim_core.specs.Claims.{Holds}
 use Rattle.account_core.specs.Facts.{AreFacts}
 use Rattle.fact_tests.proofs.ClaimFacts.{told}
 use Rattle.fact_tests.proofs.first_output.FirstOutput.holds.Goals as goal

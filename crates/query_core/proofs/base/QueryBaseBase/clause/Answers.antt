@@ -1,9 +1,9 @@
 -- The variables that stand in a clause.
 use Rattle.std.proofs.Common.{◌<◌, All, sym, ap, subst, ◌∙◌}
 use Rattle.cnf_core.specs.Clauses.{clause_at, variable_of}
-use Rattle.query_core.specs.Queries.{IsQuery}
-use Rattle.query_core.specs.Formulas.{Asking, formula_of, query_clauses}
-use Rattle.query_core.proofs.FormulaLemmas.{clause_below}
+use Rattle.claim_core.specs.Queries.{IsQuery}
+use Rattle.claim_core.specs.Formulas.{Asking, formula_of, query_clauses}
+use Rattle.claim_core.proofs.FormulaLemmas.{clause_below}
 use Rattle.query_core.proofs.VariableLemmas.{clauses_are}
 use Rattle.query_core.proofs.base.QueryBaseBase.clause.Goals as goal
 

@@ -1,11 +1,11 @@
 -- The variables are right for the gates of the cones.
 use Rattle.std.proofs.Common.{◌<◌, All, Contains, sym, ap, subst, ◌∙◌}
 use Rattle.cnf_core.specs.Clauses.{clause_at, variable_of}
-use Rattle.query_core.specs.Queries.{IsQuery}
-use Rattle.query_core.specs.ConeClauses.{Coned}
-use Rattle.query_core.specs.Formulas.{formula_of, query_clauses}
-use Rattle.query_core.proofs.FormulaLemmas.{clause_below}
-use Rattle.query_core.proofs.LawLemmas.{ordered_side}
+use Rattle.claim_core.specs.Queries.{IsQuery}
+use Rattle.claim_core.specs.ConeClauses.{Coned}
+use Rattle.claim_core.specs.Formulas.{formula_of, query_clauses}
+use Rattle.claim_core.proofs.FormulaLemmas.{clause_below}
+use Rattle.claim_core.proofs.LawLemmas.{ordered_side}
 use Rattle.query_core.proofs.VariableLemmas.{cone_clause}
 use Rattle.query_core.proofs.cone_clauses.ConeClauses.clause.Goals as goal
 

@@ -1,7 +1,7 @@
 -- The variables and the numbers are those of the cones.
 use Rattle.std.proofs.Common.{◌≡◌, ℕ, List, All, sym, subst, slice_index_or}
 use Rattle.std.proofs.lemmas.List.Elements.{All-contains}
-use Rattle.query_core.specs.Formulas.{right_variables}
+use Rattle.claim_core.specs.Formulas.{right_variables}
 use Rattle.query_core.specs.Variables.{IsConing, variable_at}
 use Rattle.query_core.proofs.cone_clauses.ConeClauses.new.Goals as goal
 

@@ -1,6 +1,6 @@
 -- The block stands in the change's column.
 use Rattle.std.proofs.Common.{◌≡◌, ◌+◌, ◌-◌, subst, sym, arith}
-use Rattle.query_core.specs.Claims.{output_bit}
+use Rattle.claim_core.specs.Claims.{output_bit}
 use Rattle.sim_signature.specs.Changes.{IsChange, changed}
 use Rattle.sim_signature.specs.Blocks.{block_bit, pattern}
 use Rattle.sim_signature.specs.Signatures.{Covers, IsBlock, IsColumn, Signed}

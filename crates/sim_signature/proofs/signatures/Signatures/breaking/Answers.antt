@@ -1,6 +1,6 @@
 -- The falls among the changed vectors with the shape's values break the shape.
 use Rattle.std.proofs.Common.{◌≡◌, ◌↔◌, ◌∙◌, true, subst, sym}
-use Rattle.query_core.specs.Claims.{HasValues}
+use Rattle.claim_core.specs.Claims.{HasValues}
 use Rattle.sim_signature.specs.Changes.{changed}
 use Rattle.sim_signature.specs.Blocks.{block_bit, pattern}
 use Rattle.sim_signature.specs.Signatures.{Signed}

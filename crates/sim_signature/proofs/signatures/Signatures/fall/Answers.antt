@@ -2,7 +2,7 @@
 use Rattle.std.proofs.Common.{subst, ap, ◌∙◌}
 use Rattle.std.proofs.lemmas.Result.{IfOk-weaker}
 use Rattle.std.specs.Prelude.{IfSome, IfOk}
-use Rattle.query_core.specs.Claims.{BreaksShape}
+use Rattle.claim_core.specs.Claims.{BreaksShape}
 use Rattle.sim_signature.specs.Signatures.{IsOneOf, Signed}
 use Rattle.sim_signature.proofs.Signing.{one-breaks}
 use Rattle.sim_signature.proofs.signatures.Signatures.fall.Goals as goal

@@ -1,6 +1,6 @@
 -- The signals have their bits after the change.
 use Rattle.std.proofs.Common.{◌≡◌, subst}
-use Rattle.query_core.specs.Claims.{output_bit}
+use Rattle.claim_core.specs.Claims.{output_bit}
 use Rattle.sim_signature.specs.Changes.{changed}
 use Rattle.sim_signature.specs.Blocks.{block_bit, pattern}
 use Rattle.sim_signature.specs.Simulations.{Simulated}

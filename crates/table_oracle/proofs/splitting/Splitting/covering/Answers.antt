@@ -1,7 +1,7 @@
 use Rattle.std.proofs.Common.{ℕ, Option, sym, subst}
 use Rattle.std.specs.Option.{IfNone}
 use Rattle.cnf_core.specs.Derivations.{clauses_of}
-use Rattle.query_core.specs.Formulas.{query_clauses}
+use Rattle.claim_core.specs.Formulas.{query_clauses}
 use Rattle.table_oracle.specs.Splits.{IsNew, clauses_in}
 use Rattle.table_oracle.proofs.SplitLemmas.{covering_after, new_both}
 use Rattle.table_oracle.proofs.splitting.Splitting.covering.Goals as goal

@@ -2,7 +2,7 @@ use Rattle.std.proofs.Common.{◌≡◌, List, ℕ, None, ◌++◌}
 use Rattle.std.proofs.lemmas.Result.{IfOk-weaker}
 use Rattle.cnf_core.specs.declared.literal.SatLit.{SatLit}
 use Rattle.cnf_core.specs.Derivations.{clauses_of, hint_fault}
-use Rattle.query_core.specs.Formulas.{query_clauses}
+use Rattle.claim_core.specs.Formulas.{query_clauses}
 use Rattle.table_oracle.specs.Splits.{clauses_in}
 use Rattle.table_oracle.proofs.ExcludingLemmas.{start}
 use Rattle.table_oracle.proofs.splitting.Splitting.hints.Goals as goal

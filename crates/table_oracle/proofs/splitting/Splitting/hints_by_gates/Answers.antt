@@ -2,7 +2,7 @@ use Rattle.std.proofs.Common.{◌≡◌, ℕ, ◌<◌, Bool, List, ◌++◌, len
 use Rattle.cnf_core.specs.declared.literal.SatLit.{SatLit}
 use Rattle.cnf_core.specs.Clauses.{clause_at, opposite}
 use Rattle.cnf_core.specs.Derivations.{effect_of, hint_fault}
-use Rattle.query_core.specs.Formulas.{query_clauses}
+use Rattle.claim_core.specs.Formulas.{query_clauses}
 use Rattle.table_oracle.proofs.ExcludingLemmas.{start}
 use Rattle.table_oracle.proofs.HintLemmas.{IsUnderWay, begun_by, gates_conflict, gates_make, gates_pass, gates_start}
 use Rattle.table_oracle.proofs.WholeLemmas.{not_unmet}

@@ -1,4 +1,4 @@
-use Rattle.query_core.specs.Formulas.{query_clauses}
+use Rattle.claim_core.specs.Formulas.{query_clauses}
 use Rattle.table_oracle.proofs.HintLemmas.{IsUnderWay}
 use Rattle.table_oracle.proofs.splitting.Splitting.hints_by_gates.Given as goal
 

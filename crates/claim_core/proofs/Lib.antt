@@ -1,0 +1,12 @@
+pub mod AssignmentLemmas
+pub mod FeedLemmas
+pub mod FormulaLemmas
+pub mod LawLemmas
+pub mod MatchLemmas
+pub mod RefutedLemmas
+pub mod ClaimLaws
+pub mod ClaimQueryLemmas
+pub mod ConeLaws
+pub mod ImageLemmas
+pub mod ImageLaws
+pub mod EqualLemmas

@@ -1,0 +1,13 @@
+pub mod Feeds
+pub mod Queries
+pub mod Formulas
+pub mod MatchQueries
+pub mod Claims
+pub mod Facts
+pub mod Images
+pub mod ClaimQueries
+pub mod ConeClauses
+pub use Rattle.cnf_core.specs.Clauses
+pub use Rattle.cnf_core.specs.Derivations
+pub use Rattle.net_core.specs.Sides
+pub use Rattle.net_core.specs.Cones

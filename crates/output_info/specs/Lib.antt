@@ -1,0 +1,2 @@
+pub mod Rows
+pub use Rattle.claim_core.specs.Facts

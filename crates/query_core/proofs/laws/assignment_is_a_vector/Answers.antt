@@ -1,5 +1,0 @@
-use Rattle.query_core.proofs.ConeLaws.{vector_there}
-use Rattle.query_core.proofs.laws.assignment_is_a_vector.Goals as goal
-
-pub returns : goal.returns
-returns c = vector_there

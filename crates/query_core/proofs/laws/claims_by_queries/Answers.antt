@@ -1,5 +1,0 @@
-use Rattle.query_core.proofs.ClaimQueryLemmas.{holds-unmet, meets-breaks}
-use Rattle.query_core.proofs.laws.claims_by_queries.Goals as goal
-
-pub returns : goal.returns
-returns c = record { holds = holds-unmet; breaks = meets-breaks }

@@ -1,5 +1,0 @@
-use Rattle.query_core.proofs.ConeLaws.{cone_vector_there}
-use Rattle.query_core.proofs.laws.cone_assignment_is_a_vector.Goals as goal
-
-pub returns : goal.returns
-returns c = cone_vector_there

@@ -1,5 +1,0 @@
-use Rattle.query_core.proofs.ImageLaws.{image_holds, image_placed}
-use Rattle.query_core.proofs.laws.images_by_matches.Goals as goal
-
-pub returns : goal.returns
-returns c = record { holds = image_holds; placed = image_placed }
