@@ -10,5 +10,5 @@ elif [ "$(uname -sm)" = 'Linux x86_64' ] && "$top/release/check" >/dev/null 2>&1
   echo "$released"
 else
   "$top/release/prove" >&2
-  echo "$top/crates/npnp_cli/out/npnp_cli"
+  echo "$top/release/out/npnp_cli"
 fi
