@@ -2,7 +2,8 @@
 # Runs the gate (`rt ci`, or what is given after it) and prints, after its output, the processor minutes that each crate
 # took: its proof, its tests' proof, its must-fail edits. Then the longest chain of crates, by the proofs' minutes. The gate
 # prints no times, so this looks every two seconds which provers run. What the gate kept from an earlier run takes none:
-# `bench/gate_times.sh --anew` proves all. Not part of the gate.
+# `bench/gate_times.sh --anew` proves all, where the kit's `rt ci` keeps anything. `bench/gate_times.sh --prove` does the same of
+# `./npnp --prove`, which tries no edits and proves no tests. Not part of the gate.
 set -u
 cd "$(dirname "${BASH_SOURCE[0]}")/.." || exit 1
 exec python3 - "$@" <<'PYTHON'
@@ -35,7 +36,8 @@ def look():
         seen[pid, started] = (crate, what), (int(times[11]) + int(times[12])) / ticks
 
 
-gate = subprocess.Popen(["rt", "ci", *sys.argv[1:]], stdin=subprocess.DEVNULL)
+command = ["./npnp", "--prove"] if sys.argv[1:] == ["--prove"] else ["rt", "ci", *sys.argv[1:]]
+gate = subprocess.Popen(command, stdin=subprocess.DEVNULL)
 for it in (signal.SIGINT, signal.SIGTERM):
     signal.signal(it, lambda *_: gate.terminate())  # what was seen until then is printed
 begun = time.time()
