@@ -1,8 +1,8 @@
 //! Facts about the outputs of two circuits.
 
 use bit_list::Bits;
-use cnf_core::Log;
 use claim_core::Claim;
+use cnf_core::Log;
 
 /// Why a claim fails, or why it holds.
 #[derive(Clone, Debug, Drop, PartialEq, Eq)]

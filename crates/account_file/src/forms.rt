@@ -10,9 +10,9 @@ use crate::names::{NoneName, RecordName, ShapeName, StepName};
 use crate::record::Record;
 use crate::words::Words;
 use account_core::{Ban, Conclusion, FactHead, Step};
+use claim_core::{Claim, Shape};
 use cnf_core::LogLine;
 use items::Few;
-use claim_core::{Claim, Shape};
 use std::alloc::Global;
 
 /// The record that a line writes, without its line feed.

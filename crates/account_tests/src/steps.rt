@@ -6,9 +6,9 @@ use ban_check::{
     Given, are_known, are_names_known, are_ordered, has_shown, have_as_many, keeps_rule,
 };
 use circuits::{Pair, PortKind};
+use claim_core::{Claim, Shape};
 use items::Items;
 use net_core::{Graphs, Side};
-use claim_core::{Claim, Shape};
 use std::alloc::{AllocError, Global};
 use std::test::Fail;
 use word_sim::Tri;

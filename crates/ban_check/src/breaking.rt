@@ -5,9 +5,9 @@ ghost use Rattle.circuits.specs.Netlists.{signals_of};
 ghost use Rattle.claim_core.specs.Claims.{output_bit, with_opposites, Breaks, BreaksShape, HasValues, IsClaim, IsPlaced};
 
 use bit_list::Bits;
+use claim_core::{Claim, Shape};
 use items::Items;
 use net_core::{Graph, Graphs, lit_value};
-use claim_core::{Claim, Shape};
 use std::alloc::{AllocError, Global};
 
 /// Whether a vector breaks a claim: it has the values of the claim's shape, its output is 1 on it, and 0 where the

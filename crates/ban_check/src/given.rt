@@ -5,9 +5,9 @@ ghost use Rattle.account_core.specs.Given.{ban_at, fact_at, IsBanGiven, IsFactGi
 ghost use Rattle.ban_check.specs.More.{with_ban, with_fact};
 
 use circuits::Pair;
+use claim_core::{Claim, Shape};
 use items::{Few, Items};
 use net_core::Side;
-use claim_core::{Claim, Shape};
 use std::alloc::{AllocError, Global};
 use std::marker::Model;
 

@@ -5,8 +5,8 @@ ghost use Rattle.account_core.specs.Mismatches.{IsImage, IsMismatch};
 
 use crate::given::Given;
 use circuits::Pair;
-use net_core::Side;
 use claim_core::{Claim, image};
+use net_core::Side;
 
 /// Whether a fact fails and another one holds, of a claim of the first circuit and of its image under the pairs.
 pub(crate) fn is_mismatch(given: &Given, pairs: &[Pair], fails: u64, holds: u64) -> bool

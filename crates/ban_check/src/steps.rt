@@ -12,8 +12,8 @@ use crate::tallies::is_tally;
 use crate::vectors::shows_difference;
 use account_core::Step;
 use circuits::{Pair, PortKind};
-use net_core::Graphs;
 use claim_core::pair_of;
+use net_core::Graphs;
 use std::alloc::{AllocError, Global};
 
 /// Whether the output, the ports, the facts and the bans are there that a step names.

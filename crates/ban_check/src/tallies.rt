@@ -7,8 +7,8 @@ ghost use Rattle.ban_check.specs.Counted.{one_input, twin_input, ArePaired, AreT
 use crate::given::Given;
 use account_core::Tallied;
 use circuits::{Pair, PortKind};
-use net_core::{Graphs, Side};
 use claim_core::{Claim, Shape};
+use net_core::{Graphs, Side};
 
 /// Whether facts tell that one of two paired outputs has some inputs, and facts of the other one that it lacks others,
 /// which are together more than a circuit has.

@@ -7,9 +7,9 @@ ghost use Rattle.account_core.specs.Ports.{IsKnown};
 ghost use Rattle.account_core.specs.Vectors.{signed, value_at, value_sent, values_sent, ShowsDifference};
 
 use circuits::{Pair, PortKind};
+use claim_core::pair_of;
 use items::Items;
 use net_core::{Graph, Graphs};
-use claim_core::pair_of;
 use std::alloc::{AllocError, Global};
 use word_sim::{Tri, tri_eval};
 

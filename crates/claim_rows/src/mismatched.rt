@@ -9,9 +9,9 @@ use crate::ports::{moved_value, one_input};
 use crate::told::Told;
 use account_core::{Ban, Step};
 use circuits::Pair;
+use claim_core::Claim;
 use items::Few;
 use net_core::Side;
-use claim_core::Claim;
 use std::alloc::{AllocError, Global};
 
 /// A claim of the first circuit, and that of the second which pairs carry it to.

@@ -11,8 +11,8 @@ use crate::reading::read_inputs;
 use crate::sighting::Sighting;
 use crate::signatures::Signatures;
 use crate::vectors::FEW;
-use net_core::Graph;
 use claim_core::Shape;
+use net_core::Graph;
 use rand_pcg::Pcg32;
 use std::alloc::{AllocError, Global};
 
