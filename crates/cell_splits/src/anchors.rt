@@ -2,10 +2,9 @@
 //! one of the second, one guess decides them all.
 
 use crate::climbing::climbed;
-use crate::draws::Draws;
 use crate::lane_counts::LaneCounts;
 use crate::state::State;
-use flip_sim::{FlipSim, Lanes, bit_of};
+use flip_sim::{Draws, FlipSim, Lanes, bit_of};
 use items::Items;
 use net_core::Side;
 use port_cells::{literal_of, port_at};

@@ -1,10 +1,9 @@
 //! Counts under assignments of the inputs whose signs are known.
 
-use crate::draws::Draws;
 use crate::exact::is_shared;
 use crate::patterns::Patterns;
 use crate::state::State;
-use flip_sim::{FlipSim, Lanes, all_lanes};
+use flip_sim::{Draws, FlipSim, Lanes, all_lanes};
 use net_core::Side;
 use port_cells::{Cells, Counts, Tally, port_at};
 use std::alloc::{AllocError, Global};

@@ -1,8 +1,7 @@
 //! Vectors on which many inputs matter, found by mutation and selection.
 
-use crate::draws::Draws;
 use crate::lane_counts::LaneCounts;
-use flip_sim::{FlipSim, Lanes, bit_of, with_bit};
+use flip_sim::{Draws, FlipSim, Lanes, bit_of, with_bit};
 use items::Items;
 use port_cells::port_at;
 use std::alloc::{AllocError, Global};

@@ -4,7 +4,6 @@
 mod anchors;
 mod assignments;
 mod climbing;
-mod draws;
 mod exact;
 mod input_order;
 mod lane_counts;
@@ -17,7 +16,6 @@ mod state;
 pub use anchors::{Starts, anchored};
 pub use assignments::{Assignment, open_in};
 pub use climbing::{BEST, climbed};
-pub use draws::Draws;
 pub use exact::{Keys, add_hashes};
 pub use likeness::Likeness;
 pub use link::Link;

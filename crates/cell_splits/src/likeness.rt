@@ -2,12 +2,11 @@
 //! parity or of a sorter, each of them may go to any other one; but that the table is a match is shown with few clauses only
 //! where gates of both circuits have the same function by it.
 
-use crate::draws::Draws;
 use crate::exact::{is_shared, own_class};
 use crate::input_order::places_of;
 use crate::patterns::Patterns;
 use crate::state::State;
-use flip_sim::{FlipSim, Lanes};
+use flip_sim::{Draws, FlipSim, Lanes};
 use net_core::{Graph, Side};
 use port_cells::mix_lanes;
 use std::alloc::{AllocError, Global};

@@ -1,7 +1,6 @@
 //! Vectors that are constant on cells of inputs, so that it is known which vectors of the other circuit they correspond to.
 
-use crate::draws::Draws;
-use flip_sim::{FlipSim, Lanes, bit_of, replicated};
+use flip_sim::{Draws, FlipSim, Lanes, bit_of, replicated};
 use net_core::Side;
 use port_cells::Cells;
 use std::alloc::{AllocError, Global};

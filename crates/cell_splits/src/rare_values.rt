@@ -1,7 +1,6 @@
 //! Vectors on which gates have values that they hardly ever have, found by walks from the gates down to inputs.
 
-use crate::draws::Draws;
-use flip_sim::{FlipSim, Lanes, ones_in, replicated};
+use flip_sim::{Draws, FlipSim, Lanes, ones_in, replicated};
 use items::Items;
 use net_core::Lit;
 use port_cells::port_at;

@@ -1,8 +1,7 @@
 //! Claims of one input that vectors break.
 
 use account_core::Tallied;
-use cell_splits::Draws;
-use flip_sim::{FlipSim, Lanes, all_lanes, blocks_of_all};
+use flip_sim::{Draws, FlipSim, Lanes, all_lanes, blocks_of_all};
 use net_core::Graph;
 use port_cells::{Counts, Influence, Tally};
 use std::alloc::{AllocError, Global};

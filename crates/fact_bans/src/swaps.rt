@@ -1,8 +1,7 @@
 //! Claims of two inputs that vectors break.
 
 use crate::sampling::put_block;
-use cell_splits::Draws;
-use flip_sim::{FlipSim, Lanes, blocks_of_all, ones_in};
+use flip_sim::{Draws, FlipSim, Lanes, blocks_of_all, ones_in};
 use net_core::Graph;
 use query_core::Shape;
 use std::alloc::{AllocError, Global};

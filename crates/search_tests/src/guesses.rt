@@ -3,7 +3,7 @@
 ghost use Rattle.std.specs.Prelude.{◌≡◌, ◌<◌};
 
 use crate::sample_circuits::{AND, OR, Sample, XOR, drawn, drawn_moved, output_on, pair};
-use cell_splits::Draws;
+use flip_sim::Draws;
 use net_core::{Graphs, Matching};
 use port_sides::PairableGraphs;
 use std::alloc::{AllocError, Global};

@@ -1,7 +1,8 @@
 //! Which literal is tried next.
 
 use crate::choice_point::ChoicePoint;
-use cell_splits::{Draws, Likeness, State};
+use cell_splits::{Likeness, State};
+use flip_sim::Draws;
 use net_core::Side;
 use port_cells::{Cells, Counts};
 use std::alloc::{AllocError, Global};

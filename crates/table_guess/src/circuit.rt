@@ -1,7 +1,7 @@
 //! What is counted of both circuits at first.
 
-use cell_splits::{Draws, rare_blocks};
-use flip_sim::{FlipSim, Lanes, all_lanes, blocks_of_all};
+use cell_splits::rare_blocks;
+use flip_sim::{Draws, FlipSim, Lanes, all_lanes, blocks_of_all};
 use items::Items;
 use net_core::Graph;
 use port_cells::{Counts, Influence, Tally, port_at};

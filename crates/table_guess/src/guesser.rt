@@ -13,10 +13,9 @@ use crate::patience::Patience;
 use crate::signs::{has_known_sign, has_one_open_cell, with_plain_signs};
 use bit_list::Bits;
 use cell_splits::{
-    Assignment, BEST, Draws, Keys, Likeness, Link, Patterns, Starts, State, anchored, climbed,
-    open_in,
+    Assignment, BEST, Keys, Likeness, Link, Patterns, Starts, State, anchored, climbed, open_in,
 };
-use flip_sim::{FlipSim, Lanes};
+use flip_sim::{Draws, FlipSim, Lanes};
 use items::Items;
 use net_core::{Graph, Matching, Side};
 use port_cells::{Cells, Slack};

@@ -2,8 +2,8 @@
 
 use crate::circuit::Circuit;
 use crate::kept::Kept;
-use cell_splits::{Draws, Patterns, State, add_hashes};
-use flip_sim::{Lanes, all_lanes, blocks_of_all};
+use cell_splits::{Patterns, State, add_hashes};
+use flip_sim::{Draws, Lanes, all_lanes, blocks_of_all};
 use net_core::Side;
 use std::alloc::{AllocError, Global};
 

@@ -1,6 +1,6 @@
 //! What is drawn.
 
-use flip_sim::Lanes;
+use crate::lanes::Lanes;
 use rand_core::Rng;
 use rand_pcg::Pcg32;
 
