@@ -8,8 +8,8 @@ use Rattle.account_core.specs.Given.{Given}
 use Rattle.account_file.specs.declared.place.Place.TheVariants as place
 use Rattle.account_file.specs.declared.record.Record.TheVariants as entry
 use Rattle.account_file.specs.Order.{logs_asked, next_place}
-use Rattle.account_check.specs.declared.checker.Stage.{Stage}
-use Rattle.account_check.specs.declared.checker.Stage.TheVariants as stage
+use Rattle.account_check.specs.declared.checker.CheckStage.{CheckStage}
+use Rattle.account_check.specs.declared.checker.CheckStage.TheVariants as stage
 use Rattle.account_check.specs.Logs.{log_count, unproved}
 use Rattle.account_check.specs.Accounts.{Account, after}
 use Rattle.account_check.specs.Conclusions.{matching_of, AreInOrder}
@@ -18,7 +18,7 @@ use Rattle.account_check.specs.Stages.{concluded_of, fact_of, place_of, proof_of
 use Rattle.account_check.proofs.PairLemmas.{outputs_counted}
 
 -- the account that a checker keeps
-abbrev pub kept : Graphs → Given → Stage → Account
+abbrev pub kept : Graphs → Given → CheckStage → Account
 kept graphs given stage = record {
   graphs = graphs;
   place = place_of stage;
@@ -29,7 +29,7 @@ kept graphs given stage = record {
 }
 
 -- a match, whose logs follow
-pub match_after : (graphs : Graphs) (given : Given) (now : Stage) (logs : MatchLogs) (matching : Matching) (pairs : List Pair) → IsSome (next_place (place_of now) (entry.Conclusion (conclusion.Match pairs))) → logs ≡ record { graphs = graphs; proof = unproved matching } → matching ≡ matching_of graphs.first.inputs pairs → AreInOrder graphs.first pairs → kept graphs given (stage.Proving logs) ≡ after (kept graphs given now) (entry.Conclusion (conclusion.Match pairs))
+pub match_after : (graphs : Graphs) (given : Given) (now : CheckStage) (logs : MatchLogs) (matching : Matching) (pairs : List Pair) → IsSome (next_place (place_of now) (entry.Conclusion (conclusion.Match pairs))) → logs ≡ record { graphs = graphs; proof = unproved matching } → matching ≡ matching_of graphs.first.inputs pairs → AreInOrder graphs.first pairs → kept graphs given (stage.Proving logs) ≡ after (kept graphs given now) (entry.Conclusion (conclusion.Match pairs))
 match_after graphs given stage.Begun logs matching pairs may made is order =
     let m = matching_of graphs.first.inputs pairs in
     let count : log_count m - 0 ≡ logs_asked (conclusion.Match pairs) = omega (arith, outputs_counted graphs.first pairs order) in

@@ -35,7 +35,7 @@ use std::mem;
 
 /// How far an account has come.
 #[derive(Drop)]
-pub(crate) enum Stage<'a> {
+pub(crate) enum CheckStage<'a> {
     /// No record was taken.
     Empty,
     /// Facts and bans are taken.
@@ -57,7 +57,7 @@ pub(crate) enum Stage<'a> {
 pub struct Checker<'a> {
     graphs: &'a Graphs<'a>,
     given: Given,
-    stage: Stage<'a>,
+    stage: CheckStage<'a>,
 }
 
 impl<'a> Model for Checker<'a> {
@@ -97,7 +97,7 @@ impl<'a> Checker<'a> {
         Ok(Checker {
             graphs,
             given: Given::new(alloc),
-            stage: Stage::Empty,
+            stage: CheckStage::Empty,
         })
     }
 
@@ -122,8 +122,8 @@ impl<'a> Checker<'a> {
             → IsMatchOfFunctions self.now.graphs.first self.now.graphs.second matching.inputs matching.outputs }
     {
         match &self.stage {
-            Stage::Proved(logs) => Ok(Some(Verdict::Match(copy(alloc, logs.matching())?))),
-            Stage::Refused => Ok(Some(Verdict::None)),
+            CheckStage::Proved(logs) => Ok(Some(Verdict::Match(copy(alloc, logs.matching())?))),
+            CheckStage::Refused => Ok(Some(Verdict::None)),
             _ => Ok(None),
         }
     }
@@ -135,7 +135,7 @@ impl<'a> Checker<'a> {
     {
         match entry {
             Record::Header => {
-                go_to(&mut self.stage, Stage::Begun);
+                go_to(&mut self.stage, CheckStage::Begun);
                 Ok(())
             }
             Record::Fact(head) => self.fact(alloc, head),
@@ -181,7 +181,7 @@ impl<'a> Checker<'a> {
             return Err(RecordStop::Reject(reject));
         }
         let log = FactLog::new(alloc, self.graphs, claim)?;
-        go_to(&mut self.stage, Stage::Showing(log));
+        go_to(&mut self.stage, CheckStage::Showing(log));
         Ok(())
     }
 
@@ -190,7 +190,7 @@ impl<'a> Checker<'a> {
         requires { IsSome (next_place self.old.place (entry.Line line.now)) }
         ensures { Takes self.old (entry.Line line.now) self.new result }
     {
-        if let Stage::Showing(_) = &self.stage {
+        if let CheckStage::Showing(_) = &self.stage {
             return self.fact_line(line);
         }
         self.match_line(alloc, line)
@@ -201,7 +201,7 @@ impl<'a> Checker<'a> {
         requires { self.old.place ≡ place.FactLog }
         ensures { Takes self.old (entry.Line line.now) self.new result }
     {
-        let Stage::Showing(log) = &mut self.stage else {
+        let CheckStage::Showing(log) = &mut self.stage else {
             unreachable!()
         };
         if !line.clause.is_empty() {
@@ -212,7 +212,7 @@ impl<'a> Checker<'a> {
             self.given.forget_fact();
             return Err(stop);
         }
-        go_to(&mut self.stage, Stage::Begun);
+        go_to(&mut self.stage, CheckStage::Begun);
         Ok(())
     }
 
@@ -222,7 +222,7 @@ impl<'a> Checker<'a> {
         requires other { self.old.place ≢ place.FactLog }
         ensures { Takes self.old (entry.Line line.now) self.new result }
     {
-        let Stage::Proving(logs) = &mut self.stage else {
+        let CheckStage::Proving(logs) = &mut self.stage else {
             unreachable!()
         };
         logs.line(alloc, line)
@@ -260,7 +260,7 @@ impl<'a> Checker<'a> {
         if let Some(reject) = test_ports(self.graphs) {
             return Err(RecordStop::Reject(reject));
         }
-        go_to(&mut self.stage, Stage::Refusing);
+        go_to(&mut self.stage, CheckStage::Refusing);
         Ok(())
     }
 
@@ -272,7 +272,7 @@ impl<'a> Checker<'a> {
         if let Some(reject) = test_empty_ban(self.graphs, &self.given, ban) {
             return Err(RecordStop::Reject(reject));
         }
-        go_to(&mut self.stage, Stage::Refusing);
+        go_to(&mut self.stage, CheckStage::Refusing);
         Ok(())
     }
 
@@ -283,7 +283,7 @@ impl<'a> Checker<'a> {
     {
         let matching = matching(alloc, self.graphs, pairs)?;
         let logs = Logs::new(alloc, self.graphs, matching)?;
-        go_to(&mut self.stage, Stage::Proving(logs));
+        go_to(&mut self.stage, CheckStage::Proving(logs));
         Ok(())
     }
 
@@ -292,16 +292,16 @@ impl<'a> Checker<'a> {
         requires { IsSome (next_place self.old.place entry.End) }
         ensures { self.new ≡ after self.old entry.End }
     {
-        match mem::replace(&mut self.stage, Stage::Empty) {
-            Stage::Proving(logs) => go_to(&mut self.stage, Stage::Proved(logs)),
-            Stage::Refusing => go_to(&mut self.stage, Stage::Refused),
+        match mem::replace(&mut self.stage, CheckStage::Empty) {
+            CheckStage::Proving(logs) => go_to(&mut self.stage, CheckStage::Proved(logs)),
+            CheckStage::Refusing => go_to(&mut self.stage, CheckStage::Refused),
             _ => unreachable!(),
         }
     }
 }
 
 // Puts an account at another stage.
-fn go_to<'a>(stage: &mut Stage<'a>, next: Stage<'a>)
+fn go_to<'a>(stage: &mut CheckStage<'a>, next: CheckStage<'a>)
     ensures { stage.new ≡ next.entry }
 {
     *stage = next;

@@ -20,7 +20,8 @@ pub use account_core::Conclusion;
 pub use account_file::Record;
 pub use checker::Checker;
 pub use laws::{
-    accepted_refusal_is_right, every_prefix_is_right, one_fault_of_a_record, one_verdict,
+    accepted_match_is_right, accepted_refusal_is_right, every_prefix_is_right,
+    one_fault_of_a_record, one_verdict,
 };
 pub use pieces::AccountCheck;
 pub use reject::{RecordStop, Reject};

@@ -136,12 +136,12 @@ stop_alike (first ∷ front) one other after more digits others = refl
 -- readers that do the same of words that stop a list, or of those that don't
 alike : {front : Words → Words} (p q : Rest) (words : Words) → ((l : Words) → stops l ≡ stops words → p l ≡ q l) → ((word : List ℕ) (after : Words) → p (words ++ word ∷ after) ≡ q (words ++ word ∷ after))
     → IsReadAt front q words → IsReadAt front p words
-alike {front} p q words same behind r = record {
+alike {front} p q words same same_after r = record {
   faults = λ fault e. r.faults fault (sym (same words refl) ∙ e);
   stuck = λ e.
       let s = r.stuck (sym (same words refl) ∙ e) in
       stuck_as s s.front s.words_are (λ word after digits. same (s.front ++ word ∷ after) (stop_alike s.front word s.word after s.more digits s.digits ∙ ap stops (sym s.words_are)));
-  zero = λ more word entry e digits. decides_as (behind word) (r.zero more word entry (sym (behind (codes "0") more) ∙ e) digits);
+  zero = λ more word entry e digits. decides_as (same_after word) (r.zero more word entry (sym (same_after (codes "0") more) ∙ e) digits);
   written = λ entry e. r.written entry (sym (same words refl) ∙ e);
 }
 
@@ -171,8 +171,8 @@ module _ {X : Type 0} {spell : X → List ℕ} {IsFit : X → Type 0} (read : Li
   word_read : (k : X → Rest) → ((x : X) → IsFit x → CanRead (k x)) → (word : List ℕ) → Wrote read word → CanRead (λ after. WordThen k (word ∷ after))
   word_read k c word x = read_as (at_word k word (Ok x.value) x.is) (c x.value (w.written word x.value x.is).1)
 
-  written_behind : (front : Words → Words) (word : List ℕ) (words : Words) (x : X) (entry : Record) → read word ≡ Ok x → Writes (λ l. front (spell x ∷ l)) words entry → Writes front (word ∷ words) entry
-  written_behind front word words x entry is rest =
+  written_after : (front : Words → Words) (word : List ℕ) (words : Words) (x : X) (entry : Record) → read word ≡ Ok x → Writes (λ l. front (spell x ∷ l)) words entry → Writes front (word ∷ words) entry
+  written_after front word words x entry is rest =
       let this = w.written word x is in
       record {
         same = ap (λ v. front (v ∷ words)) this.0 ∙ rest.same;
@@ -209,7 +209,7 @@ module _ {X : Type 0} {spell : X → List ℕ} {IsFit : X → Type 0} (read : Li
             faults = λ fault e. rest.faults fault (sym (here words) ∙ e);
             stuck = λ e. let s = rest.stuck (sym (here words) ∙ e) in stuck_as s (word ∷ s.front) (ap (λ l. word ∷ l) s.words_are) (λ other after digits. here (s.front ++ other ∷ after));
             zero = λ more other entry e digits. decides_as (λ after. here (words ++ other ∷ after)) (rest.zero more other entry (sym (here (words ++ codes "0" ∷ more)) ∙ e) digits);
-            written = λ entry e. written_behind front word words x entry is (rest.written entry (sym (here words) ∙ e));
+            written = λ entry e. written_after front word words x entry is (rest.written entry (sym (here words) ∙ e));
           }
       by (Err f) is =
           let here = at_word k word (Err f) is in
@@ -257,8 +257,8 @@ module _ {X : Type 0} {spell : X → List ℕ} {IsFit : X → Type 0} (read : Li
       by (Ok x) = pushed x (list_by read words) k
       by (Err f) = refl
 
-  behind : (front : Words → Words) (k : List X → Rest) → ListRest spell IsFit front k → (x : X) → IsFit x → ListRest spell IsFit (λ l. front (spell x ∷ l)) (λ xs. k (x ∷ xs))
-  behind front k r x fit = record { reads = λ xs fits. r.reads (x ∷ xs) (All-cons IsFit x xs fit fits); ends = λ xs fits. r.ends (x ∷ xs) (All-cons IsFit x xs fit fits) }
+  after_item : (front : Words → Words) (k : List X → Rest) → ListRest spell IsFit front k → (x : X) → IsFit x → ListRest spell IsFit (λ l. front (spell x ∷ l)) (λ xs. k (x ∷ xs))
+  after_item front k r x fit = record { reads = λ xs fits. r.reads (x ∷ xs) (All-cons IsFit x xs fit fits); ends = λ xs fits. r.ends (x ∷ xs) (All-cons IsFit x xs fit fits) }
 
   some_list : (front : Words → Words) (k : List X → Rest) → ListRest spell IsFit front k → CanRead (ListThen k)
   some_list front k r = let end = r.ends [] (All-nil IsFit) in record { words = end.words; entry = end.entry; read = at_stop k end.words end.ends ∙ end.read }
@@ -266,7 +266,7 @@ module _ {X : Type 0} {spell : X → List ℕ} {IsFit : X → Type 0} (read : Li
   list_each : (front : Words → Words) (k : List X → Rest) → ListRest spell IsFit front k → (words : Words) → IsReadAt front (ListThen k) words
   list_each front k r [] =
       let end = (r.reads [] (All-nil IsFit)).each [] in
-      let item : IsReadAt front (WordThen (ItemThen k)) [] = no_word (ItemThen k) (λ x fit. some_list (λ l. front (spell x ∷ l)) (λ xs. k (x ∷ xs)) (behind front k r x fit)) in
+      let item : IsReadAt front (WordThen (ItemThen k)) [] = no_word (ItemThen k) (λ x fit. some_list (λ l. front (spell x ∷ l)) (λ xs. k (x ∷ xs)) (after_item front k r x fit)) in
       record {
         faults = end.faults;
         stuck = λ e. let s = end.stuck e in absurd (no_front s.front s.word s.more s.words_are);
@@ -274,13 +274,13 @@ module _ {X : Type 0} {spell : X → List ℕ} {IsFit : X → Type 0} (read : Li
         written = end.written;
       }
   list_each front k r (word ∷ words) =
-      by (is_separator word) refl (λ x is. list_each (λ l. front (spell x ∷ l)) (λ xs. k (x ∷ xs)) (behind front k r x (w.written word x is).1) words)
+      by (is_separator word) refl (λ x is. list_each (λ l. front (spell x ∷ l)) (λ xs. k (x ∷ xs)) (after_item front k r x (w.written word x is).1) words)
     where
       by : (s : Bool) → is_separator word ≡ s → ((x : X) → read word ≡ Ok x → IsReadAt (λ l. front (spell x ∷ l)) (ItemThen k x) words) → IsReadAt front (ListThen k) (word ∷ words)
       by true is rest = alike (ListThen k) (k []) (word ∷ words) (λ l e. at_stop k l (e ∙ is)) (λ other after. at_stop k (word ∷ words ++ other ∷ after) is) ((r.reads [] (All-nil IsFit)).each (word ∷ words))
       by false is rest =
           alike (ListThen k) (WordThen (ItemThen k)) (word ∷ words) (λ l e. at_item k l (e ∙ is)) (λ other after. at_item k (word ∷ words ++ other ∷ after) is)
-          (some_word (ItemThen k) (λ x fit. some_list (λ l. front (spell x ∷ l)) (λ xs. k (x ∷ xs)) (behind front k r x fit)) word words rest)
+          (some_word (ItemThen k) (λ x fit. some_list (λ l. front (spell x ∷ l)) (λ xs. k (x ∷ xs)) (after_item front k r x fit)) word words rest)
 
   pub list_read : {front : Words → Words} (k : List X → Rest) → ListRest spell IsFit front k → IsRead front (λ words. followed (list_by read words) k)
   list_read {front} k r = record { some = some_list front k r; each = list_each front k r }

@@ -8,7 +8,7 @@ ghost use Rattle.account_file.specs.Words.{words_of};
 use crate::fault::{FileStop, RecordFault};
 use crate::names::{NoneName, RecordName, ShapeName, StepName};
 use crate::record::Record;
-use crate::words::Words;
+use crate::words::LineWords;
 use account_core::{Ban, Conclusion, FactHead, Step};
 use claim_core::{Claim, Shape};
 use cnf_core::LogLine;
@@ -19,7 +19,7 @@ use std::alloc::Global;
 pub(crate) fn read_line(alloc: Global, line: &[u8]) -> Result<Record, FileStop>
     ensures { Answers (λ entry. entry) result (record_in (words_of line.now)) }
 {
-    let mut words = Words::new(line);
+    let mut words = LineWords::new(line);
     let entry = record(alloc, &mut words)?;
     match words.word() {
         None => Ok(entry),
@@ -28,7 +28,7 @@ pub(crate) fn read_line(alloc: Global, line: &[u8]) -> Result<Record, FileStop>
 }
 
 // The record that the words write.
-fn record(alloc: Global, words: &mut Words<'_>) -> Result<Record, FileStop>
+fn record(alloc: Global, words: &mut LineWords<'_>) -> Result<Record, FileStop>
     ensures { GivesOrStops result words.new (record_in_front words.old) }
 {
     match words.next::<RecordName>()? {
@@ -43,14 +43,14 @@ fn record(alloc: Global, words: &mut Words<'_>) -> Result<Record, FileStop>
     }
 }
 
-fn header(words: &mut Words<'_>) -> Result<Record, FileStop>
+fn header(words: &mut LineWords<'_>) -> Result<Record, FileStop>
     ensures { GivesOrStops result words.new (record_by RecordName.Header words.old) }
 {
     words.name(b"1")?;
     Ok(Record::Header)
 }
 
-fn fails(alloc: Global, words: &mut Words<'_>) -> Result<Record, FileStop>
+fn fails(alloc: Global, words: &mut LineWords<'_>) -> Result<Record, FileStop>
     ensures { GivesOrStops result words.new (record_by RecordName.Fails words.old) }
 {
     let claim = claim(words)?;
@@ -58,14 +58,14 @@ fn fails(alloc: Global, words: &mut Words<'_>) -> Result<Record, FileStop>
     Ok(Record::Fact(FactHead::Fails { claim, bits }))
 }
 
-fn holds(words: &mut Words<'_>) -> Result<Record, FileStop>
+fn holds(words: &mut LineWords<'_>) -> Result<Record, FileStop>
     ensures { GivesOrStops result words.new (record_by RecordName.Holds words.old) }
 {
     let claim = claim(words)?;
     Ok(Record::Fact(FactHead::Holds { claim }))
 }
 
-fn claim(words: &mut Words<'_>) -> Result<Claim, RecordFault>
+fn claim(words: &mut LineWords<'_>) -> Result<Claim, RecordFault>
     ensures { Gives result words.new (claim_of words.old) }
 {
     Ok(Claim {
@@ -75,7 +75,7 @@ fn claim(words: &mut Words<'_>) -> Result<Claim, RecordFault>
     })
 }
 
-fn shape(words: &mut Words<'_>) -> Result<Shape, RecordFault>
+fn shape(words: &mut LineWords<'_>) -> Result<Shape, RecordFault>
     ensures { Gives result words.new (shape_of words.old) }
 {
     match words.next::<ShapeName>()? {
@@ -91,7 +91,7 @@ fn shape(words: &mut Words<'_>) -> Result<Shape, RecordFault>
 }
 
 // A line of a log.
-fn line(alloc: Global, words: &mut Words<'_>) -> Result<Record, FileStop>
+fn line(alloc: Global, words: &mut LineWords<'_>) -> Result<Record, FileStop>
     ensures { GivesOrStops result words.new (record_by RecordName.Line words.old) }
 {
     let clause = words.list(alloc)?;
@@ -100,7 +100,7 @@ fn line(alloc: Global, words: &mut Words<'_>) -> Result<Record, FileStop>
     Ok(Record::Line(LogLine { clause, hints }))
 }
 
-fn ban(alloc: Global, words: &mut Words<'_>) -> Result<Record, FileStop>
+fn ban(alloc: Global, words: &mut LineWords<'_>) -> Result<Record, FileStop>
     ensures { GivesOrStops result words.new (record_by RecordName.Ban words.old) }
 {
     let pairs = words.list(alloc)?;
@@ -114,7 +114,7 @@ fn ban(alloc: Global, words: &mut Words<'_>) -> Result<Record, FileStop>
 }
 
 // A step of this name.
-fn step(alloc: Global, name: StepName, words: &mut Words<'_>) -> Result<Step, FileStop>
+fn step(alloc: Global, name: StepName, words: &mut LineWords<'_>) -> Result<Step, FileStop>
     ensures { GivesOrStops result words.new (step_by name words.old) }
 {
     match name {
@@ -131,7 +131,7 @@ fn step(alloc: Global, name: StepName, words: &mut Words<'_>) -> Result<Step, Fi
     }
 }
 
-fn tally(alloc: Global, words: &mut Words<'_>) -> Result<Step, FileStop>
+fn tally(alloc: Global, words: &mut LineWords<'_>) -> Result<Step, FileStop>
     ensures { GivesOrStops result words.new (step_by StepName.Tally words.old) }
 {
     let kind = words.next()?;
@@ -141,7 +141,7 @@ fn tally(alloc: Global, words: &mut Words<'_>) -> Result<Step, FileStop>
     Ok(Step::Tally { kind, have, lack })
 }
 
-fn cover(alloc: Global, words: &mut Words<'_>) -> Result<Step, FileStop>
+fn cover(alloc: Global, words: &mut LineWords<'_>) -> Result<Step, FileStop>
     ensures { GivesOrStops result words.new (step_by StepName.Cover words.old) }
 {
     let kind = words.next()?;
@@ -159,7 +159,7 @@ fn cover(alloc: Global, words: &mut Words<'_>) -> Result<Step, FileStop>
 }
 
 // The conclusion that there is no match.
-fn none(words: &mut Words<'_>) -> Result<Record, FileStop>
+fn none(words: &mut LineWords<'_>) -> Result<Record, FileStop>
     ensures { GivesOrStops result words.new (record_by RecordName.None words.old) }
 {
     match words.next::<NoneName>()? {
@@ -168,7 +168,7 @@ fn none(words: &mut Words<'_>) -> Result<Record, FileStop>
     }
 }
 
-fn match_(alloc: Global, words: &mut Words<'_>) -> Result<Record, FileStop>
+fn match_(alloc: Global, words: &mut LineWords<'_>) -> Result<Record, FileStop>
     ensures { GivesOrStops result words.new (record_by RecordName.Match words.old) }
 {
     Ok(Record::Conclusion(Conclusion::Match(words.list(alloc)?)))

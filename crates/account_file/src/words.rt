@@ -17,11 +17,11 @@ use word_sim::Tri;
 
 /// The words of a line that are left: what stands between single blanks.
 #[derive(Drop)]
-pub(crate) struct Words<'a> {
+pub(crate) struct LineWords<'a> {
     rest: Option<&'a [u8]>,
 }
 
-impl<'a> Model for Words<'a> {
+impl<'a> Model for LineWords<'a> {
     ghost use Rattle.std.specs.Prelude.{ℕ, List};
     ghost use Rattle.account_file.specs.Words.{words_left};
 
@@ -39,12 +39,12 @@ pub(crate) trait Word: Sized {
         ensures { result ≡ read word.now };
 }
 
-impl<'a> Words<'a> {
+impl<'a> LineWords<'a> {
     /// All words of a line.
-    pub(crate) fn new(line: &'a [u8]) -> Words<'a>
+    pub(crate) fn new(line: &'a [u8]) -> LineWords<'a>
         ensures { result ≡ words_of line.now }
     {
-        Words { rest: Some(line) }
+        LineWords { rest: Some(line) }
     }
 
     /// Takes the next word.
@@ -90,7 +90,7 @@ impl<'a> Words<'a> {
     fn item<T: Word>(&mut self) -> Result<Option<T>, RecordFault>
         ensures { GivesItem T.read result self.old self.new }
     {
-        let mut ahead = Words { rest: self.rest };
+        let mut ahead = LineWords { rest: self.rest };
         let Some(word) = ahead.word() else {
             return Ok(None);
         };

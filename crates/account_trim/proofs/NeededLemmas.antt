@@ -6,12 +6,12 @@ use Rattle.std.proofs.lemmas.List.Elements.{All-contains}
 use Rattle.circuits.specs.Literals.{bit}
 use Rattle.account_core.specs.declared.step.Ban.{Ban}
 use Rattle.account_core.specs.declared.step.Step.{Step}
-use Rattle.account_trim.specs.declared.marking.Marks.{Marks}
+use Rattle.account_trim.specs.declared.marking.CoreMarks.{CoreMarks}
 use Rattle.account_trim.specs.Marks.{MarksNamed}
 use Rattle.account_trim.specs.Names.{AreAmong, HasMarked, IsClosed, IsNeeded, ReferBack, bans_named, facts_named}
 
 -- The bans from a place on have had their turn.
-pub record IsMarking (all : List Ban) (count number left : ℕ) (marks : Marks) : Type 0 where
+pub record IsMarking (all : List Ban) (count number left : ℕ) (marks : CoreMarks) : Type 0 where
   pub as_many_facts : length marks.facts.items ≡ count
   pub as_many_bans : length marks.bans.items ≡ length all
   pub concluded : bit marks.bans.items number ≡ true
@@ -26,7 +26,7 @@ grown facts more_facts bans more_bans step of_facts of_bans has = record {
 }
 
 -- the ban before had its turn
-pub marking_more : (all : List Ban) (count number left : ℕ) (e : Ban) (old new : Marks)
+pub marking_more : (all : List Ban) (count number left : ℕ) (e : Ban) (old new : CoreMarks)
     → ReferBack count all
     → left < length all
     → IsMarking all count number (left + 1) old
@@ -69,7 +69,7 @@ marking_more all count number left e old new refer below was adds = record {
     ]
 
 -- all had their turn
-pub marking_all : (all : List Ban) (count number left : ℕ) (marks : Marks) → left ≡ 0 → IsMarking all count number left marks → IsNeeded all number marks.facts.items marks.bans.items
+pub marking_all : (all : List Ban) (count number left : ℕ) (marks : CoreMarks) → left ≡ 0 → IsMarking all count number left marks → IsNeeded all number marks.facts.items marks.bans.items
 marking_all all count number left marks none was = record {
   closed = record { concluded = was.concluded; named = λ k d below is. was.named k d (omega (arith, none)) below is };
   least_facts = was.least_facts;

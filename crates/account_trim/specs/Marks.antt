@@ -3,10 +3,10 @@ use Rattle.std.specs.Prelude.{◌≡◌, ◌⊎◌, ℕ, Bool, true, List, lengt
 use Rattle.circuits.specs.Literals.{bit}
 use Rattle.account_core.specs.declared.step.Step.{Step}
 use Rattle.account_trim.specs.Names.{AreAmong, AreMarked, HasMarked, bans_named, facts_named}
-use Rattle.account_trim.specs.declared.marking.Marks.{Marks}
+use Rattle.account_trim.specs.declared.marking.CoreMarks.{CoreMarks}
 
 -- a mark for each of n facts, and for each of n bans
-abbrev pub AreMarks : ℕ → ℕ → Marks → Type 0
+abbrev pub AreMarks : ℕ → ℕ → CoreMarks → Type 0
 AreMarks facts bans marks = (length marks.facts.items ≡ facts) × (length marks.bans.items ≡ bans)
 
 -- These numbers were marked beside what was marked, and nothing else.
@@ -17,7 +17,7 @@ pub record Adds (numbers : List ℕ) (old new : List Bool) : Type 0 where
   pub only : (k : ℕ) → bit new k ≡ true → (bit old k ≡ true) ⊎ Contains numbers k
 
 -- What a step names was marked if its ban, at a place, was marked; and nothing else.
-pub record MarksNamed (place : ℕ) (step : Step) (old new : Marks) : Type 0 where
+pub record MarksNamed (place : ℕ) (step : Step) (old new : CoreMarks) : Type 0 where
   pub as_many_facts : length new.facts.items ≡ length old.facts.items
   pub as_many_bans : length new.bans.items ≡ length old.bans.items
   pub marked : bit old.bans.items place ≡ true → HasMarked new.facts.items new.bans.items step

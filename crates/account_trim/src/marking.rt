@@ -10,7 +10,7 @@ use std::alloc::{AllocError, Global};
 
 /// Which facts and which bans are marked.
 #[derive(Drop)]
-pub(crate) struct Marks {
+pub(crate) struct CoreMarks {
     pub(crate) facts: Vec<bool>,
     pub(crate) bans: Vec<bool>,
 }
@@ -22,13 +22,13 @@ pub(crate) fn needed(
     facts: usize,
     bans: &[Ban],
     number: usize,
-) -> Result<Marks, AllocError>
+) -> Result<CoreMarks, AllocError>
     requires earlier { ReferBack facts bans.now }
     requires held { number < length bans.now }
     ensures marks { IfOk result (AreMarks facts (length bans.now)) }
     ensures needed { IfOk result (λ marks. IsNeeded bans.now number marks.facts.items marks.bans.items) }
 {
-    let mut marks = Marks {
+    let mut marks = CoreMarks {
         facts: vec![in alloc; false; facts]?,
         bans: vec![in alloc; false; bans.len()]?,
     };
@@ -42,7 +42,7 @@ pub(crate) fn needed(
 }
 
 /// Marks what the step of the ban at a place names, where the ban is marked.
-fn mark_named(step: &Step, place: usize, marks: &mut Marks)
+fn mark_named(step: &Step, place: usize, marks: &mut CoreMarks)
     requires held { place < length marks.old.bans.items }
     requires facts { All (λ k. k < length marks.old.facts.items) (facts_named step.now) }
     requires bans { All (λ k. k < length marks.old.bans.items) (bans_named step.now) }

@@ -3,7 +3,7 @@
 ghost use Rattle.std.specs.Prelude.{◌≡◌, cond, IfOk};
 ghost use Rattle.account_trim.specs.Trims.{new_numbers};
 
-use crate::marking::Marks;
+use crate::marking::CoreMarks;
 use items::Items;
 use std::alloc::{AllocError, Global};
 
@@ -15,7 +15,7 @@ pub(crate) struct Numbers {
 }
 
 /// The numbers that what is marked gets.
-pub(crate) fn numbers_by(alloc: Global, marks: &Marks) -> Result<Numbers, AllocError>
+pub(crate) fn numbers_by(alloc: Global, marks: &CoreMarks) -> Result<Numbers, AllocError>
     ensures facts { IfOk result (λ numbers. numbers.facts ≡ new_numbers marks.now.facts.items) }
     ensures bans { IfOk result (λ numbers. numbers.bans ≡ new_numbers marks.now.bans.items) }
 {

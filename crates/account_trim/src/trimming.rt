@@ -7,7 +7,7 @@ ghost use Rattle.account_trim.specs.Numbered.{at, numbered_ban};
 ghost use Rattle.account_trim.specs.Trims.{IsTrimmed, kept};
 
 use crate::keeping::keep_marked;
-use crate::marking::{Marks, needed};
+use crate::marking::{CoreMarks, needed};
 use crate::numbering::{Numbers, numbers_by};
 use crate::renumbering::renumber_all;
 use account_core::{Ban, Fact};
@@ -48,7 +48,7 @@ fn core_of(
     facts: Items<Fact>,
     bans: Items<Ban>,
     number: u64,
-    marks: &Marks,
+    marks: &CoreMarks,
     numbers: &Numbers,
 ) -> Core
     requires marks { AreMarks (length facts) (length bans) marks.now }

@@ -1,4 +1,5 @@
 ghost use Rattle.std.specs.Prelude.{◌≡◌, ◌+◌, ◌≤◌, ◌<◌, length, false, IfOk, IfSome, OnErr};
+ghost use Rattle.shelf_core.specs.Fault.{Rose};
 ghost use Rattle.shelf_core.specs.State.{Closed, Writing};
 ghost use Rattle.shelf_core.specs.Disk.{IsOpenToRead, disk_mode};
 
@@ -93,10 +94,7 @@ impl<R: Runtime> Shelf for DiskShelf<R> {
             }
             Ok(None) => Ok(None),
             Err(ShelfStop::Memory) => Err(ShelfStop::Memory),
-            Err(ShelfStop::Failed) => {
-                self.faults = self.faults.saturating_add(1);
-                Err(ShelfStop::Failed)
-            }
+            Err(ShelfStop::Failed) => Err(failed(&mut self.faults)),
         }
     }
 
@@ -108,10 +106,7 @@ impl<R: Runtime> Shelf for DiskShelf<R> {
         };
         match answer {
             Ok(count) => Ok(count),
-            Err(_) => {
-                self.faults = self.faults.saturating_add(1);
-                Err(ShelfStop::Failed)
-            }
+            Err(_) => Err(failed(&mut self.faults)),
         }
     }
 
@@ -121,10 +116,7 @@ impl<R: Runtime> Shelf for DiskShelf<R> {
                 self.opened = opened;
                 Ok(())
             }
-            Err(_) => {
-                self.faults = self.faults.saturating_add(1);
-                Err(ShelfStop::Failed)
-            }
+            Err(_) => Err(failed(&mut self.faults)),
         }
     }
 
@@ -134,10 +126,7 @@ impl<R: Runtime> Shelf for DiskShelf<R> {
         };
         match file.write_all(piece) {
             Ok(()) => Ok(()),
-            Err(_) => {
-                self.faults = self.faults.saturating_add(1);
-                Err(ShelfStop::Failed)
-            }
+            Err(_) => Err(failed(&mut self.faults)),
         }
     }
 
@@ -145,12 +134,19 @@ impl<R: Runtime> Shelf for DiskShelf<R> {
         let file = mem::replace(&mut self.opened, Opened::No);
         match sync_written(&file) {
             Ok(()) => Ok(()),
-            Err(_) => {
-                self.faults = self.faults.saturating_add(1);
-                Err(ShelfStop::Failed)
-            }
+            Err(_) => Err(failed(&mut self.faults)),
         }
     }
+}
+
+/// Counts a fault, and tells it.
+fn failed(faults: &mut u64) -> ShelfStop
+    ensures stop { result ≡ ShelfStop.Failed }
+    ensures kept { faults.old ≤ faults.new }
+    ensures counted { Rose faults.old faults.new }
+{
+    *faults = faults.saturating_add(1);
+    ShelfStop::Failed
 }
 
 /// The file of a path, open for reading, with the number of its bytes; `None` where the path leads to nothing. A regular
