@@ -1,6 +1,6 @@
 -- What a netlist gives its signals where they have values of any kind: a bit, words of bits, or 0, 1 and X.
-use Rattle.std.specs.Prelude.{ℕ, ◌-◌, ◌^◌, Bool, false, ◌&&◌, if◌then◌else◌, List, [], ◌∷◌, ◌++◌, map, replicate, slice_index_or, bit_and, bit_xor}
-use Rattle.std.specs.Simd.Lanes.{zip2}
+use Rattle.std.specs.Prelude.{ℕ, ◌≡◌, ◌-◌, ◌^◌, Bool, false, ◌&&◌, if◌then◌else◌, List, [], ◌∷◌, ◌++◌, map, slice_index_or, bit_and, bit_xor}
+use Rattle.std.specs.List.{range_with_len}
 use Rattle.circuits.specs.declared.netlist.Lit.{Lit}
 use Rattle.circuits.specs.declared.netlist.Gate.{Gate}
 use Rattle.circuits.specs.Literals.{differ, signal_of, is_negated}
@@ -11,6 +11,12 @@ pub record Operations (V : Type 0) : Type 0 where
   pub absent : V
   pub signed : V → Bool → V
   pub and : V → V → V
+
+-- a map of values that keeps the operations (a homomorphism)
+pub record KeepsOperations {V W : Type 0} (on : Operations V) (to : Operations W) (f : V → W) : Type 0 where
+  pub absent : f on.absent ≡ to.absent
+  pub signed : (value : V) (negated : Bool) → f (on.signed value negated) ≡ to.signed (f value) negated
+  pub and : (one other : V) → f (on.and one other) ≡ to.and (f one) (f other)
 
 -- what a literal and a gate have where each signal has the value that is given
 abbrev pub literal_value : {V : Type 0} → Operations V → List V → Lit → V
@@ -39,9 +45,13 @@ signed_word word negated = bit_xor word (if negated then 2 ^ 64 - 1 else 0)
 abbrev pub words : Operations ℕ
 words = record { absent = 0; signed = signed_word; and = bit_and }
 
+-- lane by lane, in n lanes
+abbrev pub each_lane : ℕ → (ℕ → ℕ → ℕ) → List ℕ → List ℕ → List ℕ
+each_lane n f one other = map (λ l. f (slice_index_or one l 0) (slice_index_or other l 0)) (range_with_len 0 n)
+
 abbrev pub blocks : ℕ → Operations (List ℕ)
 blocks n = record {
   absent = [];
-  signed = λ block negated. zip2 bit_xor block (replicate n (if negated then 2 ^ 64 - 1 else 0));
-  and = zip2 bit_and;
+  signed = λ block negated. map (λ l. signed_word (slice_index_or block l 0) negated) (range_with_len 0 n);
+  and = each_lane n bit_and;
 }
