@@ -5,6 +5,7 @@ pub mod Orders
 pub mod Rows
 pub mod Cones
 pub mod Sides
+pub mod Values
 pub use Rattle.circuits.specs.Literals
 pub use Rattle.circuits.specs.Netlists
 pub use Rattle.circuits.specs.Bijections

@@ -1,11 +1,12 @@
 //! Graphs of AND gates, each of which stands after its operands.
 
-ghost use Rattle.std.specs.Prelude.{◌≡◌, ◌+◌, ◌^◌, ◌<◌, ◌↔◌, IsSome, IfOk, IfSome, false, ◌∷◌, length, take, vec_len};
+ghost use Rattle.std.specs.Prelude.{◌≡◌, ◌+◌, ◌^◌, ◌<◌, ◌↔◌, IsSome, IfOk, IfSome, length, vec_len};
 ghost use Rattle.circuits.specs.Literals.{literal_bit, signal_of};
-ghost use Rattle.circuits.specs.Netlists.{IsOrdered, signals_of, valuation_of, with_gates};
-ghost use Rattle.net_core.specs.Graph.{IsGraph, AreInOrder};
+ghost use Rattle.circuits.specs.Netlists.{IsOrdered, signals_of, valuation_of};
+ghost use Rattle.net_core.specs.Graph.{IsGraph};
 
-use circuits::plain::{gate_bit, literal_bit};
+use crate::evaluating::{eval_gates, put_inputs};
+use circuits::plain::literal_bit;
 use circuits::{Gate, Lit, is_ordered};
 use std::alloc::{AllocError, Global};
 use std::marker::Model;
@@ -117,7 +118,7 @@ impl Graph {
         requires values { length values.old ≡ signals_of self.now }
         ensures { values.new ≡ valuation_of self.now vector.now }
     {
-        put_inputs(vector, values);
+        put_inputs(false, vector, values);
         eval_gates(&self.gates, vector.len() + 1, values);
     }
 }
@@ -128,28 +129,4 @@ pub fn lit_value(values: &[bool], lit: Lit) -> bool
     ensures { result ≡ literal_bit values.now lit }
 {
     literal_bit(values, lit)
-}
-
-/// Writes the constant and the inputs, which come first.
-fn put_inputs(vector: &[bool], values: &mut [bool])
-    requires { length vector.now < length values.old }
-    ensures bits { take (length vector.now + 1) values.new ≡ false ∷ vector.now }
-    ensures length { length values.new ≡ length values.old }
-{
-    values[0] = false;
-    for (i, bit) in vector.iter().enumerate() {
-        values[i + 1] = *bit;
-    }
-}
-
-/// Gives each gate its bit, in order, from the signal `first` on.
-fn eval_gates(gates: &[Gate], first: usize, values: &mut [bool])
-    requires order { AreInOrder first gates.now }
-    requires room { first + length gates.now ≡ length values.old }
-    ensures { values.new ≡ with_gates (take first values.old) gates.now }
-{
-    for t in 0..gates.len() {
-        let bit = gate_bit(values, gates[t]);
-        values[first + t] = bit;
-    }
 }

@@ -3,6 +3,7 @@
 
 mod cones;
 mod counting;
+mod evaluating;
 mod expanding;
 mod graph;
 mod graphs;
@@ -11,11 +12,14 @@ mod matching;
 mod order_fault;
 mod ordering;
 mod plain_net;
+mod values;
 
 pub use circuits::{Def, Gate, Lit, Pair, PortKind, Trit};
+pub use evaluating::{eval_gates, eval_outputs, gate_value, literal_value, put_inputs};
 pub use graph::{Graph, lit_value};
 pub use graphs::{Graphs, Side};
 pub use matching::Matching;
 pub use order_fault::OrderFault;
 pub use ordering::order;
 pub use plain_net::PlainNet;
+pub use values::SignalValue;
