@@ -3,6 +3,7 @@
 ghost use Rattle.std.specs.Prelude.{◌≡◌, ◌+◌, ◌-◌, ◌<◌, ◌≤◌, [], ◌∷◌, ◌++◌, false, IfOk, IfErr, OnOk, OnErr, All, length, vec_len, vec_capacity};
 ghost use Rattle.query_core.specs.Ledgers.{IsRefused, charged_front, entry_of, last_asked, learned_in, opened, with_line};
 
+use crate::asked_query::AskedQuery;
 use crate::lines::Lines;
 use claim_core::Query;
 use cnf_core::{Charge, LogLine, Stop};
@@ -12,7 +13,7 @@ use std::marker::Model;
 /// A query that was asked, with the lines that were derived for it: first lemmas, which cost nothing, then learned lines.
 #[derive(Debug, Drop)]
 pub struct Asked {
-    pub query: Query,
+    pub query: AskedQuery,
     /// How many of the lines are lemmas.
     pub lemmas: u64,
     pub lines: Lines,
@@ -155,9 +156,8 @@ fn opening(alloc: Global, query: &Query, lemmas: &[LogLine]) -> Result<Asked, Al
     ensures { IfOk result (λ entry. entry ≡ entry_of query.now lemmas.now) }
 {
     let lines = Lines::of(alloc, lemmas)?;
-    let query = query.copy()?;
     Ok(Asked {
-        query,
+        query: AskedQuery::of(query),
         lemmas: lemmas.len() as u64,
         lines,
     })

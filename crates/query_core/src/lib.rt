@@ -2,6 +2,7 @@
 //! the lines learned for it.
 #![tactic(auto)]
 
+mod asked_query;
 mod base;
 mod clauses;
 mod cone_clauses;
@@ -11,6 +12,7 @@ mod lines;
 mod reaching;
 mod variables;
 
+pub use asked_query::AskedQuery;
 pub use base::QueryBase;
 pub use claim_core::{Claim, Cone, Feed, Feeds, Query, Shape, image, of_claim, of_match, pair_of};
 pub use clauses::count_of;

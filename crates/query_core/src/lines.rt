@@ -1,6 +1,6 @@
 //! Lines that contracts alone read.
 
-ghost use Rattle.std.specs.Prelude.{◌≡◌, ◌∷◌, ◌++◌, ◌==◌, [], IfOk, OnErr, OnOk, length, map};
+ghost use Rattle.std.specs.Prelude.{◌≡◌, ◌∷◌, ◌++◌, [], IfOk, OnErr, OnOk, length, map};
 
 use cnf_core::LogLine;
 use std::alloc::{AllocError, Global};
@@ -31,15 +31,6 @@ impl Drop for Lines {
 }
 
 impl Lines {
-    /// No lines.
-    pub fn new(alloc: Global) -> Lines
-        ensures { result ≡ [] }
-    {
-        Lines {
-            inside: Vec::new(alloc),
-        }
-    }
-
     /// These lines.
     ///
     /// # Errors
@@ -66,13 +57,6 @@ impl Lines {
         ensures { result ≡ length self.now }
     {
         self.inside.len()
-    }
-
-    /// Whether there is no line.
-    pub fn is_empty(&self) -> bool
-        ensures { result ≡ (length self.now == 0) }
-    {
-        self.inside.is_empty()
     }
 }
 

@@ -1,5 +1,5 @@
 -- The last entry has one line more, which is charged or refused.
-use Rattle.std.proofs.Common.{◌<◌, arith}
+use Rattle.std.proofs.Common.{arith}
 use Rattle.query_core.proofs.LedgerLemmas.{is_charged, is_spent, kept_charged, kept_spent, lined_in, one_learned}
 use Rattle.query_core.proofs.ledger.Ledger.charge.Goals as goal
 

@@ -1,0 +1,46 @@
+//! A query that contracts alone read.
+
+ghost use Rattle.std.specs.Prelude.{◌≡◌};
+
+use claim_core::Query;
+use std::fmt;
+use std::marker::Model;
+use std::snapshot::Snapshot;
+
+/// The query of an entry. Contracts see it as the query; when the program runs it has no bytes, since a snapshot has none.
+/// Nothing reads it again: whoever asked has it.
+pub struct AskedQuery {
+    inside: Snapshot<Query>,
+}
+
+impl Model for AskedQuery {
+    ghost use Rattle.claim_core.specs.declared.query.Query.{Query as AnyQuery};
+
+    ghost Value = { AnyQuery };
+
+    ghost view = { λ a. a.inside.value };
+}
+
+// By hand, and so one call wherever a value ends: a derived drop is expanded there, field by field, and makes proofs long.
+impl Drop for AskedQuery {
+    fn drop(self) {
+        let AskedQuery { inside: _inside } = self;
+    }
+}
+
+impl AskedQuery {
+    /// This query.
+    pub(crate) fn of(query: &Query) -> AskedQuery
+        ensures { result ≡ query.now }
+    {
+        AskedQuery {
+            inside: Snapshot::of(query),
+        }
+    }
+}
+
+impl fmt::Debug for AskedQuery {
+    fn fmt<W: fmt::Write>(&self, f: &mut fmt::Formatter<W>) -> fmt::Result {
+        write!(f, "a query")
+    }
+}
