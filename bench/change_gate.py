@@ -1,5 +1,5 @@
 """Writes a copy of a netlist in the ASCII form of AIGER in which one operand of one gate is negated: of the gate that is
-PLACE thousandths behind the first one.
+PLACE thousandths of all gates after the first one.
 
     change_gate.py NETLIST COPY PLACE
 """

@@ -153,7 +153,7 @@ def cells():
 # ---- multiplexers, decoders, encoders
 
 def decoded(word, count, width):
-    """The conditions that a word has each of so many values."""
+    """The conditions that a word has each of the values below a count."""
     return [f"({word} == {width}'d{k})" for k in range(count)]
 
 

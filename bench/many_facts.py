@@ -1,6 +1,6 @@
 """Writes a netlist of 256 inputs and 256 outputs, each the AND of 20 inputs (4,864 gates), and an account of it and itself with
-so many facts: claims that fail, each by its vector, or claims that hold, each with a log of one line. The account has no
-conclusion, so a check that finds each line good ends at the line behind the last (`truncated`).
+COUNT facts: claims that fail, each by its vector, or claims that hold, each with a log of one line. The account has no
+conclusion, so a check that finds each line good ends at the line after the last (`truncated`).
 
     many_facts.py fails|holds COUNT NETLIST ACCOUNT
 """

@@ -14,7 +14,7 @@ READ = 11  # inputs of an output: one more than a place below 1,024 has bits
 
 
 def mixed(count, draws):
-    """A circuit of so many inputs and as many outputs. Output k joins inputs that are drawn, one for each bit of k and one more: by
+    """A circuit of `count` inputs and as many outputs. Output k joins inputs that are drawn, one for each bit of k and one more: by
     AND where the bit is 1, by OR where it is 0. So no two outputs are true on as many vectors, and inputs are at other places of
     other outputs."""
     gates, outputs = [], []

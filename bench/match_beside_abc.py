@@ -228,7 +228,7 @@ def main():
     words.add_argument("--limit", type=int, default=10, help="processor seconds of a pair (10)")
     words.add_argument("--check-limit", type=int, default=60, help="processor seconds of a check (60)")
     words.add_argument("--seed", type=int, default=1, help="of permutations, negations and changes (1)")
-    words.add_argument("--every", type=int, default=1, help="each so many'th circuit alone (1)")
+    words.add_argument("--every", type=int, default=1, help="every Nth circuit alone (1)")
     words.add_argument("--start", type=int, default=0, help="the first of these (0)")
     words.add_argument("--program", action="append", dest="programs", metavar="[LABEL=]PATH", help="a program to measure, more than once to compare; the release without")
     words.add_argument("--kinds", type=lambda it: it.split(","), default=list(KINDS), help=",".join(KINDS))

@@ -1,4 +1,4 @@
-"""Runs a program for so many processor seconds, and reads the table that it prints."""
+"""Runs a program for a limit of processor seconds, and reads the table that it prints."""
 import os
 import resource
 import signal

@@ -6,7 +6,7 @@ import itertools
 import random
 
 DRAWN = 1 << 14
-ALL = 16  # up to so many inputs all vectors are tried
+ALL = 16  # up to this number of inputs all vectors are tried
 FEATURES = ("supports", "unateness", "symmetries", "counts")
 
 
@@ -75,7 +75,7 @@ def renamed(net, inputs_to, outputs_to):
 
 
 def draw(rng, count, negated):
-    """A bijection of so many ports, signed where negations are wanted."""
+    """A bijection of `count` ports, signed where negations are wanted."""
     order = rng.sample(range(count), count)
     return [(to, rng.randrange(2) if negated else 0) for to in order]
 
@@ -101,13 +101,13 @@ def cone(net, literals):
 # ---- values on many vectors
 
 def all_vectors(count):
-    """The values of so many inputs on all vectors, and a number with a bit for each vector."""
+    """The values of `count` inputs on all vectors, and a number with a bit for each vector."""
     every = (1 << (1 << count)) - 1
     return [((1 << (1 << i)) - 1 << (1 << i)) * (every // ((1 << (2 << i)) - 1)) for i in range(count)], every
 
 
 def drawn_vectors(count, rng, vectors=DRAWN):
-    """The values of so many inputs on vectors that are drawn: half of them evenly, a quarter mostly 0, a quarter mostly 1."""
+    """The values of `count` inputs on vectors that are drawn: half of them evenly, a quarter mostly 0, a quarter mostly 1."""
     part = vectors // 4
     words = []
     for _ in range(count):
@@ -167,7 +167,7 @@ def table_of(net, output):
 
 
 def without(f, i, count):
-    """A function of so many inputs that doesn't depend on input i, over the others."""
+    """A function of `count` inputs that doesn't depend on input i, over the others."""
     found, block = 0, 1 << i
     for k in range(1 << count - 1 - i):
         found |= (f >> 2 * k * block & (1 << block) - 1) << k * block

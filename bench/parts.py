@@ -114,7 +114,7 @@ def main():
     words.add_argument("top")
     words.add_argument("parts", nargs="*", metavar="PART", help=f"the parts that are wanted, all without: {', '.join(PARTS)}")
     words.add_argument("--limit", type=int, default=1, help="processor seconds of a pair (1)")
-    words.add_argument("--every", type=int, default=4, help="each so many'th circuit alone (4)")
+    words.add_argument("--every", type=int, default=4, help="every Nth circuit alone (4)")
     words.add_argument("--start", type=int, default=0, help="the first of these (0)")
     words.add_argument("--pairs", metavar="FOLDER", help="the folder of the pairs, which are made without")
     words.add_argument("--nets", metavar="FOLDER", help="the folder that keeps what Yosys and ABC made")

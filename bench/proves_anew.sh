@@ -1,13 +1,16 @@
 #!/usr/bin/env bash
-# Prints what four changes prove anew: the crates above the one that is changed, and their processor minutes of proofs,
-# tests and must-fail edits, by crates.txt and by the table of minutes in the documents of a commit (by default of the
-# files that lie here). Each change names the crate that it is made in.
+# Prints what four changes prove anew: the crates above the one that is changed, and their processor minutes, by crates.txt
+# and by a table of minutes. A row of the table is a crate's name and its minutes of proofs, tests and must-fail edits, or of
+# proofs alone; they are added up. The table is that in the documents of a commit, by default of the files that lie here, the
+# last one where there are several. Each change names the crate that it is made in.
 #
-#   bench/proves_anew.sh [COMMIT]
+#   bench/proves_anew.sh [--minutes FILE] [--proofs] [COMMIT]
+#
+# --minutes takes the table from a file, --proofs the first number of each row alone.
 set -u
 cd "$(dirname "${BASH_SOURCE[0]}")/.." || exit 1
 exec python3 - "$@" <<'PYTHON'
-import pathlib, re, subprocess, sys
+import argparse, pathlib, re, subprocess
 
 CHANGES = [  # what is changed, and where: the first of these crates that there is
     ("a new kind of AIGER fault", ["net_file", "net_core"]),
@@ -15,27 +18,44 @@ CHANGES = [  # what is changed, and where: the first of these crates that there 
     ("another choice of the next port", ["search_guide", "match_search"]),
     ("a new command", ["command_words", "npnp"]),
 ]
+words = argparse.ArgumentParser(prog="bench/proves_anew.sh")
+words.add_argument("--minutes", metavar="FILE")
+words.add_argument("--proofs", action="store_true")
+words.add_argument("commit", nargs="?")
+words = words.parse_args()
 
 
 def read(path):
-    if len(sys.argv) > 1:
-        shown = subprocess.run(["git", "show", f"{sys.argv[1]}:{path}"], capture_output=True, text=True)
+    if words.commit:
+        shown = subprocess.run(["git", "show", f"{words.commit}:{path}"], capture_output=True, text=True)
         return shown.stdout
     file = pathlib.Path(path)
     return file.read_text() if file.exists() else ""
 
 
-minutes = {}
-for line in (read("docs/MEASURED.md") or read("docs/MAP.md")).splitlines():
-    row = re.fullmatch(r"([a-z_0-9]+) +([0-9.]+) +([0-9.]+) +([0-9.]+)", line)
-    if row and row[1] != "all":
-        minutes[row[1]] = sum(map(float, row.groups()[1:]))
+def last_table(text, crates):
+    """The minutes of the last rows that follow one another."""
+    table, in_table = {}, False
+    for line in text.splitlines():
+        row = re.fullmatch(r"([a-z_0-9]+)((?:\s+[0-9.]+)+)\s*", line)
+        if row and row[1] in crates:
+            if not in_table:
+                table, in_table = {}, True
+            minutes = [float(it) for it in row[2].split()]
+            table[row[1]] = minutes[0] if words.proofs else sum(minutes)
+        else:
+            in_table = False
+    return table
+
+
 below = {}
 for line in read("crates.txt").splitlines():
     line = line.split("#")[0]
     if ":" in line:
         name, deps = line.split(":")
         below[name.split()[0]] = deps.split()
+documents = pathlib.Path(words.minutes).read_text() if words.minutes else read("docs/MEASURED.md") or read("docs/MAP.md")
+minutes = last_table(documents, below)
 
 
 def stands_on(crate, base, seen):

@@ -20,7 +20,7 @@ PROGRAM = os.path.join(os.path.dirname(os.path.abspath(__file__)), "..", "crates
 
 
 def drawn(draws, inputs, outputs):
-    """A netlist of a few gates, as the lines of a text AIGER file behind its header: inputs, outputs, gates."""
+    """A netlist of a few gates, as the lines of a text AIGER file after its header: inputs, outputs, gates."""
     gates, signals = [], inputs
     for _ in range(draws.randint(1, 2 * inputs + outputs)):
         a, b = draws.sample(range(1, signals + 1), 2) if signals > 1 else (1, 1)

@@ -7,7 +7,7 @@ picosat took, and those of ABC's `&cec`, which decides all outputs of a pair at 
 The two solvers get the same clauses, numbered here and not by the program. Each answer is compared, and each vector tried
 by an evaluation of its own. LIMIT is the processor seconds that a question has; who is late five times isn't asked any more
 of this pair. With `--after-minisat`, minisat is asked each question, and what it answers within LIMIT the program is asked
-too, with so many SECONDS; both are never given up, and nobody else is asked. `--head` alone prints the head of the table.
+too, with that many SECONDS; both are never given up, and nobody else is asked. `--head` alone prints the head of the table.
 Ends with status 1 where answers differ or a vector is wrong.
 """
 import argparse
