@@ -14,7 +14,7 @@ use Rattle.account_core.specs.declared.step.Ban.{Ban}
 use Rattle.account_file.specs.declared.record.Record.{Record}
 use Rattle.account_file.specs.declared.record.Record.TheVariants as entry
 use Rattle.account_file.specs.Spelling.{record_line, IsWritable}
-use Rattle.account_write.specs.declared.lines.Lines.{Lines}
+use Rattle.account_write.specs.declared.lines.AccountLines.{AccountLines}
 use Rattle.account_write.specs.Records.{Steps, fact_records, head_of, in_order, lines_of, log_lines, log_records, records_left, shown_records}
 
 -- a fact's records are its line and those of its log
@@ -69,7 +69,7 @@ some_left [] [] (x ∷ facts) logs bans back a b c d e f one two three four five
 some_left front log facts logs bans back a b c d e f one two three four five six is = omega arith
 
 -- a line was printed
-pub printed : {E : Type 0} (result : Result (Unit {0}) E) (old new : Lines) (before after : List ℕ) (one : Record)
+pub printed : {E : Type 0} (result : Result (Unit {0}) E) (old new : AccountLines) (before after : List ℕ) (one : Record)
     → records_left old ≡ one ∷ records_left new
     → length new.logs.now ≤ length old.logs.now
     → OnOk result (after ≡ before ++ record_line one)
@@ -83,7 +83,7 @@ printed {E} (Ok done) old new before after one first logs line writable = record
 }
 
 -- a log was begun
-pub begun : (old new : Lines) (text : List ℕ)
+pub begun : (old new : AccountLines) (text : List ℕ)
     → records_left old ≡ records_left new
     → length new.logs.now < length old.logs.now
     → Steps old new text text

@@ -20,7 +20,7 @@ use Rattle.account_file.specs.declared.record.Record.{Record}
 use Rattle.account_file.specs.declared.record.Record.TheVariants as entry
 use Rattle.account_file.specs.Spelling.{record_line, IsWritable}
 use Rattle.account_write.specs.declared.account.Account.{Account}
-use Rattle.account_write.specs.declared.lines.Lines.{Lines}
+use Rattle.account_write.specs.declared.lines.AccountLines.{AccountLines}
 
 -- where each port of a kind goes, from port `first` on, as pairs
 abbrev pub pairs_from : PortKind → ℕ → List (ℕ × Bool) → List Pair
@@ -90,15 +90,15 @@ abbrev pub records_of : Account → List Record
 records_of account = in_order account.front [] account.facts account.logs account.bans account.back
 
 -- the records of an account that are still to be printed: what is left of a log that was begun comes before the next fact
-abbrev pub records_left : Lines → List Record
+abbrev pub records_left : AccountLines → List Record
 records_left lines = in_order lines.front.now lines.log.now lines.facts.now lines.logs.now lines.bans.now lines.back.now
 
 -- how many steps are left: one for each record, and one for each log that is to be begun
-abbrev pub steps_left : Lines → ℕ
+abbrev pub steps_left : AccountLines → ℕ
 steps_left lines = length (records_left lines) + length lines.logs.now
 
 -- One step was taken: a line was printed, or a log was begun.
-pub record Steps (old new : Lines) (before after : List ℕ) : Type 0 where
+pub record Steps (old new : AccountLines) (before after : List ℕ) : Type 0 where
   -- what was printed and what is left are the same text as before
   pub lines : after ++ lines_of (records_left new) ≡ before ++ lines_of (records_left old)
   -- what was printed can be read back

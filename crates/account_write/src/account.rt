@@ -6,7 +6,7 @@ ghost use Rattle.account_file.specs.declared.record.Record.TheVariants as AnyRec
 ghost use Rattle.account_core.specs.declared.conclusion.Conclusion.TheVariants as AnyConclusion;
 ghost use Rattle.account_write.specs.Records.{match_records, none_ports_records, pairs_from, pairs_of_matching, records_left, records_of, refusal_records};
 
-use crate::lines::Lines;
+use crate::lines::AccountLines;
 use account_core::{Ban, Conclusion, Fact};
 use account_file::Record;
 use circuits::{Pair, PortKind};
@@ -109,10 +109,10 @@ impl Account {
     }
 
     /// Its lines, none of which is printed.
-    pub fn lines(&self) -> Lines<'_>
+    pub fn lines(&self) -> AccountLines<'_>
         ensures { records_left result ≡ records_of self.now }
     {
-        Lines {
+        AccountLines {
             front: &self.front,
             log: &[],
             facts: &self.facts,

@@ -7,4 +7,4 @@ mod lines;
 
 pub use account::Account;
 pub use laws::{match_is_accepted, none_ports_is_accepted, refusal_is_accepted};
-pub use lines::{Lines, last_line};
+pub use lines::{AccountLines, last_line};

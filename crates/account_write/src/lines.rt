@@ -13,7 +13,7 @@ use text_out::Parts;
 
 /// The lines of an account that are still to be printed. Its parts are lines: an account need never be whole in memory.
 #[derive(Drop)]
-pub struct Lines<'a> {
+pub struct AccountLines<'a> {
     pub(crate) front: &'a [Record],
     /// The other lines of a log that was begun.
     pub(crate) log: &'a [LogLine],
@@ -23,7 +23,7 @@ pub struct Lines<'a> {
     pub(crate) back: &'a [Record],
 }
 
-impl<'a> Lines<'a> {
+impl<'a> AccountLines<'a> {
     /// Whether all lines are printed.
     pub(crate) fn are_printed(&self) -> bool
         ensures done { IsTrue result → records_left self.now ≡ [] }
@@ -73,7 +73,7 @@ impl<'a> Lines<'a> {
     }
 }
 
-impl<'a> Parts for Lines<'a> {
+impl<'a> Parts for AccountLines<'a> {
     ghost use Rattle.account_write.specs.Records.{lines_of, records_left, steps_left};
 
     ghost left = { λ lines. lines_of (records_left lines) };

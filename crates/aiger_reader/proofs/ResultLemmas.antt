@@ -1,5 +1,5 @@
 -- What the result of a call says of the same result with another error.
-use Rattle.std.proofs.Common.{◌≡◌, Result, Ok, Err, IfOk, IfErr, OnOk, IsErrOf, sym, subst}
+use Rattle.std.proofs.Common.{◌≡◌, Result, Ok, Err, IfErr, sym, subst}
 use Rattle.std.specs.Result.{MatchResult, IsErrAnd}
 
 -- s is r with an error that is made of r's

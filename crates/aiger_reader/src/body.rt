@@ -1,6 +1,6 @@
 //! The lines after the header: of the ASCII form the inputs, outputs and gates, of the binary form the outputs.
 
-ghost use Rattle.std.specs.Prelude.{true, ◌≡◌, ℕ, ◌+◌, ◌<◌, ◌++◌, List, [], ◌∷◌, length, IfOk, IfErr, OnOk, vec_len, replicate, slice_index_or, slice_set};
+ghost use Rattle.std.specs.Prelude.{true, ◌≡◌, ℕ, ◌+◌, ◌<◌, ◌++◌, List, [], ◌∷◌, length, IfOk, IfErr, OnOk, vec_len, slice_index_or, slice_set};
 ghost use Rattle.std.specs.Bool.{OnTrue, OnFalse};
 ghost use Rattle.aiger_reader.specs.Numbers.{header_of};
 ghost use Rattle.aiger_reader.specs.Bodies.{line_offset, AreLines};
@@ -10,7 +10,7 @@ ghost use Rattle.aiger_reader.specs.Reading.{rows_of, input_lines_of, gate_lines
 use crate::limits::Header;
 use crate::literals::read_line;
 use net_file::{NetFault, NetKind, NetStop};
-use std::alloc::{AllocError, Global};
+use std::alloc::Global;
 use text_core::Cursor;
 
 /// The line of a gate: the literal that it defines, and the two literals that it is the AND of.
@@ -187,7 +187,7 @@ fn start<'a>(alloc: Global, input: &'a [u8], header: Header) -> Result<Body<'a>,
     ensures counts { IfOk result (λ body. HasCounts body.literals 0 0 0) }
     ensures memory { IfErr result (λ stop. stop ≡ NetStop.Memory) }
 {
-    let signals = zeros(alloc, header.variables as usize + 1)?;
+    let signals = vec![in alloc; 0; header.variables as usize + 1]?;
     let mut rest = Cursor::new(input);
     let _ = rest.next_line();
     let literals = Literals {
@@ -201,13 +201,6 @@ fn start<'a>(alloc: Global, input: &'a [u8], header: Header) -> Result<Body<'a>,
         count: 0,
         rest,
     })
-}
-
-// That many zeros.
-fn zeros(alloc: Global, count: usize) -> Result<Vec<u32>, AllocError>
-    ensures { IfOk result (λ list. list.items ≡ replicate count 0) }
-{
-    Ok(vec![in alloc; 0; count]?)
 }
 
 /// How many lines of inputs there are: none in the binary form.

@@ -129,8 +129,3 @@ pub(crate) fn read_gates(
     }
     Ok(gates)
 }
-
-/// The front of a text writes one delta at most.
-pub(crate) fn one_delta()
-    ensures { (bytes x y : List ℕ) (m n : ℕ) → BeginsDelta bytes m x → BeginsDelta bytes n y → (m ≡ n) × (x ≡ y) }
-{}

@@ -1,9 +1,8 @@
 ghost use Rattle.std.specs.Prelude.{◌≡◌, ◌+◌, ◌≤◌, ◌<◌, length, false, IfOk, IfSome, OnErr};
-ghost use Rattle.shelf_core.specs.Fault.{Rose};
 ghost use Rattle.shelf_core.specs.State.{Closed, Writing};
 ghost use Rattle.shelf_core.specs.Disk.{IsOpenToRead, disk_mode};
 
-use crate::outside::{Shelf, ShelfStop};
+use crate::outside::{Shelf, ShelfStop, failed};
 use crate::stream::{Stream, read_next};
 use std::alloc::{Alloc, Allocator};
 use std::fs::{File, Metadata, OpenFile, OpenOptions};
@@ -137,16 +136,6 @@ impl<R: Runtime> Shelf for DiskShelf<R> {
             Err(_) => Err(failed(&mut self.faults)),
         }
     }
-}
-
-/// Counts a fault, and tells it.
-fn failed(faults: &mut u64) -> ShelfStop
-    ensures stop { result ≡ ShelfStop.Failed }
-    ensures kept { faults.old ≤ faults.new }
-    ensures counted { Rose faults.old faults.new }
-{
-    *faults = faults.saturating_add(1);
-    ShelfStop::Failed
 }
 
 /// The file of a path, open for reading, with the number of its bytes; `None` where the path leads to nothing. A regular

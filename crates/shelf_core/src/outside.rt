@@ -1,4 +1,5 @@
-ghost use Rattle.std.specs.Prelude.{◌≡◌, ◌≢◌, Bool};
+ghost use Rattle.std.specs.Prelude.{◌≡◌, ◌≢◌, ◌≤◌, Bool};
+ghost use Rattle.shelf_core.specs.Fault.{Rose};
 ghost use Rattle.shelf_core.specs.State.{ShelfState, SinkState, Closed, Reading, Writing};
 ghost use Rattle.shelf_core.specs.Calls.{Opens, Reads, Creates, Appends, Closes};
 ghost use Rattle.shelf_core.specs.Puts.{Puts};
@@ -17,6 +18,16 @@ pub enum ShelfStop {
     /// There was no memory for the call.
     #[error("out of memory")]
     Memory,
+}
+
+/// Counts a fault of the outside, and tells it.
+pub(crate) fn failed(faults: &mut u64) -> ShelfStop
+    ensures stop { result ≡ ShelfStop.Failed }
+    ensures kept { faults.old ≤ faults.new }
+    ensures counted { Rose faults.old faults.new }
+{
+    *faults = faults.saturating_add(1);
+    ShelfStop::Failed
 }
 
 /// A place for files, each a name and its bytes, of which at most one is open at a time. `ShelfStop::Memory` may come

@@ -1,6 +1,6 @@
 ghost use Rattle.std.specs.Prelude.{◌≡◌, [], false};
 
-use crate::outside::{ShelfStop, Sink};
+use crate::outside::{ShelfStop, Sink, failed};
 use std::io;
 use std::io::Write;
 use std::rt::Runtime;
@@ -50,10 +50,7 @@ impl<R: Runtime, W: Watch> Sink for StdSink<R, W> {
     fn put(&mut self, piece: &[u8]) -> Result<(), ShelfStop> {
         match print_all(&self.rt, piece) {
             Ok(()) => Ok(()),
-            Err(_) => {
-                self.faults = self.faults.saturating_add(1);
-                Err(ShelfStop::Failed)
-            }
+            Err(_) => Err(failed(&mut self.faults)),
         }
     }
 }

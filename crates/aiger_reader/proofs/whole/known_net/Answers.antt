@@ -1,5 +1,5 @@
 -- The lines by the numbers of their signals: a netlist that is closed and small.
-use Rattle.std.proofs.Common.{◌≡◌, ◌<◌, ◌/◌, ◌^◌, [], length, map, All, subst, sym, ap₂, ◌∙◌, arith}
+use Rattle.std.proofs.Common.{◌<◌, ◌/◌, ◌^◌, [], length, map, All, subst, sym, ap₂, ◌∙◌, arith}
 use Rattle.aiger_reader.specs.Numbers.{header_of}
 use Rattle.aiger_reader.specs.Numbered.{AreWithin, lit_in, def_in, circuit_from}
 use Rattle.aiger_reader.specs.Reading.{rows_of}

@@ -1,6 +1,6 @@
 -- Where one of the lists isn't empty a step is left.
 use Rattle.account_write.proofs.LineLemmas.{some_left}
-use Rattle.account_write.proofs.lines.Lines.are_printed.Goals as goal
+use Rattle.account_write.proofs.lines.AccountLines.are_printed.Goals as goal
 
 pub returns-clause-more : goal.returns-clause-more
 returns-clause-more c =

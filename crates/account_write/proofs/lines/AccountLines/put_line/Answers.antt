@@ -3,7 +3,7 @@ use Rattle.std.proofs.Common.{arith}
 use Rattle.account_file.specs.declared.record.Record.TheVariants as entry
 use Rattle.account_write.specs.Records.{head_of}
 use Rattle.account_write.proofs.LineLemmas.{back_next, ban_next, begun, fact_next, line_next, log_next, printed}
-use Rattle.account_write.proofs.lines.Lines.put_line.Goals as goal
+use Rattle.account_write.proofs.lines.AccountLines.put_line.Goals as goal
 
 pub returns-in-Some-split_first : goal.returns-in-Some-split_first
 returns-in-Some-split_first c =
