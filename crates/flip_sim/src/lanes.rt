@@ -1,6 +1,7 @@
 //! 256 bits.
 
 use std::simd::u64x4;
+use word_sim::alternating;
 
 /// A bit of each of 256 vectors.
 pub type Lanes = u64x4;
@@ -31,20 +32,10 @@ pub fn with_bit(lanes: Lanes, vector: usize, bit: bool) -> Lanes {
     Lanes::from_array(words)
 }
 
-/// Bit v of word i is digit i of v in base two.
-const ALTERNATING: [u64; 6] = [
-    0xaaaa_aaaa_aaaa_aaaa,
-    0xcccc_cccc_cccc_cccc,
-    0xf0f0_f0f0_f0f0_f0f0,
-    0xff00_ff00_ff00_ff00,
-    0xffff_0000_ffff_0000,
-    0xffff_ffff_0000_0000,
-];
-
 /// What an input has in a word of all vectors: bit v is digit `input` of the number 64 * `word` + v in base two.
 pub fn word_of_all(input: u32, word: usize) -> u64 {
     if input < 6 {
-        ALTERNATING[input as usize]
+        alternating(input)
     } else if (word >> ((input - 6) % 64)) % 2 == 1 {
         u64::MAX
     } else {

@@ -1,14 +1,13 @@
 //! A circuit on 256 vectors at once.
 
 ghost use Rattle.std.specs.Prelude.{◌≡◌, ◌+◌, ◌<◌, length, vec_len};
-ghost use Rattle.circuits.specs.Literals.{signal_of};
 ghost use Rattle.circuits.specs.Netlists.{signals_of};
 ghost use Rattle.net_core.specs.Graph.{AreInOrder};
 
 use crate::fanout::{Fanout, fanouts};
 use crate::lanes::{Lanes, replicated};
 use items::Items;
-use net_core::{Gate, Graph, Lit};
+use net_core::{Gate, Graph, eval_gates, gate_value, literal_value};
 use std::alloc::{AllocError, Global};
 use std::marker::Model;
 
@@ -120,7 +119,7 @@ impl<'a> FlipSim<'a> {
     /// Computes what the gates have.
     pub fn run(&mut self) {
         let gates = self.graph.gates();
-        run_gates(
+        eval_gates(
             gates,
             self.graph.inputs() as usize + 1,
             self.values.as_mut_slice(),
@@ -208,7 +207,7 @@ impl<'a> FlipSim<'a> {
     /// What an output has on the vectors.
     pub fn output(&self, output: u32) -> Lanes {
         match self.graph.outputs().get(output as usize) {
-            Some(literal) => literal_lanes(&self.values, *literal),
+            Some(literal) => literal_value(&self.values, *literal),
             None => replicated(false),
         }
     }
@@ -216,21 +215,9 @@ impl<'a> FlipSim<'a> {
     /// What an output has with the input inverted.
     pub fn flipped_output(&self, output: u32) -> Lanes {
         match self.graph.outputs().get(output as usize) {
-            Some(literal) => literal_lanes(&self.flipped, *literal),
+            Some(literal) => literal_value(&self.flipped, *literal),
             None => replicated(false),
         }
-    }
-}
-
-// Gives each gate its bits, in order, from the signal `first` on.
-fn run_gates(gates: &[Gate], first: usize, values: &mut [Lanes])
-    requires order { AreInOrder first gates.now }
-    requires room { first + length gates.now ≡ length values.old }
-    ensures { length values.new ≡ length values.old }
-{
-    for t in 0..gates.len() {
-        let lanes = gate_lanes(values, gates[t]);
-        values[first + t] = lanes;
     }
 }
 
@@ -255,7 +242,7 @@ fn flip_word(gates: &[Gate], first: usize, from: usize, word: u64, values: &mut 
     for _ in 0..word.count_ones() {
         let t = from.saturating_add(left.trailing_zeros() as usize);
         if t < gates.len() {
-            let lanes = gate_lanes(values, gates[t]);
+            let lanes = gate_value(values, gates[t]);
             values[first + t] = lanes;
         }
         left &= left.wrapping_sub(1);
@@ -290,19 +277,4 @@ fn restore_word(word: u64, first: usize, from: &[Lanes], values: &mut [Lanes])
         }
         left &= left.wrapping_sub(1);
     }
-}
-
-// The AND of a gate's two literals.
-fn gate_lanes(values: &[Lanes], gate: Gate) -> Lanes
-    requires first_operand { signal_of gate.a < length values.now }
-    requires second_operand { signal_of gate.b < length values.now }
-{
-    literal_lanes(values, gate.a) & literal_lanes(values, gate.b)
-}
-
-// A literal's bits.
-fn literal_lanes(values: &[Lanes], literal: Lit) -> Lanes
-    requires { signal_of literal < length values.now }
-{
-    values[literal.signal() as usize] ^ replicated(literal.is_negated())
 }

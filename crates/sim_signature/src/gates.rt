@@ -1,12 +1,12 @@
 //! The gates of a circuit on 512 vectors, and on these with an input inverted.
 
-ghost use Rattle.std.specs.Prelude.{◌≡◌, ◌≢◌, ◌+◌, ◌<◌, ◌≤◌, ◌∷◌, ◌||◌, [], ℕ, Bool, false, not, List, length, replicate, slice_index_or, take};
+ghost use Rattle.std.specs.Prelude.{◌≡◌, ◌≢◌, ◌+◌, ◌<◌, ◌≤◌, ◌||◌, [], ℕ, Bool, false, not, List, length, slice_index_or};
 ghost use Rattle.circuits.specs.Literals.{bit, signal_of};
 ghost use Rattle.circuits.specs.Netlists.{signals_of};
 ghost use Rattle.claim_core.specs.Claims.{with_input};
 ghost use Rattle.sim_signature.specs.Blocks.{AreSimulated, IsEvaluated, IsFlipped, IsRunOrKept, IsValuation, bit_of_gate, block_after as the_block_after, block_bit, pattern};
 
-use net_core::{Gate, Graph};
+use net_core::{Gate, Graph, put_inputs};
 use std::simd::prelude::*;
 use word_sim::{and_lanes, run_gate_blocks, signed_lanes};
 
@@ -18,20 +18,8 @@ pub(crate) fn evaluate(graph: &Graph, inputs: &[u64x8], blocks: &mut [u64x8])
     ensures room { length blocks.new ≡ length blocks.old }
 {
     let gates = graph.gates();
-    put_inputs(inputs, blocks);
+    put_inputs(u64x8::splat(0), inputs, blocks);
     run_gate_blocks(gates, inputs.len() + 1, blocks);
-}
-
-/// Writes the blocks of the constant and of the inputs, which come first.
-fn put_inputs(inputs: &[u64x8], blocks: &mut [u64x8])
-    requires { length inputs.now < length blocks.old }
-    ensures blocks { take (length inputs.now + 1) blocks.new ≡ replicate 8 0 ∷ inputs.now }
-    ensures room { length blocks.new ≡ length blocks.old }
-{
-    blocks[0] = u64x8::splat(0);
-    for (i, block) in inputs.iter().enumerate() {
-        blocks[i + 1] = *block;
-    }
 }
 
 /// Gives each signal that an inverted input reaches another block in `after`, and marks these signals alone; no other gate is

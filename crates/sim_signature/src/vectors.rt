@@ -1,8 +1,8 @@
 //! 512 vectors, a block of eight words for each input.
 
-ghost use Rattle.std.specs.Prelude.{◌≡◌, ◌<◌, ◌≤◌, ◌/◌, ◌%◌, ◌^◌, ◌==◌, ℕ, length, IfOk};
+ghost use Rattle.std.specs.Prelude.{◌≡◌, ◌<◌, ◌≤◌, ℕ, length, IfOk};
 ghost use Rattle.circuits.specs.Literals.{vector_of};
-ghost use Rattle.word_sim.specs.Columns.{word_bit, word_of};
+ghost use Rattle.word_sim.specs.Columns.{word_of};
 ghost use Rattle.sim_signature.specs.Blocks.{pattern};
 
 use bit_list::Bits;
@@ -10,26 +10,10 @@ use rand_core::Rng;
 use rand_pcg::Pcg32;
 use std::alloc::{AllocError, Global};
 use std::simd::prelude::*;
+use word_sim::alternating;
 
 /// How many inputs a circuit has at most whose vectors are all tried: a word holds as many.
 pub(crate) const FEW: u32 = 6;
-
-/// Bit v of word i is digit i of v in base two.
-const ALTERNATING: [u64; 6] = [
-    0xaaaa_aaaa_aaaa_aaaa,
-    0xcccc_cccc_cccc_cccc,
-    0xf0f0_f0f0_f0f0_f0f0,
-    0xff00_ff00_ff00_ff00,
-    0xffff_0000_ffff_0000,
-    0xffff_ffff_0000_0000,
-];
-
-fn alternating(input: u32) -> u64
-    requires { input < 6 }
-    ensures { (v : ℕ) → v < 64 → word_bit v result ≡ (v / 2 ^ input % 2 == 1) }
-{
-    ALTERNATING[input as usize]
-}
 
 /// 512 vectors, a block of eight words for each input: all vectors of at most six inputs, else some that a generator draws.
 ///

@@ -85,13 +85,3 @@ FillsIn-outputs net values vector ordered len fills =
     let signals : length (with_tri_gates (Zero ∷ values) net.gates) ≡ 1 + net.inputs + length net.gates = omega (arith, whole.places, length-with_gates (false ∷ vector) net.gates, inputs) in
     let below : All (λ l. signal_of l < length (with_tri_gates (Zero ∷ values) net.gates)) net.outputs = λ k d h. omega (arith, signals, ordered.outputs k d h) in
     FillsIn-literals (with_tri_gates (Zero ∷ values) net.gates) (with_gates (false ∷ vector) net.gates) net.outputs whole below
-
-pub length-with_tri_gates : (values : List Tri) (gates : List Gate) → length (with_tri_gates values gates) ≡ length values + length gates
-length-with_tri_gates values [] = omega arith
-length-with_tri_gates values (gate ∷ gates) =
-    omega (arith, length-with_tri_gates (values ++ tri_gate values gate ∷ []) gates, length_push values (tri_gate values gate))
-
--- there is a value for each signal, so each output has one
-pub outputs_have_values : (net : Net) (values : List Tri) → IsOrdered net → length values ≡ net.inputs → All (λ output. signal_of output < length (with_tri_gates (Zero ∷ values) net.gates)) net.outputs
-outputs_have_values net values ordered len k d h =
-    omega (arith, ordered.outputs k d h, length-with_tri_gates (Zero ∷ values) net.gates, len)

@@ -1,13 +1,13 @@
 -- One bit of each word: the gates of words are the gates of bits.
-use Rattle.std.proofs.Common.{ℕ, zero, suc, cond, ◌%◌, ◌+◌, ◌<◌, ◌≡◌, ◌^◌, ◌-◌, ◌⊎◌, Bool, true, false, ◌&&◌, ◌||◌, eqb, max, bit_or, List, [], ◌∷◌, ◌++◌, get_or, map, refl, ap, ◌∙◌, inl, inr, arith, bit_and, bit_xor, min}
+use Rattle.std.proofs.Common.{ℕ, zero, suc, cond, ◌%◌, ◌+◌, ◌<◌, ◌≡◌, ◌^◌, ◌-◌, ◌⊎◌, Bool, true, false, ◌&&◌, ◌||◌, eqb, max, bit_or, List, [], ◌∷◌, get_or, map, refl, ap, ◌∙◌, inl, inr, arith, bit_and, bit_xor, min}
 use Rattle.std.specs.Int.{bit_at}
-use Rattle.std.proofs.lemmas.List.{map_push}
 use Rattle.std.proofs.lemmas.Nat.Bits.{bit_at_and, bit_at_or, bit_at_xor, bit_at_ones, bit_at-zero, bit_at-lt}
-use Rattle.circuits.specs.declared.netlist.Lit.{Lit}
 use Rattle.circuits.specs.declared.netlist.Gate.{Gate}
-use Rattle.circuits.specs.Literals.{bit, differ, signal_of, is_negated, literal_bit}
-use Rattle.circuits.specs.Netlists.{Net, gate_bit, with_gates, function_of}
-use Rattle.word_sim.specs.Columns.{word_bit, lane, literal_word, gate_word, with_gate_words}
+use Rattle.circuits.specs.Literals.{bit, differ, literal_bit}
+use Rattle.circuits.specs.Netlists.{Net, with_gates, function_of}
+use Rattle.net_core.specs.Values.{KeepsOperations, bits, with_values, words}
+use Rattle.net_core.proofs.ValueLemmas.{gates_kept, outputs_kept, with_bits}
+use Rattle.word_sim.specs.Columns.{word_bit, lane, literal_word, with_gate_words}
 
 pub two : (n : ℕ) → n < 2 → (n ≡ 0) ⊎ (n ≡ 1)
 two zero h = inl refl
@@ -49,32 +49,24 @@ inverted-bit v a true h =
 inverted-bit v a false h =
     ap (λ n. eqb n 1) (bit_at_xor a 0 v) ∙ (ap (λ n. eqb ((bit_at a v + n) % 2) 1) (bit_at-zero v) ∙ none_more (bit_at a v) (bit_at-lt a v))
 
-pub lane-bit : (v : ℕ) (words : List ℕ) (i : ℕ) → word_bit v (get_or words i 0) ≡ bit (lane v words) i
+pub lane-bit : (v : ℕ) (row : List ℕ) (i : ℕ) → word_bit v (get_or row i 0) ≡ bit (lane v row) i
 lane-bit v [] i = zero-bit v
-lane-bit v (word ∷ words) zero = refl
-lane-bit v (word ∷ words) (suc i) = lane-bit v words i
+lane-bit v (word ∷ row) zero = refl
+lane-bit v (word ∷ row) (suc i) = lane-bit v row i
 
-pub lane-literal : (v : ℕ) (words : List ℕ) (literal : Lit) → v < 64 → word_bit v (literal_word words literal) ≡ literal_bit (lane v words) literal
-lane-literal v words literal h =
-    inverted-bit v (get_or words (signal_of literal) 0) (is_negated literal) h ∙ ap (λ b. differ b (is_negated literal)) (lane-bit v words (signal_of literal))
+-- the operations of words are those of bits
+word-bits : (v : ℕ) → v < 64 → KeepsOperations words bits (word_bit v)
+word-bits v h = record {
+  absent = zero-bit v;
+  signed = λ word negated. inverted-bit v word negated h;
+  and = λ one other. and-bit v one other;
+}
 
-pub lane-gate : (v : ℕ) (words : List ℕ) (gate : Gate) → v < 64 → word_bit v (gate_word words gate) ≡ gate_bit (lane v words) gate
-lane-gate v words gate h =
-    and-bit v (literal_word words gate.a) (literal_word words gate.b) ∙ (ap (λ b. b && word_bit v (literal_word words gate.b)) (lane-literal v words gate.a h) ∙ ap (λ b. literal_bit (lane v words) gate.a && b) (lane-literal v words gate.b h))
-
-pub lane-gates : (v : ℕ) (words : List ℕ) (gates : List Gate) → v < 64 → lane v (with_gate_words words gates) ≡ with_gates (lane v words) gates
-lane-gates v words [] h = refl
-lane-gates v words (gate ∷ gates) h =
-    let next = map_push (word_bit v) words (gate_word words gate) ∙ ap (λ b. lane v words ++ b ∷ []) (lane-gate v words gate h) in
-    lane-gates v (words ++ gate_word words gate ∷ []) gates h ∙ ap (λ bits. with_gates bits gates) next
-
-pub lane-literals : (v : ℕ) (words : List ℕ) (literals : List Lit) → v < 64 → lane v (map (literal_word words) literals) ≡ map (literal_bit (lane v words)) literals
-lane-literals v words [] h = refl
-lane-literals v words (literal ∷ literals) h =
-    ap (λ b. b ∷ lane v (map (literal_word words) literals)) (lane-literal v words literal h) ∙ ap (λ bits. literal_bit (lane v words) literal ∷ bits) (lane-literals v words literals h)
+pub lane-gates : (v : ℕ) (row : List ℕ) (gates : List Gate) → v < 64 → lane v (with_gate_words row gates) ≡ with_gates (lane v row) gates
+lane-gates v row gates h = gates_kept words bits (word_bit v) (word-bits v h) row gates ∙ with_bits (lane v row) gates
 
 -- the outputs' words hold the outputs' bits
 pub lane-function : (v : ℕ) (net : Net) (row : List ℕ) → v < 64 → lane v (map (literal_word (with_gate_words (0 ∷ row) net.gates)) net.outputs) ≡ function_of net (lane v row)
 lane-function v net row h =
     let constant : lane v (0 ∷ row) ≡ false ∷ lane v row = ap (λ b. b ∷ lane v row) (zero-bit v) in
-    lane-literals v (with_gate_words (0 ∷ row) net.gates) net.outputs h ∙ ap (λ bits. map (literal_bit bits) net.outputs) (lane-gates v (0 ∷ row) net.gates h ∙ ap (λ bits. with_gates bits net.gates) constant)
+    outputs_kept words bits (word_bit v) (word-bits v h) net (0 ∷ row) ∙ ap (λ values. map (literal_bit values) net.outputs) (ap (λ values. with_values bits values net.gates) constant ∙ with_bits (false ∷ lane v row) net.gates)

@@ -1,3 +1,4 @@
+pub mod DigitLemmas
 pub mod DualRail
 pub mod Fillings
 pub mod Lanes

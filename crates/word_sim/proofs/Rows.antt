@@ -1,16 +1,15 @@
 -- Rows of a table: one word of each column.
-use Rattle.std.proofs.Common.{ℕ, ◌+◌, ◌-◌, ◌<◌, ◌≤◌, ◌≡◌, ◌≢◌, List, [], ◌∷◌, ◌++◌, length, get_or, replicate, set, take, drop, map, sym, ap, subst, ◌∙◌, inl, inr, arith, bit_and}
+use Rattle.std.proofs.Common.{ℕ, ◌+◌, ◌-◌, ◌<◌, ◌≤◌, ◌≡◌, ◌≢◌, List, [], ◌∷◌, ◌++◌, length, get_or, replicate, set, take, drop, map, refl, sym, ap, subst, ◌∙◌, inl, inr, arith, bit_and}
 use Rattle.std.specs.List.{refill}
 use Rattle.std.specs.Simd.Lanes.{chunk, put_chunk}
 use Rattle.std.proofs.lemmas.Bool.{cases_lt}
-use Rattle.std.proofs.lemmas.List.{length-map, map-set, take_more, take_more_set, get_or-map, get_or-set_same, get_or-set_other, get_or-take, get_or-drop, get_or-replicate, get_or_default, set-get_or, map_more, at_drop_more, take_at}
+use Rattle.std.proofs.lemmas.List.{length-map, map-set, take_more, take_more_set, get_or-map, get_or-set_same, get_or-set_other, get_or-take, get_or-drop, get_or-replicate, get_or_default, set-get_or, map_more, take_at}
 use Rattle.std.proofs.lemmas.Simd.{get_or-chunk, get_or-put_chunk_at, get_or-put_chunk_below, length-put_chunk}
-use Rattle.circuits.specs.declared.netlist.Gate.{Gate}
 use Rattle.circuits.specs.declared.netlist.Lit.{Lit}
-use Rattle.circuits.specs.Literals.{is_negated, signal_of}
 use Rattle.circuits.specs.Netlists.{Net, function_of}
-use Rattle.net_core.specs.Graph.{AreInOrder}
-use Rattle.word_sim.specs.Columns.{AreEvaluated, IsTable, Table, gate_word, lane, row_of, signed_word, word_of, vector_at, literal_word, with_gate_words}
+use Rattle.net_core.specs.Values.{KeepsOperations, blocks, words}
+use Rattle.net_core.proofs.ValueLemmas.{lane_of_each, lane_of_signed}
+use Rattle.word_sim.specs.Columns.{AreEvaluated, IsTable, Table, lane, row_of, word_of, vector_at, literal_word}
 
 -- the row with one more word
 pub put-step : (columns : List (List ℕ)) (values : List ℕ) (k w word : ℕ) → k < length columns → length columns < length values → word ≡ word_of w (get_or columns k []) → take (k + 1) values ≡ 0 ∷ take k (row_of columns w) → take (k + 1 + 1) (set values (k + 1) word) ≡ 0 ∷ take (k + 1) (row_of columns w)
@@ -71,26 +70,13 @@ pub take-step : (row next values : List ℕ) (outputs : List Lit) (k word : ℕ)
 take-step row next values outputs k word d here as_many is_set is so_far =
     ap (take (k + 1)) is_set ∙ (take_more_set row k word (omega (arith, here, as_many)) ∙ (ap (λ v. v ++ word ∷ []) so_far ∙ (ap (λ n. map (literal_word values) (take k outputs) ++ n ∷ []) is ∙ sym (map_more (literal_word values) outputs k d here))))
 
--- A gate's word is that of its operands' words, which stand before its own.
-operand-taken : (row : List ℕ) (end : ℕ) (literal : Lit) → signal_of literal < end → literal_word (take end row) literal ≡ literal_word row literal
-operand-taken row end literal h = ap (λ n. signed_word n (is_negated literal)) (get_or-take end row (signal_of literal) 0 h)
-
-gate-taken : (row : List ℕ) (end : ℕ) (gate : Gate) → signal_of gate.a < end → signal_of gate.b < end → gate_word (take end row) gate ≡ gate_word row gate
-gate-taken row end gate h k =
-    ap (λ n. bit_and n (literal_word (take end row) gate.b)) (operand-taken row end gate.a h) ∙ ap (bit_and (literal_word row gate.a)) (operand-taken row end gate.b k)
-
--- the gates' words so far, and one more
-pub gates-step : (values : List (List ℕ)) (gates : List Gate) (first t l : ℕ) (d : Gate) (block : List ℕ) → t < length gates → first + length gates ≡ length values → AreInOrder first gates → word_of l block ≡ gate_word (row_of values l) (get_or gates t d) → with_gate_words (take (first + (t + 1)) (row_of (set values (first + t) block) l)) (drop (t + 1) gates) ≡ with_gate_words (take (first + t) (row_of values l)) (drop t gates)
-gates-step values gates first t l d block here room order is =
-    let row = row_of values l in
-    let s = first + t in
-    let gate = get_or gates t d in
-    let within : s < length row = omega (arith, here, room, length-map values (word_of l)) in
-    let word : word_of l block ≡ gate_word (take s row) gate = is ∙ sym (gate-taken row s gate (order.first_operands t d here) (order.second_operands t d here)) in
-    let e : first + (t + 1) ≡ s + 1 = omega arith in
-    let more : take (first + (t + 1)) (row_of (set values s block) l) ≡ take s row ++ gate_word (take s row) gate ∷ [] =
-    ap (λ n. take n (row_of (set values s block) l)) e ∙ (ap (take (s + 1)) (map-set (word_of l) values s block) ∙ (take_more_set row s (word_of l block) within ∙ ap (λ n. take s row ++ n ∷ []) word)) in
-    ap (λ v. with_gate_words v (drop (t + 1) gates)) more ∙ sym (at_drop_more (with_gate_words (take s row)) gates t d here)
+-- A lane of what blocks have is what the words of that lane have.
+pub block-words : (l : ℕ) → l < 8 → KeepsOperations (blocks 8) words (word_of l)
+block-words l h = record {
+  absent = refl;
+  signed = λ block negated. lane_of_signed 8 block negated l h;
+  and = λ one other. lane_of_each 8 bit_and one other l h;
+}
 
 -- the vectors of some words more have their outputs
 pub AreEvaluated-more : (net : Net) (inputs outputs next : Table) (word more : ℕ) → AreEvaluated net inputs word outputs → IsTable next → next.words ≡ outputs.words → length next.columns ≡ length outputs.columns → ((w : ℕ) → w < word → row_of next.columns w ≡ row_of outputs.columns w) → ((l v : ℕ) → l < more → v < 64 → vector_at next (word + l) v ≡ function_of net (vector_at inputs (word + l) v)) → AreEvaluated net inputs (word + more) next

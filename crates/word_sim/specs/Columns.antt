@@ -1,9 +1,11 @@
 -- Many vectors at once, 64 in a word (parallel-pattern simulation, as in textbooks of digital testing).
-use Rattle.std.specs.Prelude.{◌≡◌, ◌<◌, ℕ, ◌-◌, ◌/◌, ◌%◌, ◌^◌, ◌==◌, Bool, List, [], ◌∷◌, ◌++◌, length, map, All, slice_index_or, if◌then◌else◌, bit_and, bit_xor}
+use Rattle.std.specs.Prelude.{◌≡◌, ◌<◌, ℕ, ◌/◌, ◌%◌, ◌^◌, ◌==◌, Bool, List, length, map, All, slice_index_or, bit_and}
 use Rattle.circuits.specs.declared.netlist.Lit.{Lit}
 use Rattle.circuits.specs.declared.netlist.Gate.{Gate}
 use Rattle.circuits.specs.Literals.{signal_of, is_negated}
 use Rattle.circuits.specs.Netlists.{Net, function_of}
+use Rattle.net_core.specs.Values.{with_values, words}
+pub use Rattle.net_core.specs.Values.{signed_word}
 
 -- A number of words, and a list of columns, each of n words.
 pub record Table : Type 0 where
@@ -32,10 +34,6 @@ row_of columns w = map (word_of w) columns
 abbrev pub vector_at : Table → ℕ → ℕ → List Bool
 vector_at table w v = lane v (row_of table.columns w)
 
--- the bits of a word, all inverted where a sign says so
-abbrev pub signed_word : ℕ → Bool → ℕ
-signed_word word negated = bit_xor word (if negated then 2 ^ 64 - 1 else 0)
-
 -- a literal's word: its signal's word, with its sign
 abbrev pub literal_word : List ℕ → Lit → ℕ
 literal_word words literal = signed_word (word_of (signal_of literal) words) (is_negated literal)
@@ -45,8 +43,7 @@ gate_word words gate = bit_and (literal_word words gate.a) (literal_word words g
 
 -- the words so far, continued by one word for each gate
 abbrev pub with_gate_words : List ℕ → List Gate → List ℕ
-with_gate_words words [] = words
-with_gate_words words (gate ∷ gates) = with_gate_words (words ++ gate_word words gate ∷ []) gates
+with_gate_words = with_values words
 
 -- A table has a column for each output, and on the vectors of the first words the outputs' bits.
 pub record AreEvaluated (net : Net) (inputs : Table) (done : ℕ) (outputs : Table) : Type 0 where

@@ -1,9 +1,7 @@
 -- Three values as two bits, one where the value is 1 and one where it is 0 (dual-rail encoding, as in textbooks of digital
 -- testing), on many vectors at once.
-use Rattle.std.specs.Prelude.{ℕ, Bool, true, false, List, ◌&&◌, ◌||◌, map, slice_index_or, if◌then◌else◌}
-use Rattle.circuits.specs.declared.netlist.Lit.{Lit}
-use Rattle.circuits.specs.declared.netlist.Gate.{Gate}
-use Rattle.circuits.specs.Literals.{signal_of, is_negated}
+use Rattle.std.specs.Prelude.{ℕ, Bool, true, false, List, [], ◌&&◌, ◌||◌, map, if◌then◌else◌, bit_and, bit_or}
+use Rattle.net_core.specs.Values.{Operations, each_lane}
 use Rattle.word_sim.specs.declared.rails.Rails.{Rails}
 use Rattle.word_sim.specs.declared.tri.Tri.{Tri}
 use Rattle.word_sim.specs.declared.tri.Tri.TheVariants.{Zero, One, X}
@@ -41,8 +39,16 @@ rail_and rail other = record { one = rail.one && other.one; zero = rail.zero || 
 abbrev pub signed_rail : Rail → Bool → Rail
 signed_rail rail negated = if negated then rail_not rail else rail
 
-abbrev pub rail_literal : List Rail → Lit → Rail
-rail_literal rails literal = signed_rail (slice_index_or rails (signal_of literal) (rail_of X)) (is_negated literal)
+abbrev pub rail_values : Operations Rail
+rail_values = record { absent = rail_of X; signed = signed_rail; and = rail_and }
 
-abbrev pub rail_gate : List Rail → Gate → Rail
-rail_gate rails gate = rail_and (rail_literal rails gate.a) (rail_literal rails gate.b)
+-- the same of all vectors at once
+abbrev pub signed_rails : Rails → Bool → Rails
+signed_rails rails negated = if negated then record { ones = rails.zeros; zeros = rails.ones } else rails
+
+abbrev pub rails : Operations Rails
+rails = record {
+  absent = record { ones = []; zeros = [] };
+  signed = signed_rails;
+  and = λ one other. record { ones = each_lane 8 bit_and one.ones other.ones; zeros = each_lane 8 bit_or one.zeros other.zeros };
+}

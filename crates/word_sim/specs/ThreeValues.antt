@@ -1,9 +1,10 @@
 -- Simulation by three values: 0, 1 and X, which stands for either (Eichelberger, IBM J. Res. Dev. 1965).
-use Rattle.std.specs.Prelude.{◌≡◌, ℕ, ◌<◌, Bool, true, false, List, [], ◌∷◌, ◌++◌, length, map, slice_index_or, if◌then◌else◌}
+use Rattle.std.specs.Prelude.{◌≡◌, ℕ, ◌<◌, Bool, true, false, List, ◌∷◌, length, map, slice_index_or, if◌then◌else◌}
 use Rattle.circuits.specs.declared.netlist.Lit.{Lit}
 use Rattle.circuits.specs.declared.netlist.Gate.{Gate}
 use Rattle.circuits.specs.Literals.{bit, signal_of, is_negated}
 use Rattle.circuits.specs.Netlists.{Net}
+use Rattle.net_core.specs.Values.{Operations, with_values}
 use Rattle.word_sim.specs.declared.tri.Tri.{Tri}
 use Rattle.word_sim.specs.declared.tri.Tri.TheVariants.{Zero, One, X}
 
@@ -25,6 +26,9 @@ tri_and X Zero = Zero
 tri_and X One = X
 tri_and X X = X
 
+abbrev pub tris : Operations Tri
+tris = record { absent = X; signed = λ value negated. if negated then tri_not value else value; and = tri_and }
+
 -- the literal's value where each signal has the value given
 abbrev pub tri_literal : List Tri → Lit → Tri
 tri_literal v literal =
@@ -35,8 +39,7 @@ tri_gate v gate = tri_and (tri_literal v gate.a) (tri_literal v gate.b)
 
 -- the values so far, continued by one value for each gate
 abbrev pub with_tri_gates : List Tri → List Gate → List Tri
-with_tri_gates v [] = v
-with_tri_gates v (gate ∷ gates) = with_tri_gates (v ++ tri_gate v gate ∷ []) gates
+with_tri_gates = with_values tris
 
 -- each output's value where the inputs have these values
 abbrev pub tri_outputs : Net → List Tri → List Tri

@@ -1,10 +1,10 @@
 //! Blocks of eight words, which stand for 512 vectors.
 
-ghost use Rattle.std.specs.Prelude.{◌≡◌, ◌<◌, ◌-◌, ◌^◌, ◌&&◌, ℕ, bit_and, if◌then◌else◌, length};
+ghost use Rattle.std.specs.Prelude.{◌≡◌, ◌<◌, ◌&&◌, ℕ, bit_and, length};
 ghost use Rattle.circuits.specs.Literals.{differ, signal_of};
-ghost use Rattle.word_sim.specs.Columns.{gate_word, literal_word, row_of, signed_word, word_bit, word_of};
+ghost use Rattle.word_sim.specs.Columns.{literal_word, row_of, signed_word, word_bit, word_of};
 
-use net_core::{Gate, Lit};
+use net_core::{Lit, SignalValue, literal_value};
 use std::simd::prelude::*;
 
 /// How many words are evaluated at once.
@@ -31,33 +31,7 @@ pub fn signed_lanes(lanes: u64x8, flip: bool) -> u64x8
     ensures bits { (l v : ℕ) → l < 8 → v < 64
         → word_bit v (word_of l result) ≡ differ (word_bit v (word_of l lanes)) flip }
 {
-    // an exclusive or with a mask, so that no branch depends on the sign
-    lanes ^ u64x8::splat(mask(flip))
-}
-
-/// All ones where the flag is set.
-#[inline(always)]
-fn mask(flip: bool) -> u64
-    ensures { result ≡ (if flip then 2 ^ 64 - 1 else 0) }
-{
-    if flip { u64::MAX } else { 0 }
-}
-
-/// The gate's block where each signal has the block that `values` gives it: each word is the AND of its two literals'
-/// words.
-#[inline(always)]
-pub fn gate_block(values: &[u64x8], gate: Gate) -> u64x8
-    requires first_operand { signal_of gate.a < length values.now }
-    requires second_operand { signal_of gate.b < length values.now }
-    ensures lanes { length result ≡ 8 }
-    ensures words { (l : ℕ) → l < 8 → word_of l result ≡ gate_word (row_of values.now l) gate }
-{
-    and_lanes(
-        values[gate.a.signal() as usize],
-        gate.a.is_negated(),
-        values[gate.b.signal() as usize],
-        gate.b.is_negated(),
-    )
+    lanes.signed(flip)
 }
 
 /// The literal's block where each signal has the block that `values` gives it: its signal's block, all bits inverted
@@ -68,5 +42,5 @@ pub fn literal_block(values: &[u64x8], literal: Lit) -> u64x8
     ensures lanes { length result ≡ 8 }
     ensures words { (l : ℕ) → l < 8 → word_of l result ≡ literal_word (row_of values.now l) literal }
 {
-    signed_lanes(values[literal.signal() as usize], literal.is_negated())
+    literal_value(values, literal)
 }

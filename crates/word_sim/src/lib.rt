@@ -2,6 +2,7 @@
 #![tactic(auto)]
 
 mod blocks;
+mod digits;
 pub mod laws;
 mod mixing;
 mod rails;
@@ -10,7 +11,8 @@ mod three_values;
 mod tri;
 mod words;
 
-pub use blocks::{and_lanes, gate_block, literal_block, signed_lanes};
+pub use blocks::{and_lanes, literal_block, signed_lanes};
+pub use digits::alternating;
 pub use mixing::mix;
 pub use rails::{Rails, rails_eval};
 pub use simulation::{gate_word, literal_word, run_gate_blocks, simulate};

@@ -6,9 +6,9 @@ ghost use Rattle.circuits.specs.Netlists.{function_of, signals_of};
 ghost use Rattle.net_core.specs.Graph.{AreInOrder};
 ghost use Rattle.word_sim.specs.Columns.{AreEvaluated, IsTable, vector_at, row_of, literal_word, gate_word, with_gate_words};
 
-use crate::blocks::{LANES, gate_block, literal_block};
+use crate::blocks::{LANES, literal_block};
 use crate::words::Words;
-use net_core::{Gate, Graph, Lit};
+use net_core::{Gate, Graph, Lit, eval_gates, gate_value, literal_value};
 use std::alloc::{AllocError, Global};
 use std::simd::prelude::*;
 
@@ -125,10 +125,7 @@ pub fn run_gate_blocks(gates: &[Gate], first: usize, values: &mut [u64x8])
         → row_of values.new l ≡ with_gate_words (take first (row_of values.old l)) gates.now }
     ensures room { length values.new ≡ length values.old }
 {
-    for t in 0..gates.len() {
-        let block = gate_block(values, gates[t]);
-        values[first + t] = block;
-    }
+    eval_gates(gates, first, values);
 }
 
 /// Writes the outputs' blocks into eight rows of the table.
@@ -161,7 +158,7 @@ fn simulate_row(graph: &Graph, inputs: &Words, word: usize, values: &mut [u64], 
 {
     let gates = graph.gates();
     put_row(inputs, word, values);
-    run_gates(gates, inputs.columns() + 1, values);
+    eval_gates(gates, inputs.columns() + 1, values);
     take_row(graph.outputs(), values, word, outputs);
 }
 
@@ -179,26 +176,13 @@ fn put_row(inputs: &Words, word: usize, values: &mut [u64])
     }
 }
 
-/// Gives each gate its word, in order, from the signal `first` on.
-fn run_gates(gates: &[Gate], first: usize, values: &mut [u64])
-    requires order { AreInOrder first gates.now }
-    requires room { first + length gates.now ≡ length values.old }
-    ensures row { values.new ≡ with_gate_words (take first values.old) gates.now }
-    ensures room { length values.new ≡ length values.old }
-{
-    for t in 0..gates.len() {
-        let word = gate_word(values, gates[t]);
-        values[first + t] = word;
-    }
-}
-
 /// The gate's word where each signal has the word that `values` gives it: the AND of its two literals' words.
 pub fn gate_word(values: &[u64], gate: Gate) -> u64
     requires first_operand { signal_of gate.a < length values.now }
     requires second_operand { signal_of gate.b < length values.now }
     ensures { result ≡ gate_word values.now gate }
 {
-    literal_word(values, gate.a) & literal_word(values, gate.b)
+    gate_value(values, gate)
 }
 
 /// The literal's word where each signal has the word that `values` gives it: its signal's word, all 64 bits inverted where
@@ -207,8 +191,7 @@ pub fn literal_word(values: &[u64], literal: Lit) -> u64
     requires { signal_of literal < length values.now }
     ensures { result ≡ literal_word values.now literal }
 {
-    let inverted = if literal.is_negated() { u64::MAX } else { 0 };
-    values[literal.signal() as usize] ^ inverted
+    literal_value(values, literal)
 }
 
 /// Writes the outputs' words into a row of the table.

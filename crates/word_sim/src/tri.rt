@@ -1,7 +1,9 @@
 //! The three values.
 
 ghost use Rattle.std.specs.Prelude.{◌≡◌};
-ghost use Rattle.word_sim.specs.ThreeValues.{tri_not, tri_and};
+ghost use Rattle.word_sim.specs.ThreeValues.{tri_not};
+
+use net_core::SignalValue;
 
 /// A bit, or X, which stands for either.
 #[derive(Clone, Copy, Debug, Drop, PartialEq, Eq, Hash)]
@@ -25,11 +27,19 @@ impl Tri {
             Tri::X => Tri::X,
         }
     }
+}
 
-    /// The AND of two values: 0 where one of them is 0, 1 where both are 1, and else X.
-    pub fn and(self, other: Tri) -> Tri
-        ensures { result ≡ tri_and self other }
-    {
+impl SignalValue for Tri {
+    ghost use Rattle.word_sim.specs.ThreeValues.{tris};
+
+    ghost operations = { tris };
+
+    fn signed(self, flip: bool) -> Tri {
+        if flip { self.inverse() } else { self }
+    }
+
+    /// 0 where one of them is 0, 1 where both are 1, and else X.
+    fn and(self, other: Tri) -> Tri {
         match (self, other) {
             (Tri::Zero, _) | (_, Tri::Zero) => Tri::Zero,
             (Tri::One, Tri::One) => Tri::One,

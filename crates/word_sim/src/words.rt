@@ -46,22 +46,6 @@ impl Words {
         })
     }
 
-    /// An equal table.
-    ///
-    /// # Errors
-    ///
-    /// Only when out of memory.
-    pub fn copy(&self) -> Result<Words, AllocError>
-        ensures copy { IfOk result (λ table. table ≡ self.now) }
-        ensures table { IfOk result IsTable }
-    {
-        let columns = self.columns.clone()?;
-        Ok(Words {
-            words: self.words,
-            columns,
-        })
-    }
-
     /// How many words each column has.
     pub fn words(&self) -> usize
         ensures value { result ≡ self.now.words }

@@ -13,4 +13,4 @@ returns-clause-vectors c =
     let taken = c.take_row.ensures in
     AreEvaluated-more net inputs c.args.outputs.now c.take_row.new.table word 1 c.requires.start taken.table taken.words taken.columns taken.others (λ l v less h.
     let e : word + l ≡ word = omega (arith, less) in
-    rw (e, taken.row, c.outputs.ensures.value, c.run_gates.ensures.row, c.gates-gates.ensures.value, c.columns.ensures.value, c.put_row.ensures.row) (lane-function v net (row_of inputs.columns word) h))
+    rw (e, taken.row, c.outputs.ensures.value, c.eval_gates.ensures.values, c.gates-gates.ensures.value, c.columns.ensures.value, c.put_row.ensures.row) (lane-function v net (row_of inputs.columns word) h))

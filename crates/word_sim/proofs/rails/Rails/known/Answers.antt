@@ -4,4 +4,4 @@ use Rattle.word_sim.proofs.DualRail.{known-rail}
 use Rattle.word_sim.proofs.rails.Rails.known.Goals as goal
 
 pub returns : goal.returns
-returns c w v h l = known-rail (word_bit v (word_of w c.args.block)) (word_bit v (word_of w c.and_lanes.result)) (c.and_lanes.ensures.bits w v h l)
+returns c w v h l = known-rail (word_bit v (word_of w c.args.block)) (word_bit v (word_of w c.signed_lanes.result)) (c.signed_lanes.ensures.bits w v h l)
