@@ -1,3 +1,4 @@
+pub mod Chains
 pub mod Covering
 pub mod Vectors
 pub use Rattle.account_core.specs.Steps

@@ -1,8 +1,10 @@
 //! The bans that are held, and how they are looked up.
 
 ghost use Rattle.std.specs.Prelude.{◌≡◌, ◌↔◌, [], ◌∷◌, ◌++◌, All, Contains, IfNone, IfOk, IfSome, IsTrue, OnErr, OnOk, length};
+ghost use Rattle.ban_book.specs.Chains.{HasNoneWithin, first_of};
 ghost use Rattle.ban_book.specs.Covering.{Covers, IsWithin};
 
+use crate::heads::Heads;
 use account_core::Ban;
 use circuits::Pair;
 use items::Items;
@@ -11,18 +13,37 @@ use std::marker::Model;
 
 /// Bans in the order in which they came, each under its number, from 0. Contracts see it as the list of the bans.
 /// Whether their steps are valid is for those to say who see the circuits and the facts.
-#[derive(Debug, Drop)]
+///
+/// A ban is found by its first pair: the bans that have it as theirs are threaded from the last back to the first.
+#[derive(Debug)]
 pub struct BanBook {
     bans: Vec<Ban>,
+    heads: Heads,
+    /// For each ban the one before it with the same first pair.
+    before: Vec<Option<u64>>,
+}
+
+// By hand, and so one call wherever a value ends: a derived drop is expanded there, field by field, and makes proofs long.
+impl Drop for BanBook {
+    fn drop(self) {
+        let BanBook {
+            bans: _bans,
+            heads: _heads,
+            before: _before,
+        } = self;
+    }
 }
 
 impl Model for BanBook {
     ghost use Rattle.std.specs.Prelude.{List};
     ghost use Rattle.account_core.specs.declared.step.Ban.{Ban as AnyBan};
+    ghost use Rattle.ban_book.specs.Chains.{AreChained, last_of};
 
     ghost Value = { List AnyBan };
 
     ghost view = { λ a. a.bans.items };
+
+    ghost invariant = { λ a. AreChained a.bans.items (last_of a.heads.empty a.heads.by_first.entries) a.before.items };
 }
 
 impl BanBook {
@@ -32,6 +53,8 @@ impl BanBook {
     {
         BanBook {
             bans: Vec::new(alloc),
+            heads: Heads::new(alloc),
+            before: Vec::new(alloc),
         }
     }
 
@@ -41,8 +64,12 @@ impl BanBook {
         ensures held { OnOk result (self.new ≡ self.old ++ ban ∷ []) }
         ensures refused { OnErr result (self.new ≡ self.old) }
     {
+        self.bans.reserve(1)?;
+        self.before.reserve(1)?;
         let number = self.bans.len() as u64;
-        self.bans.push(ban)?;
+        let before = self.heads.put(first_of(&ban), number)?;
+        self.before.push_reserved(before);
+        self.bans.push_reserved(ban);
         Ok(number)
     }
 
@@ -52,7 +79,30 @@ impl BanBook {
         ensures found { IfSome result (Covers self.now pairs.now) }
         ensures none { IfNone result (All (λ ban. IsWithin pairs.now ban → ⊥) self.now) }
     {
-        covering(&self.bans, pairs)
+        if let Some(ban) = self.last_within(None, pairs) {
+            return Some(ban);
+        }
+        for pair in pairs.iter() {
+            if let Some(ban) = self.last_within(Some(*pair), pairs) {
+                return Some(ban);
+            }
+        }
+        None
+    }
+
+    // The last ban within the pairs of those with this first pair, or of those without pairs.
+    fn last_within(&self, first: Option<Pair>, pairs: &[Pair]) -> Option<u64>
+        ensures found { IfSome result (Covers self.now pairs.now) }
+        ensures none { IfNone result (HasNoneWithin self.now first pairs.now) }
+    {
+        let mut next = self.heads.last(first);
+        while let Some(number) = next {
+            if is_within(pairs, &self.bans[number as usize]) {
+                return Some(number);
+            }
+            next = self.before[number as usize];
+        }
+        None
     }
 
     /// The bans, in the order of their numbers.
@@ -66,22 +116,19 @@ impl BanBook {
     pub fn into_bans(self) -> Items<Ban>
         ensures { result ≡ self }
     {
-        let BanBook { bans } = self;
+        let BanBook {
+            bans,
+            heads: _heads,
+            before: _before,
+        } = self;
         Items::from_vec(bans)
     }
 }
 
-// The first of some bans that is within the pairs.
-fn covering(bans: &[Ban], pairs: &[Pair]) -> Option<u64>
-    ensures found { IfSome result (Covers bans.now pairs.now) }
-    ensures none { IfNone result (All (λ ban. IsWithin pairs.now ban → ⊥) bans.now) }
+fn first_of(ban: &Ban) -> Option<Pair>
+    ensures { result ≡ first_of ban.now }
 {
-    for (number, ban) in bans.iter().enumerate() {
-        if is_within(pairs, ban) {
-            return Some(number as u64);
-        }
-    }
-    None
+    ban.pairs.first().copied()
 }
 
 // Whether all pairs of a ban are among the given ones.

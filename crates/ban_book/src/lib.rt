@@ -2,5 +2,6 @@
 #![tactic(auto)]
 
 mod book;
+mod heads;
 
 pub use book::BanBook;
