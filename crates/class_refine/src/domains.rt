@@ -61,7 +61,7 @@ impl Domains {
         let ports = 2 * inputs as usize + 2 * outputs as usize;
         let places = no_places(alloc, count)?;
         let holders = no_pairs(alloc, ports)?;
-        let gone = zeros(alloc, ports)?;
+        let gone = vec![in alloc; 0; ports]?;
         Ok(Domains {
             inputs,
             outputs,
@@ -259,10 +259,4 @@ fn no_pairs(alloc: Global, count: usize) -> Result<Vec<Option<Pair>>, AllocError
     ensures { IfOk result (λ pairs. pairs.items ≡ replicate count None) }
 {
     vec![in alloc; None; count]
-}
-
-fn zeros(alloc: Global, count: usize) -> Result<Vec<usize>, AllocError>
-    ensures { IfOk result (λ counts. counts.items ≡ replicate count 0) }
-{
-    vec![in alloc; 0; count]
 }

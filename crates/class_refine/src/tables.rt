@@ -23,8 +23,9 @@ pub(crate) fn put_at_ports(
         (port_number inputs outputs First pair.kind pair.from) value)
         (port_number inputs outputs Second pair.kind pair.to) value }
 {
-    held[port_number(inputs, outputs, Side::First, pair.kind, pair.from)] = value;
-    held[port_number(inputs, outputs, Side::Second, pair.kind, pair.to)] = value;
+    let (first, second) = port_numbers(inputs, outputs, pair);
+    held[first] = value;
+    held[second] = value;
 }
 
 /// Counts one more for both ports of a pair.
@@ -35,14 +36,9 @@ pub(crate) fn count_at_ports(gone: &mut [usize], inputs: u32, outputs: u32, pair
     requires second { slice_index_or gone.old (port_number inputs outputs Second pair.kind pair.to) 0 < 2 ^ 63 }
     ensures { gone.new ≡ at_ports (λ count. count + 1) inputs outputs pair gone.old }
 {
-    count_one(
-        gone,
-        port_number(inputs, outputs, Side::First, pair.kind, pair.from),
-    );
-    count_one(
-        gone,
-        port_number(inputs, outputs, Side::Second, pair.kind, pair.to),
-    );
+    let (first, second) = port_numbers(inputs, outputs, pair);
+    count_one(gone, first);
+    count_one(gone, second);
 }
 
 fn count_one(gone: &mut [usize], port: usize)
@@ -59,14 +55,9 @@ pub(crate) fn uncount_at_ports(gone: &mut [usize], inputs: u32, outputs: u32, pa
     requires size { length gone.old ≡ 2 * inputs + 2 * outputs }
     ensures { gone.new ≡ at_ports (λ count. count - 1) inputs outputs pair gone.old }
 {
-    uncount_one(
-        gone,
-        port_number(inputs, outputs, Side::First, pair.kind, pair.from),
-    );
-    uncount_one(
-        gone,
-        port_number(inputs, outputs, Side::Second, pair.kind, pair.to),
-    );
+    let (first, second) = port_numbers(inputs, outputs, pair);
+    uncount_one(gone, first);
+    uncount_one(gone, second);
 }
 
 fn uncount_one(gone: &mut [usize], port: usize)
@@ -74,4 +65,18 @@ fn uncount_one(gone: &mut [usize], port: usize)
     ensures { gone.new ≡ slice_set gone.old port (slice_index_or gone.old port 0 - 1) }
 {
     gone[port] = gone[port].saturating_sub(1);
+}
+
+// The numbers of a pair's ports.
+fn port_numbers(inputs: u32, outputs: u32, pair: Pair) -> (usize, usize)
+    requires known { IsPairOf inputs outputs pair }
+    ensures first { result.0 ≡ port_number inputs outputs First pair.kind pair.from }
+    ensures first_within { result.0 < 2 * inputs + 2 * outputs }
+    ensures second { result.1 ≡ port_number inputs outputs Second pair.kind pair.to }
+    ensures second_within { result.1 < 2 * inputs + 2 * outputs }
+{
+    (
+        port_number(inputs, outputs, Side::First, pair.kind, pair.from),
+        port_number(inputs, outputs, Side::Second, pair.kind, pair.to),
+    )
 }
