@@ -25,7 +25,7 @@ pub fn add(needed: &mut Vec<Pair>, pair: Pair) -> Result<(), AllocError>
     Ok(())
 }
 
-// How many of the pairs stand before a pair.
+// How many of the pairs stand before a pair. It goes over the list, as putting the pair in does.
 fn place_of(pairs: &[Pair], pair: Pair) -> usize
     ensures within { result ≤ length pairs.now }
     ensures before { All (λ other. StandsBefore other pair) (take result pairs.now) }
