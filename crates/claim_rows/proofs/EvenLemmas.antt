@@ -96,23 +96,18 @@ whole_on graphs First one other first second = first
 whole_on graphs Second one other first second = second
 
 module _ (graphs : Graphs) (facts : List Decided) (pair : Pair) (one other : List InputTold) (are : AreDecided graphs facts) (rows : AreRows facts pair one other) (first : length one ≡ graphs.first.inputs) (second : length other ≡ graphs.second.inputs) (as_many : graphs.first.inputs ≡ graphs.second.inputs) (even : AreEven one other) where
+  most_on : (side : Side) (numbers : List ℕ) (holds : Bool) → All (IsFactGiven (given_of facts [])) numbers → SayOf (given_of facts []) numbers holds side (port_on side pair) → (inputs : List ℕ) → Ascend inputs → (AreOfEach inputs (shapes_of (given_of facts []) numbers) → length inputs ≤ count_by (says_one holds) (row_on side one other)) × (AreBothOfEach inputs (shapes_of (given_of facts []) numbers) → length inputs ≤ count_by (says_both holds) (row_on side one other))
+  most_on side numbers holds known say inputs rise =
+      let row = row_on side one other in
+      let is = row_of_side facts pair side one other rows in
+      let whole = whole_on graphs side one other first second in
+      (ones_most graphs facts side (port_on side pair) row are is whole numbers holds known say inputs rise, boths_most graphs facts side (port_on side pair) row are is whole numbers holds known say inputs rise)
+
   bounds : (side : Side) (kind : Tallied) (have lack having lacking : List ℕ) → All (IsFactGiven (given_of facts [])) have → All (IsFactGiven (given_of facts [])) lack → SayOf (given_of facts []) have false side (port_on side pair) → SayOf (given_of facts []) lack true (other_side side) (port_on (other_side side) pair) → HaveShapes kind having (shapes_of (given_of facts []) have) → LackShapes kind lacking (shapes_of (given_of facts []) lack) → Ascend having → Ascend lacking → length having + length lacking ≤ graphs.first.inputs
   bounds side Support have lack having lacking known known_other fail hold have_shapes lack_shapes rise rise_other =
-      let these = row_on side one other in
-      let those = row_on (other_side side) one other in
-      let row = row_of_side facts pair side one other rows in
-      let row_other = row_of_side facts pair (other_side side) one other rows in
-      let some = ones_most graphs facts side (port_on side pair) these are row (whole_on graphs side one other first second) have false known fail having rise have_shapes in
-      let none = boths_most graphs facts (other_side side) (port_on (other_side side) pair) those are row_other (whole_on graphs (other_side side) one other first second) lack true known_other hold lacking rise_other lack_shapes in
-      omega (arith, some, none, even_on side one other false even.failing, both_or_one false those, length_of_side (other_side side) one other graphs.first.inputs first (second ∙ sym as_many))
+      omega (arith, (most_on side have false known fail having rise).0 have_shapes, (most_on (other_side side) lack true known_other hold lacking rise_other).1 lack_shapes, even_on side one other false even.failing, both_or_one false (row_on (other_side side) one other), length_of_side (other_side side) one other graphs.first.inputs first (second ∙ sym as_many))
   bounds side Binate have lack having lacking known known_other fail hold have_shapes lack_shapes rise rise_other =
-      let these = row_on side one other in
-      let those = row_on (other_side side) one other in
-      let row = row_of_side facts pair side one other rows in
-      let row_other = row_of_side facts pair (other_side side) one other rows in
-      let some = boths_most graphs facts side (port_on side pair) these are row (whole_on graphs side one other first second) have false known fail having rise have_shapes in
-      let none = ones_most graphs facts (other_side side) (port_on (other_side side) pair) those are row_other (whole_on graphs (other_side side) one other first second) lack true known_other hold lacking rise_other lack_shapes in
-      omega (arith, some, none, even_on side one other true even.holding, both_or_one true these, length_of_side side one other graphs.first.inputs first (second ∙ sym as_many))
+      omega (arith, (most_on side have false known fail having rise).1 have_shapes, (most_on (other_side side) lack true known_other hold lacking rise_other).0 lack_shapes, even_on side one other true even.holding, both_or_one true (row_on side one other), length_of_side side one other graphs.first.inputs first (second ∙ sym as_many))
 
   pub even_no_tally : (pairs : List Pair) (kind : Tallied) (have lack : List ℕ) → HasOneOutput pairs pair → IsShownBy graphs facts pairs (step.Tally kind have lack) → ⊥
   even_no_tally pairs kind have lack has shown =

@@ -20,8 +20,8 @@ use Rattle.conflict_core.specs.Pivots.{IsSplit}
 use Rattle.circuits.specs.declared.port.PortKind.TheVariants.{Input}
 use Rattle.account_core.specs.declared.step.Ban.{Ban}
 use Rattle.ban_book.specs.Covering.{Covers}
-use Rattle.conflict_core.specs.declared.learned.Learned.{Learned}
-use Rattle.conflict_core.specs.declared.learned.Learned.TheVariants as learned
+use Rattle.conflict_core.specs.declared.learned.LearnedBan.{LearnedBan}
+use Rattle.conflict_core.specs.declared.learned.LearnedBan.TheVariants as learned
 use Rattle.conflict_core.proofs.ConflictLemmas.{covers_over, known_of}
 use Rattle.conflict_core.proofs.JustifiedLemmas.{held_before, held_front_of}
 use Rattle.conflict_core.proofs.ResolveLemmas.{up_to_last}
@@ -185,7 +185,7 @@ pub same_get : (held : List Pair) (k : ℕ) (d e : Pair) → k < length held →
 same_get held k d e below = get_or_default held k d e below
 
 -- what a conflict is resolved to where a choice stands between its latest pair and the others
-pub back_is : (n m : ℕ) (bans : List Ban) (es : List Entry) (pairs lent : List Pair) (last place ban : ℕ) (result : Learned) → AreEntries n m es → last < length (held_in es) → lent ≡ pairs → ((d : Pair) → IsSplit es lent (get_or (held_in es) last d) place) → Covers bans pairs ban → ((d : Pair) → result ≡ learned.Back (record { place = place; pair = get_or (held_in es) last d; ban = ban })) → IsLearned n m bans es result
+pub back_is : (n m : ℕ) (bans : List Ban) (es : List Entry) (pairs lent : List Pair) (last place ban : ℕ) (result : LearnedBan) → AreEntries n m es → last < length (held_in es) → lent ≡ pairs → ((d : Pair) → IsSplit es lent (get_or (held_in es) last d) place) → Covers bans pairs ban → ((d : Pair) → result ≡ learned.Back (record { place = place; pair = get_or (held_in es) last d; ban = ban })) → IsLearned n m bans es result
 back_is n m bans es pairs lent last place ban result are below same split covers is =
     subst (IsLearned n m bans es) (sym (is d)) (record {
       choice = (split d).choice;

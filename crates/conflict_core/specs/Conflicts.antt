@@ -13,8 +13,8 @@ use Rattle.class_refine.specs.declared.entry.Cause.TheVariants.{Choice}
 use Rattle.class_refine.specs.Trails.{IsOpen, IsPairOf, held_in}
 use Rattle.conflict_core.specs.declared.conflict.Conflict.{Conflict}
 use Rattle.conflict_core.specs.declared.learned.Back.{Back}
-use Rattle.conflict_core.specs.declared.learned.Learned.{Learned}
-use Rattle.conflict_core.specs.declared.learned.Learned.TheVariants as learned
+use Rattle.conflict_core.specs.declared.learned.LearnedBan.{LearnedBan}
+use Rattle.conflict_core.specs.declared.learned.LearnedBan.TheVariants as learned
 
 -- Both circuits have this many inputs and outputs.
 pub record FitPorts (graphs : Graphs) (inputs outputs : ℕ) : Type 0 where
@@ -50,6 +50,6 @@ pub record IsBack (inputs outputs : ℕ) (bans : List Ban) (entries : List Entry
   pub covers : Covers bans (back.pair ∷ held_in (take back.place entries)) back.ban
 
 -- what a conflict comes to: a ban without pairs, or where to go back to
-abbrev pub IsLearned : ℕ → ℕ → List Ban → List Entry → Learned → Type 0
+abbrev pub IsLearned : ℕ → ℕ → List Ban → List Entry → LearnedBan → Type 0
 IsLearned inputs outputs bans entries (learned.Refusal number) = Covers bans [] number
 IsLearned inputs outputs bans entries (learned.Back back) = IsBack inputs outputs bans entries back

@@ -13,7 +13,7 @@ pub struct Back {
 
 /// What a conflict is resolved to.
 #[derive(Clone, Copy, Debug, PartialEq, Eq)]
-pub enum Learned {
+pub enum LearnedBan {
     /// The ban of this number has no pairs: there is no match.
     Refusal(u64),
     /// A ban of which all pairs but one are held before some choice.

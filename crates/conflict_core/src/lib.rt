@@ -10,7 +10,7 @@ mod refer;
 mod resolution;
 
 pub use conflict::{Conflict, conflict_of_ban, cover_block, cover_port};
-pub use learned::{Back, Learned};
+pub use learned::{Back, LearnedBan};
 pub use mismatch::Mismatches;
 pub use port::{Port, Resolved};
 pub use resolution::{choice_between, resolve};

@@ -10,11 +10,11 @@ ghost use Rattle.class_refine.specs.Trails.{IsPairOf, held_in, is_held};
 ghost use Rattle.conflict_core.specs.Conflicts.{HasNoChoice, IsChoiceAt, IsConflict, IsLastOf, IsLearned};
 ghost use Rattle.conflict_core.specs.Grounded.{LearnsMore};
 ghost use Rattle.conflict_core.specs.Justified.{IsTrail};
-ghost use Rattle.conflict_core.specs.declared.learned.Learned.TheVariants as learned;
+ghost use Rattle.conflict_core.specs.declared.learned.LearnedBan.TheVariants as learned;
 ghost use Rattle.conflict_core.specs.Pivots.{IsPivot};
 
 use crate::conflict::{Conflict, cover_port};
-use crate::learned::{Back, Learned};
+use crate::learned::{Back, LearnedBan};
 use crate::mismatch::Mismatches;
 use crate::port::{Port, Resolved};
 use ban_book::BanBook;
@@ -41,7 +41,7 @@ pub fn resolve(
     conflict: Conflict,
     made: &mut Mismatches,
     book: &mut BanBook,
-) -> Result<Learned, AllocError>
+) -> Result<LearnedBan, AllocError>
     requires trail { IsTrail graphs.now book.old domains.now }
     requires conflict { IsConflict book.old (held_in domains.now.entries) conflict }
     ensures more { LearnsMore graphs.now domains.now.entries book.old book.new }
@@ -59,10 +59,11 @@ pub fn resolve(
             }
         }
     }
-    Ok(Learned::Refusal(conflict.ban))
+    Ok(LearnedBan::Refusal(conflict.ban))
 }
 
-// The last of the first `limit` held pairs that is one of a conflict's.
+// The last of the first `limit` held pairs that is one of a conflict's. Each is looked for among all of these, as the cover of a
+// step does with each way of its port.
 fn last_of(held: &[Pair], limit: usize, pairs: &[Pair]) -> Option<usize>
     requires { limit ≤ length held.now }
     ensures found { IfSome result (IsLastOf held.now limit pairs.now) }
@@ -191,7 +192,7 @@ fn is_choice(fate: Fate) -> bool
 }
 
 // Going back before a choice.
-fn back_to(domains: &Domains, last: usize, place: usize, ban: u64) -> Learned
+fn back_to(domains: &Domains, last: usize, place: usize, ban: u64) -> LearnedBan
     requires { last < length (held_in domains.now.entries) }
     ensures { (d : AnyPair) → result ≡ learned.Back (record {
       place = place;
@@ -199,7 +200,7 @@ fn back_to(domains: &Domains, last: usize, place: usize, ban: u64) -> Learned
       ban = ban;
     }) }
 {
-    Learned::Back(Back {
+    LearnedBan::Back(Back {
         place,
         pair: held_at(domains, last),
         ban,
@@ -274,7 +275,7 @@ fn without(pairs: Vec<Pair>, pair: Pair) -> Vec<Pair>
     pairs
 }
 
-// Where a pair stands, if it is there.
+// Where a pair stands, if it is there. It goes over the list, as taking the pair out does, once a step.
 fn place_of(pairs: &[Pair], pair: Pair) -> Option<usize>
     ensures found { IfSome result (λ place. place < length pairs.now) }
     ensures is { IfSome result (λ place. slice_index_or pairs.now place pair ≡ pair) }

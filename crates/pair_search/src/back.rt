@@ -13,7 +13,7 @@ use crate::queue::Queue;
 use account_core::Ban;
 use ban_book::BanBook;
 use class_refine::{Domains, Reason};
-use conflict_core::{Back, Learned, Mismatches, choice_between, resolve};
+use conflict_core::{Back, LearnedBan, Mismatches, choice_between, resolve};
 use port_sides::PairableGraphs;
 use std::alloc::{AllocError, Global};
 
@@ -37,8 +37,8 @@ pub fn turn_back(
 {
     queue.add_new(domains, book.bans())?;
     match learn(alloc, graphs, domains, impasse, &mut queue.made, book)? {
-        Learned::Refusal(ban) => Ok(Some(ban)),
-        Learned::Back(back) => {
+        LearnedBan::Refusal(ban) => Ok(Some(ban)),
+        LearnedBan::Back(back) => {
             queue.add_learned(domains, book.bans(), back.ban)?;
             go_back(domains, queue, book.bans(), back)?;
             Ok(None)
@@ -69,7 +69,7 @@ fn learn(
     impasse: Impasse,
     made: &mut Mismatches,
     book: &mut BanBook,
-) -> Result<Learned, AllocError>
+) -> Result<LearnedBan, AllocError>
     requires trail { IsTrail graphs.now book.old domains.now }
     requires impasse { IsImpasse domains.now.inputs domains.now.outputs book.old domains.now.entries impasse }
     ensures more { LearnsMore graphs.now domains.now.entries book.old book.new }

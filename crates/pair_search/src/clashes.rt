@@ -15,24 +15,8 @@ use net_core::Side;
 use port_sides::port_on;
 use std::alloc::AllocError;
 
-/// Deletes the open ways of both ports of a held pair: each of them clashes with it.
-pub(crate) fn delete_clashing(
-    domains: &mut Domains,
-    bans: &[Ban],
-    pair: Pair,
-) -> Result<(), AllocError>
-    requires justified { IsJustifiedTrail bans.now domains.old }
-    requires known { IsPairOf domains.old.inputs domains.old.outputs pair }
-    requires held { Contains (held_in domains.old.entries) pair }
-    ensures { OnOk result (Propagates bans.now domains.old domains.new) }
-{
-    delete_ways(domains, bans, pair, Side::First)?;
-    delete_ways(domains, bans, pair, Side::Second)?;
-    Ok(())
-}
-
-// Deletes the open ways of the port that a held pair has of a circuit.
-fn delete_ways(
+/// Deletes the open ways of the port that a held pair has of a circuit: each of them clashes with it.
+pub(crate) fn delete_ways(
     domains: &mut Domains,
     bans: &[Ban],
     pair: Pair,

@@ -5,7 +5,7 @@ ghost use Rattle.class_refine.specs.Trails.{held_in};
 ghost use Rattle.conflict_core.specs.Conflicts.{IsConflict};
 ghost use Rattle.conflict_core.specs.Grounded.{LearnsMore};
 ghost use Rattle.conflict_core.specs.Justified.{IsTrail};
-ghost use Rattle.pair_search.specs.Impasses.{HasNoWays, IsImpasse};
+ghost use Rattle.pair_search.specs.Impasses.{IsImpasse};
 
 use ban_book::BanBook;
 use class_refine::Domains;
@@ -53,65 +53,16 @@ pub fn conflict_of(
     ensures more { LearnsMore graphs.now domains.now.entries book.old book.new }
     ensures conflict { IfOk result (IsConflict book.new (held_in domains.now.entries)) }
 {
+    let _lawful = domains.entries();
+    let held = domains.pairs();
+    let none = Vec::new(alloc);
     match impasse {
-        Impasse::Ban(number) => conflict_of_ban(alloc, domains.pairs(), book.bans(), number),
-        Impasse::Port(port) => conflict_of_port(alloc, graphs, domains, port, made, book),
-        Impasse::Block(block) => conflict_of_block(alloc, graphs, domains, block, made, book),
+        Impasse::Ban(number) => conflict_of_ban(alloc, held, book.bans(), number),
+        Impasse::Port(port) => {
+            cover_port(alloc, graphs, domains, held, port, None, none, made, book)
+        }
+        Impasse::Block(block) => cover_block(
+            alloc, graphs, domains, held, block, None, none, made, book,
+        ),
     }
-}
-
-// The conflict of a port all of whose ways are deleted.
-fn conflict_of_port(
-    alloc: Global,
-    graphs: &PairableGraphs<'_>,
-    domains: &Domains,
-    port: Port,
-    made: &mut Mismatches,
-    book: &mut BanBook,
-) -> Result<Conflict, AllocError>
-    requires trail { IsTrail graphs.now book.old domains.now }
-    requires impasse { IsImpasse domains.now.inputs domains.now.outputs book.old domains.now.entries (Impasse.Port port) }
-    ensures more { LearnsMore graphs.now domains.now.entries book.old book.new }
-    ensures conflict { IfOk result (IsConflict book.new (held_in domains.now.entries)) }
-{
-    let _lawful = domains.entries();
-    cover_port(
-        alloc,
-        graphs,
-        domains,
-        domains.pairs(),
-        port,
-        None,
-        Vec::new(alloc),
-        made,
-        book,
-    )
-}
-
-// The conflict of a block all of whose ways are deleted.
-fn conflict_of_block(
-    alloc: Global,
-    graphs: &PairableGraphs<'_>,
-    domains: &Domains,
-    block: Block,
-    made: &mut Mismatches,
-    book: &mut BanBook,
-) -> Result<Conflict, AllocError>
-    requires trail { IsTrail graphs.now book.old domains.now }
-    requires none { HasNoWays domains.now.inputs domains.now.outputs domains.now.entries block }
-    ensures more { LearnsMore graphs.now domains.now.entries book.old book.new }
-    ensures conflict { IfOk result (IsConflict book.new (held_in domains.now.entries)) }
-{
-    let _lawful = domains.entries();
-    cover_block(
-        alloc,
-        graphs,
-        domains,
-        domains.pairs(),
-        block,
-        None,
-        Vec::new(alloc),
-        made,
-        book,
-    )
 }

@@ -64,6 +64,8 @@ pub fn branch(
 {
     let _ = bans;
     let _lawful = domains.entries();
+    // No way is preferred to the first one: what tells ways apart was tried by guesses before, and where there is no match each way
+    // has to be excluded, in any order. No other order was measured.
     let Some(number) = remaining(domains, port, 0) else {
         return Ok(Some(Impasse::Port(port)));
     };
@@ -93,7 +95,8 @@ pub fn way_of(domains: &Domains, port: Port, number: u64) -> Pair
     nth_way(port.side, port.kind, port.number, number)
 }
 
-// The number of the first way of a port, from one on, that isn't deleted.
+// The number of the first way of a port, from one on, that isn't deleted. All that it passes over were deleted one by one, and it
+// is asked only where a port is decided, or has one way left at most.
 fn remaining(domains: &Domains, port: Port, from: u64) -> Option<u64>
     requires there { IsPortOf domains.now port }
     ensures from { IfSome result (λ number. from ≤ number) }

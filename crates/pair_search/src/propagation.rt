@@ -5,7 +5,7 @@ ghost use Rattle.class_refine.specs.Trails.{ports_of};
 ghost use Rattle.conflict_core.specs.Justified.{IsJustifiedTrail};
 ghost use Rattle.pair_search.specs.Impasses.{Follows};
 
-use crate::clashes::delete_clashing;
+use crate::clashes::delete_ways;
 use crate::crowds::crowd;
 use crate::impasse::Impasse;
 use crate::ports::apply_port;
@@ -18,6 +18,9 @@ use conflict_core::Port;
 use net_core::Side;
 use port_sides::port_on;
 use std::alloc::{AllocError, Global};
+
+/// Where it doesn't go on, if that was found.
+type Followed = Result<Option<Impasse>, AllocError>;
 
 /// Holds and deletes pairs as it follows, until nothing follows or it doesn't go on. Pairs that share a port with a held
 /// one are deleted, and that of a ban whose other pairs are held; the last way of a port is held. Last, outputs are looked
@@ -41,11 +44,7 @@ pub fn propagate(
 }
 
 // Holds and deletes what follows, one after the other.
-fn follow_all(
-    domains: &mut Domains,
-    queue: &mut Queue,
-    bans: &[Ban],
-) -> Result<Option<Impasse>, AllocError>
+fn follow_all(domains: &mut Domains, queue: &mut Queue, bans: &[Ban]) -> Followed
     requires justified { IsJustifiedTrail bans.now domains.old }
     ensures { Follows bans.now domains.old domains.new result }
 {
@@ -65,11 +64,7 @@ fn follow_all(
 }
 
 // Applies the bans that came since, and adds them to the index.
-fn apply_new(
-    domains: &mut Domains,
-    queue: &mut Queue,
-    bans: &[Ban],
-) -> Result<Option<Impasse>, AllocError>
+fn apply_new(domains: &mut Domains, queue: &mut Queue, bans: &[Ban]) -> Followed
     requires justified { IsJustifiedTrail bans.now domains.old }
     ensures { Follows bans.now domains.old domains.new result }
 {
@@ -84,11 +79,7 @@ fn apply_new(
 }
 
 // Applies a ban.
-fn apply_ban(
-    domains: &mut Domains,
-    bans: &[Ban],
-    number: u64,
-) -> Result<Option<Impasse>, AllocError>
+fn apply_ban(domains: &mut Domains, bans: &[Ban], number: u64) -> Followed
     requires justified { IsJustifiedTrail bans.now domains.old }
     ensures { Follows bans.now domains.old domains.new result }
 {
@@ -102,12 +93,7 @@ fn apply_ban(
 }
 
 // What follows of one entry.
-fn follow(
-    domains: &mut Domains,
-    queue: &mut Queue,
-    bans: &[Ban],
-    entry: Entry,
-) -> Result<Option<Impasse>, AllocError>
+fn follow(domains: &mut Domains, queue: &mut Queue, bans: &[Ban], entry: Entry) -> Followed
     requires justified { IsJustifiedTrail bans.now domains.old }
     ensures { Follows bans.now domains.old domains.new result }
 {
@@ -118,72 +104,63 @@ fn follow(
 }
 
 // What follows of a pair that is held.
-fn follow_held(
-    domains: &mut Domains,
-    queue: &mut Queue,
-    bans: &[Ban],
-    pair: Pair,
-) -> Result<Option<Impasse>, AllocError>
+fn follow_held(domains: &mut Domains, queue: &mut Queue, bans: &[Ban], pair: Pair) -> Followed
     requires justified { IsJustifiedTrail bans.now domains.old }
     ensures { Follows bans.now domains.old domains.new result }
 {
     if !is_held(domains, pair) {
         return Ok(None);
     }
-    delete_clashing(domains, bans, pair)?;
+    delete_ways(domains, bans, pair, Side::First)?;
+    delete_ways(domains, bans, pair, Side::Second)?;
     let found = apply_bans(domains, queue, bans, pair)?;
     Ok(found)
 }
 
 // Applies the bans that watch a pair.
-fn apply_bans(
-    domains: &mut Domains,
-    queue: &mut Queue,
-    bans: &[Ban],
-    pair: Pair,
-) -> Result<Option<Impasse>, AllocError>
+fn apply_bans(domains: &mut Domains, queue: &mut Queue, bans: &[Ban], pair: Pair) -> Followed
     requires justified { IsJustifiedTrail bans.now domains.old }
     ensures { Follows bans.now domains.old domains.new result }
 {
     let mut place = queue.take_list(pair);
-    for _ in 0..queue.links() {
-        let Some(link) = queue.link_at(place) else {
+    for _ in 0..queue.watchers() {
+        let Some(watcher) = queue.watcher_at(place) else {
             return Ok(None);
         };
-        if let Some(impasse) = apply_link(domains, queue, bans, pair, place)? {
-            keep_all(queue, pair, link.before);
+        if let Some(impasse) = apply_watcher(domains, queue, bans, pair, place)? {
+            keep_all(queue, pair, watcher.before);
             return Ok(Some(impasse));
         }
-        place = link.before;
+        place = watcher.before;
     }
     Ok(None)
 }
 
-// Puts the links from a place on back into a pair's list.
+// Puts the watchers from a place on back into a pair's list.
 fn keep_all(queue: &mut Queue, pair: Pair, from: usize) {
     let mut place = from;
-    for _ in 0..queue.links() {
-        let Some(link) = queue.link_at(place) else {
+    for _ in 0..queue.watchers() {
+        let Some(watcher) = queue.watcher_at(place) else {
             return;
         };
         queue.put(pair, place);
-        place = link.before;
+        place = watcher.before;
     }
 }
 
-// Applies the ban of a link that was taken out of a held pair's list, and puts the link into that of another pair of the ban
+// Applies the ban of a watcher that was taken out of a held pair's list, and puts it into that of another pair of the ban
 // that isn't held, or back where there is none. Where the other watched pair is deleted, nothing follows of the ban.
-fn apply_link(
+fn apply_watcher(
     domains: &mut Domains,
     queue: &mut Queue,
     bans: &[Ban],
     pair: Pair,
     place: usize,
-) -> Result<Option<Impasse>, AllocError>
+) -> Followed
     requires justified { IsJustifiedTrail bans.now domains.old }
     ensures { Follows bans.now domains.old domains.new result }
 {
-    let Some(link) = queue.link_at(place) else {
+    let Some(watcher) = queue.watcher_at(place) else {
         return Ok(None);
     };
     let other = queue.other(place);
@@ -191,12 +168,12 @@ fn apply_link(
         queue.put(pair, place);
         return Ok(None);
     }
-    let watched = next_watch(domains, bans, link.ban, pair, other);
+    let watched = next_watch(domains, bans, watcher.ban, pair, other);
     queue.put(watched, place);
     if watched != pair {
         return Ok(None);
     }
-    apply_ban(domains, bans, link.ban)
+    apply_ban(domains, bans, watcher.ban)
 }
 
 // Whether there is such a pair, and it is deleted.
@@ -230,11 +207,7 @@ fn next_watch(
 }
 
 // What follows of a pair that is deleted: its ports may have one way left, or none.
-fn follow_deleted(
-    domains: &mut Domains,
-    bans: &[Ban],
-    pair: Pair,
-) -> Result<Option<Impasse>, AllocError>
+fn follow_deleted(domains: &mut Domains, bans: &[Ban], pair: Pair) -> Followed
     requires justified { IsJustifiedTrail bans.now domains.old }
     ensures { Follows bans.now domains.old domains.new result }
 {
@@ -246,12 +219,7 @@ fn follow_deleted(
 }
 
 // What follows at the port that a deleted pair has of a circuit.
-fn follow_port(
-    domains: &mut Domains,
-    bans: &[Ban],
-    pair: Pair,
-    side: Side,
-) -> Result<Option<Impasse>, AllocError>
+fn follow_port(domains: &mut Domains, bans: &[Ban], pair: Pair, side: Side) -> Followed
     requires justified { IsJustifiedTrail bans.now domains.old }
     ensures { Follows bans.now domains.old domains.new result }
 {

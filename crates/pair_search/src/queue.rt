@@ -8,13 +8,13 @@ use class_refine::Domains;
 use conflict_core::Mismatches;
 use std::alloc::{AllocError, Global};
 
-/// No link.
+/// No watcher.
 const NONE: usize = usize::MAX;
 
-/// A ban in a pair's list, and the place of the link before it there. The links of a ban stand beside each other, at an even
-/// place and the odd one after it.
+/// A ban that watches a pair, and the place of the watcher before it in the pair's list. The two of a ban stand beside each other,
+/// at an even place and the odd one after it.
 #[derive(Clone, Copy, Debug)]
-pub(crate) struct Link {
+pub(crate) struct Watcher {
     pub(crate) ban: u64,
     pub(crate) pair: Pair,
     pub(crate) before: usize,
@@ -31,9 +31,9 @@ pub struct Queue {
     /// How many inputs either circuit has, and how many outputs.
     inputs: u64,
     outputs: u64,
-    /// The last link of each pair, by its number.
+    /// The last watcher of each pair, by its number.
     lasts: Vec<usize>,
-    links: Vec<Link>,
+    watchers: Vec<Watcher>,
     /// The bans that were made of mismatches.
     pub(crate) made: Mismatches,
     /// Partners for all outputs.
@@ -49,7 +49,7 @@ impl Drop for Queue {
             inputs: _inputs,
             outputs: _outputs,
             lasts: _lasts,
-            links: _links,
+            watchers: _watchers,
             made: _made,
             partners: _partners,
         } = self;
@@ -72,7 +72,7 @@ impl Queue {
             inputs,
             outputs,
             lasts,
-            links: Vec::new(alloc),
+            watchers: Vec::new(alloc),
             made: Mismatches::new(alloc),
             partners,
         })
@@ -88,8 +88,8 @@ impl Queue {
         let Some((one, other)) = last_two(domains, &ban.pairs) else {
             return Ok(());
         };
-        self.link(one, number)?;
-        self.link(other, number)
+        self.watch(one, number)?;
+        self.watch(other, number)
     }
 
     /// Adds the bans that came since.
@@ -118,10 +118,10 @@ impl Queue {
         Ok(())
     }
 
-    // Puts a ban into a pair's list.
-    fn link(&mut self, pair: Pair, ban: u64) -> Result<(), AllocError> {
-        let place = self.links.len();
-        self.links.push(Link {
+    // Has a ban watch a pair.
+    fn watch(&mut self, pair: Pair, ban: u64) -> Result<(), AllocError> {
+        let place = self.watchers.len();
+        self.watchers.push(Watcher {
             ban,
             pair,
             before: NONE,
@@ -130,20 +130,20 @@ impl Queue {
         Ok(())
     }
 
-    /// Puts the link of a place into a pair's list.
+    /// Puts the watcher of a place into a pair's list.
     pub(crate) fn put(&mut self, pair: Pair, place: usize) {
         let number = self.number(pair);
         let before = self.last(number);
-        if let Some(link) = self.links.get_mut(place) {
-            link.pair = pair;
-            link.before = before;
+        if let Some(watcher) = self.watchers.get_mut(place) {
+            watcher.pair = pair;
+            watcher.before = before;
         }
         if let Some(last) = self.lasts.get_mut(number) {
             *last = place;
         }
     }
 
-    /// Empties a pair's list, and answers the place of its last link.
+    /// Empties a pair's list, and answers the place of its last watcher.
     pub(crate) fn take_list(&mut self, pair: Pair) -> usize {
         let number = self.number(pair);
         let last = self.last(number);
@@ -160,7 +160,7 @@ impl Queue {
         }
     }
 
-    // The place of a pair's last link.
+    // Where a pair's last watcher is noted.
     fn number(&self, pair: Pair) -> usize {
         let (count, first) = match pair.kind {
             PortKind::Input => (self.inputs, 0),
@@ -178,27 +178,27 @@ impl Queue {
             .saturating_add(sign) as usize
     }
 
-    /// The link of a place.
-    pub(crate) fn link_at(&self, place: usize) -> Option<Link> {
-        match self.links.get(place) {
-            Some(link) => Some(*link),
+    /// The watcher of a place.
+    pub(crate) fn watcher_at(&self, place: usize) -> Option<Watcher> {
+        match self.watchers.get(place) {
+            Some(watcher) => Some(*watcher),
             None => None,
         }
     }
 
-    /// The other pair that the ban of a link watches.
+    /// The other pair that the ban of a watcher watches.
     pub(crate) fn other(&self, place: usize) -> Option<Pair> {
         let twin = if place % 2 == 0 {
             place.saturating_add(1)
         } else {
             place - 1
         };
-        Some(self.links.get(twin)?.pair)
+        Some(self.watchers.get(twin)?.pair)
     }
 
-    /// How many links there are.
-    pub(crate) fn links(&self) -> usize {
-        self.links.len()
+    /// How many watchers there are.
+    pub(crate) fn watchers(&self) -> usize {
+        self.watchers.len()
     }
 }
 

@@ -5,20 +5,24 @@ use std::alloc::{AllocError, Global};
 
 /// Which pairs were compared with ways of the other kind, by the pairs' numbers.
 #[derive(Drop)]
-pub(crate) struct Compared {
+pub(crate) struct ComparedPairs {
     marks: Vec<bool>,
     inputs: usize,
     outputs: usize,
 }
 
-impl Compared {
+impl ComparedPairs {
     /// None was, of circuits with this many inputs and outputs.
-    pub(crate) fn new(alloc: Global, inputs: u32, outputs: u32) -> Result<Compared, AllocError> {
+    pub(crate) fn new(
+        alloc: Global,
+        inputs: u32,
+        outputs: u32,
+    ) -> Result<ComparedPairs, AllocError> {
         let (inputs, outputs) = (inputs as usize, outputs as usize);
         let pairs = inputs
             .saturating_mul(inputs)
             .saturating_add(outputs.saturating_mul(outputs));
-        Ok(Compared {
+        Ok(ComparedPairs {
             marks: vec![in alloc; false; pairs.saturating_mul(2)]?,
             inputs,
             outputs,

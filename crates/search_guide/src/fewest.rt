@@ -24,6 +24,9 @@ struct Candidate {
 /// Of the ports that are in no pair the one of either circuit that has the fewest ways left for its weight: ports of the last
 /// conflicts are decided first, so that these come again sooner and lead to bans of few pairs. Of the inputs those alone are
 /// looked at that an output in a pair reads. An output counts as if it had this many times its ways.
+///
+/// All ports are gone over, and no heap of them is kept, for the numbers of ways change with each pair that is deleted, and a
+/// decision deletes all other ways of two ports, which are about four times the ports of its kind in a circuit.
 pub(crate) fn fewest_ways(
     alloc: Global,
     reads: &Reads,

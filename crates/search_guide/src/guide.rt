@@ -2,7 +2,7 @@
 
 ghost use Rattle.std.specs.Prelude.{◌<◌, IfSome};
 
-use crate::compared::Compared;
+use crate::compared::ComparedPairs;
 use crate::reads::{Reads, by_count};
 use crate::room::Room;
 use crate::rounds::Rounds;
@@ -14,7 +14,7 @@ use pair_search::Impasse;
 use port_sides::PairableGraphs;
 use std::alloc::{AllocError, Global};
 
-/// The most that tallies of all pairs of outputs may ask: the pairs times the inputs. Each pair's ban lists up to twice as
+/// The most that tallies of all signed pairs of outputs may ask: the pairs times the inputs. Each pair's ban lists up to twice as
 /// many facts as there are inputs, so more would take much memory. Above that tallies are held of held pairs alone.
 const MOST_ASKED: u64 = 1 << 21;
 
@@ -33,7 +33,7 @@ pub struct Guide {
     pub asked: usize,
     /// How many of the held pairs were held against claims of two inputs.
     pub exchanged: usize,
-    compared: Compared,
+    compared: ComparedPairs,
     /// The port that was decided last, and the one that comes first as long as it is in no pair.
     decided: Option<Port>,
     pub(crate) urgent: Option<Port>,
@@ -51,7 +51,7 @@ impl Guide {
         let reads = Reads::new(alloc, graphs)?;
         let weights = Weights::new(alloc, inputs, outputs)?;
         let order = order_of(alloc, &reads, inputs, outputs)?;
-        let compared = Compared::new(alloc, inputs, outputs)?;
+        let compared = ComparedPairs::new(alloc, inputs, outputs)?;
         Ok(Guide {
             reads,
             weights,
@@ -165,8 +165,10 @@ fn order_of(
     inputs: u32,
     outputs: u32,
 ) -> Result<Vec<u32>, AllocError> {
-    let pairs = (outputs as u64).saturating_mul(outputs as u64);
-    if pairs.saturating_mul(inputs as u64) > MOST_ASKED / 2 {
+    let pairs = (outputs as u64)
+        .saturating_mul(outputs as u64)
+        .saturating_mul(2);
+    if pairs.saturating_mul(inputs as u64) > MOST_ASKED {
         return Ok(Vec::new(alloc));
     }
     by_count(alloc, &reads.first, inputs, outputs)

@@ -6,9 +6,9 @@ use account_core::{Ban, Step};
 /// measured.
 const MOST: u64 = 600_000_000;
 
-/// What a ban takes, with few pairs and its places in the index. Bans of wide circuits have more pairs, and those by vectors a byte
-/// for each input beside. A tally's lists aren't counted: `MOST_ASKED` bounds those of all pairs of outputs.
-const BAN: u64 = 250;
+/// What a ban takes, with few pairs and its places in the indices of bans. Bans of wide circuits have more pairs, and those by
+/// vectors a byte for each input beside. A tally's lists aren't counted: `MOST_ASKED` bounds those of all pairs of outputs.
+const BAN: u64 = 270;
 
 /// What a reference of a cover takes. A cover of 128 ports and as many others has 32,768 of them.
 const REFERENCE: u64 = 16;
