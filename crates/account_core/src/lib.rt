@@ -3,9 +3,11 @@
 
 mod conclusion;
 mod fact;
+mod ports;
 mod step;
 pub mod step_laws;
 
 pub use conclusion::Conclusion;
 pub use fact::{Evidence, Fact, FactHead};
+pub use ports::{have_as_many, ports_in, way};
 pub use step::{Ban, Step, Tallied};

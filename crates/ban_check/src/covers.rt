@@ -3,13 +3,14 @@
 ghost use Rattle.std.specs.Prelude.{◌≡◌, ◌↔◌, ◌<◌, ◌++◌, ◌∷◌, true, false, All, Any, IsSomeAnd, IsTrue, List};
 ghost use Rattle.std.specs.List.{AllZip};
 ghost use Rattle.circuits.specs.declared.port.Pair.{Pair as AnyPair};
-ghost use Rattle.account_core.specs.Covers.{way, ways, AreCoverNames, IsCover, IsImpossible, IsReference};
+ghost use Rattle.account_core.specs.Covers.{ways, AreCoverNames, IsCover, IsImpossible, IsReference};
 ghost use Rattle.account_core.specs.Ports.{Clash};
 ghost use Rattle.ban_check.specs.Counted.{row, IsHeld, IsReferredBanGiven};
 
 use crate::ascent::ascend;
 use crate::given::Given;
-use crate::ports::{are_same, ports_in};
+use crate::ports::are_same;
+use account_core::{ports_in, way};
 use circuits::{Pair, PortKind};
 use net_core::Graphs;
 
@@ -30,10 +31,10 @@ pub(crate) fn are_cover_names(
 }
 
 // Whether ports are some of n.
-fn are_below(count: usize, ports: &[u32]) -> bool
+fn are_below(count: u32, ports: &[u32]) -> bool
     ensures { IsTrue result ↔ All (λ port. port < count) ports.now }
 {
-    ports.iter().all(|port| (*port as usize) < count)
+    ports.iter().all(|port| *port < count)
 }
 
 // Whether the bans that are referred to were given.
@@ -68,7 +69,7 @@ pub(crate) fn is_cover(
 {
     ascend(from)
         & ascend(to)
-        & (from.len() + to.len() > ports_in(graphs.first(), kind))
+        & (from.len() + to.len() > ports_in(graphs.first(), kind) as usize)
         & are_referred(given, pairs, kind, from, to, refs)
 }
 
@@ -119,18 +120,6 @@ fn after_row<'a>(
         left = rest;
     }
     Some(left)
-}
-
-// A way to pair two ports.
-fn way(kind: PortKind, from: u32, to: u32, flip: bool) -> Pair
-    ensures { result ≡ way kind from to flip }
-{
-    Pair {
-        kind,
-        from,
-        to,
-        flip,
-    }
 }
 
 // Whether a reference fits a pair: none where it is impossible, else a ban all of whose pairs are among the pairs and

@@ -12,7 +12,8 @@ mod steps;
 mod tallies;
 mod vectors;
 
+pub use account_core::have_as_many;
 pub use breaking::breaks;
 pub use given::Given;
-pub use ports::{are_known, are_ordered, have_as_many};
+pub use ports::{are_known, are_ordered};
 pub use steps::{are_names_known, has_shown, keeps_rule};

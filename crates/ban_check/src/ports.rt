@@ -1,18 +1,11 @@
 //! The ports that pairs name.
 
 ghost use Rattle.std.specs.Prelude.{◌≡◌, ◌↔◌, All, IsTrue};
-ghost use Rattle.account_core.specs.Ports.{ports_in, AreOrdered, HaveAsMany, IsKnown, StandInOrder};
+ghost use Rattle.account_core.specs.Ports.{AreOrdered, IsKnown, StandInOrder};
 
+use account_core::ports_in;
 use circuits::{Pair, PortKind};
-use net_core::{Graph, Graphs};
-
-/// Whether two circuits have as many inputs, and as many outputs.
-pub fn have_as_many(graphs: &Graphs<'_>) -> bool
-    ensures { IsTrue result ↔ HaveAsMany graphs.now.first graphs.now.second }
-{
-    (graphs.first().inputs() == graphs.second().inputs())
-        & (graphs.first().outputs().len() == graphs.second().outputs().len())
-}
+use net_core::Graphs;
 
 /// Whether the ports exist that the pairs name.
 pub fn are_known(graphs: &Graphs<'_>, pairs: &[Pair]) -> bool
@@ -24,19 +17,8 @@ pub fn are_known(graphs: &Graphs<'_>, pairs: &[Pair]) -> bool
 fn is_known(graphs: &Graphs<'_>, pair: Pair) -> bool
     ensures { IsTrue result ↔ IsKnown graphs.now pair }
 {
-    let from = pair.from as usize;
-    let to = pair.to as usize;
-    (from < ports_in(graphs.first(), pair.kind)) & (to < ports_in(graphs.second(), pair.kind))
-}
-
-/// How many ports of a kind a circuit has.
-pub(crate) fn ports_in(graph: &Graph, kind: PortKind) -> usize
-    ensures { result ≡ ports_in graph.now kind }
-{
-    match kind {
-        PortKind::Input => graph.inputs() as usize,
-        PortKind::Output => graph.outputs().len(),
-    }
+    (pair.from < ports_in(graphs.first(), pair.kind))
+        & (pair.to < ports_in(graphs.second(), pair.kind))
 }
 
 /// Whether pairs of inputs come first, the first ports of each kind ascend, and no two pairs of a kind go to one port.

@@ -2,10 +2,11 @@
 
 ghost use Rattle.std.specs.Prelude.{◌≡◌, ◌+◌, ◌<◌, ◌++◌, All, IfOk, OnOk};
 ghost use Rattle.std.specs.List.{range_with_len};
-ghost use Rattle.account_core.specs.Covers.{way, ways};
+ghost use Rattle.account_core.specs.Covers.{ways};
 ghost use Rattle.account_core.specs.Tallies.{Ascend};
 ghost use Rattle.port_covers.specs.Ways.{block_of, ports_tried, row, ways_in};
 
+use account_core::way;
 use circuits::{Pair, PortKind};
 use items::Items;
 use net_core::Side;
@@ -118,15 +119,4 @@ fn add_row(list: &mut Vec<Pair>, kind: PortKind, from: u32, to: &[u32]) -> Resul
         list.push(way(kind, from, *port, true))?;
     }
     Ok(())
-}
-
-fn way(kind: PortKind, from: u32, to: u32, flip: bool) -> Pair
-    ensures { result ≡ way kind from to flip }
-{
-    Pair {
-        kind,
-        from,
-        to,
-        flip,
-    }
 }

@@ -1,10 +1,11 @@
 //! Two graphs whose ports can be paired.
 
-ghost use Rattle.std.specs.Prelude.{◌≡◌, ◌↔◌, IfSome, IsSome, IsTrue};
+ghost use Rattle.std.specs.Prelude.{◌≡◌, ◌↔◌, IfSome, IsSome};
 ghost use Rattle.net_core.specs.Graph.{IsGraph};
 ghost use Rattle.net_core.specs.Sides.{graph_of};
 ghost use Rattle.account_core.specs.Ports.{HaveAsMany, ports_in};
 
+use account_core::{have_as_many, ports_in};
 use circuits::PortKind;
 use net_core::{Graph, Graphs, Side};
 use std::marker::Model;
@@ -79,23 +80,5 @@ impl<'a> PairableGraphs<'a> {
         ensures second { result ≡ ports_in self.now.second kind }
     {
         ports_in(self.graphs.first(), kind)
-    }
-}
-
-// Whether two graphs have as many inputs, and as many outputs.
-fn have_as_many(graphs: &Graphs<'_>) -> bool
-    ensures { IsTrue result ↔ HaveAsMany graphs.now.first graphs.now.second }
-{
-    (graphs.first().inputs() == graphs.second().inputs())
-        & (graphs.first().outputs().len() == graphs.second().outputs().len())
-}
-
-// How many ports of a kind a graph has.
-fn ports_in(graph: &Graph, kind: PortKind) -> u32
-    ensures { result ≡ ports_in graph.now kind }
-{
-    match kind {
-        PortKind::Input => graph.inputs(),
-        PortKind::Output => graph.outputs().len() as u32,
     }
 }

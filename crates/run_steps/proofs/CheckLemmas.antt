@@ -27,8 +27,8 @@ use Rattle.run_steps.specs.Steps.{ReadAs, IsVerdict, IsEarly, IsOfReading, IsSto
 use Rattle.command_words.specs.declared.words.Command.{Command}
 use Rattle.run_steps.specs.Stops.{outcome_of}
 use Rattle.run_steps.specs.declared.outcome.Ending.{Ending}
-use Rattle.shelf_files.specs.declared.files.Stop.{Stop}
-use Rattle.shelf_files.specs.declared.files.Stop.TheVariants as stop
+use Rattle.shelf_files.specs.declared.files.ReadStop.{ReadStop}
+use Rattle.shelf_files.specs.declared.files.ReadStop.TheVariants as stop
 use Rattle.run_steps.proofs.CircuitLemmas.{one_circuit, circuit_or_fault, one_circuit_fault, few_ports, circuit_acyclic}
 use Rattle.run_steps.proofs.OutcomeLemmas.{EndsRun, of_reading, of_unwritten}
 use Rattle.run_steps.specs.declared.outcome.Which.{Which}
@@ -521,15 +521,15 @@ told_read = record { written = λ e. cc; room = λ e. cc }
 
 -- what a refusal of a read ends the run with
 
-pub stop_right : (held : List ℕ → Option (List ℕ)) (words : List (List ℕ)) (s : Stop) → IsRight held words (outcome_of s)
+pub stop_right : (held : List ℕ → Option (List ℕ)) (words : List (List ℕ)) (s : ReadStop) → IsRight held words (outcome_of s)
 stop_right held words stop.ReadFault = tt
 stop_right held words stop.Memory = tt
 
-pub stop_reading : (s : Stop) → IsOfReading (outcome_of s)
+pub stop_reading : (s : ReadStop) → IsOfReading (outcome_of s)
 stop_reading stop.ReadFault = of_reading ReadFault tt
 stop_reading stop.Memory = of_reading Memory tt
 
-pub stop_is : (s : Stop) → outcome_of s ≡ ReadFault → s ≡ stop.ReadFault
+pub stop_is : (s : ReadStop) → outcome_of s ≡ ReadFault → s ≡ stop.ReadFault
 stop_is stop.ReadFault e = refl
 stop_is stop.Memory e = cc
 

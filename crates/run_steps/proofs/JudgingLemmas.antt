@@ -16,8 +16,8 @@ use Rattle.account_check.proofs.RefusalLemmas.{right_refusal}
 use Rattle.run_steps.specs.Judging.{FeedsNext, FeedsRest, JudgesRest, halt_of}
 use Rattle.run_steps.specs.Steps.{IsJudged, IsMatchIfTable, IsUnequalIfRefused, IsVerdict, Judges}
 use Rattle.shelf_files.specs.Stops.{stop_of}
-use Rattle.shelf_files.specs.declared.files.Stop.{Stop}
-use Rattle.shelf_files.specs.declared.files.Stop.TheVariants as stop
+use Rattle.shelf_files.specs.declared.files.ReadStop.{ReadStop}
+use Rattle.shelf_files.specs.declared.files.ReadStop.TheVariants as stop
 use Rattle.run_steps.specs.declared.judging.Halt.{Halt}
 use Rattle.run_steps.specs.declared.judging.Halt.TheVariants as halt
 use Rattle.run_steps.specs.declared.outcome.Outcome.{Outcome}
@@ -50,7 +50,7 @@ refuses_by graphs outcome first second account verdict is =
     right_refusal graphs proved.0 first second proved.2
 
 -- what is judged of unread bytes is judged of the account
-pub judged_by : (tells : Bool) (graphs : Graphs) (old new : ShelfState) (result : Result Outcome Stop) → IsGraph graphs.first → IsGraph graphs.second → JudgesRest tells graphs old new result → Judges tells graphs (Some old.unread) old new result
+pub judged_by : (tells : Bool) (graphs : Graphs) (old new : ShelfState) (result : Result Outcome ReadStop) → IsGraph graphs.first → IsGraph graphs.second → JudgesRest tells graphs old new result → Judges tells graphs (Some old.unread) old new result
 judged_by tells graphs old new result first second rest = record {
   files = rest.files;
   right = λ told. right result rest.verdict told;
@@ -61,16 +61,16 @@ judged_by tells graphs old new result first second rest = record {
   failed = rest.failed;
 }
   where
-    right : (r : Result Outcome Stop) → IfOk r (λ outcome. (account : List ℕ) × IsVerdict graphs (Some account) outcome × (IsTrue tells → account ≡ old.unread)) → IsTrue tells → IfOk r (IsVerdict graphs (Some old.unread))
+    right : (r : Result Outcome ReadStop) → IfOk r (λ outcome. (account : List ℕ) × IsVerdict graphs (Some account) outcome × (IsTrue tells → account ≡ old.unread)) → IsTrue tells → IfOk r (IsVerdict graphs (Some old.unread))
     right (Ok outcome) says told = subst (λ account. IsVerdict graphs (Some account) outcome) (says.2 told) says.1
     right (Err stop) says told = tt
 
-    refuses : (r : Result Outcome Stop) → IfOk r (λ outcome. (account : List ℕ) × IsVerdict graphs (Some account) outcome × (IsTrue tells → account ≡ old.unread)) → IfOk r (IsUnequalIfRefused graphs.first graphs.second)
+    refuses : (r : Result Outcome ReadStop) → IfOk r (λ outcome. (account : List ℕ) × IsVerdict graphs (Some account) outcome × (IsTrue tells → account ≡ old.unread)) → IfOk r (IsUnequalIfRefused graphs.first graphs.second)
     refuses (Ok outcome) says = refuses_by graphs outcome first second says.0 says.1
     refuses (Err stop) says = tt
 
 -- what was fed settles the account
-pub settled_by : (tells : Bool) (graphs : Graphs) (old new : ShelfState) (progress : Progress) (done : Unit {0}) (result : Result Outcome Stop) → FeedsRest tells graphs old new progress (Ok done)
+pub settled_by : (tells : Bool) (graphs : Graphs) (old new : ShelfState) (progress : Progress) (done : Unit {0}) (result : Result Outcome ReadStop) → FeedsRest tells graphs old new progress (Ok done)
     → ((bytes : List ℕ) → HasTaken graphs bytes progress → IfOk result (IsVerdict graphs (Some bytes)))
     → ((bytes : List ℕ) → HasTaken graphs bytes progress → IfOk result (IsMatchIfTable graphs.first graphs.second))
     → IfOk result IsJudged → result ≢ Err stop.ReadFault → JudgesRest tells graphs old new result
@@ -84,12 +84,12 @@ settled_by tells graphs old new progress done result feeds verdict matches judge
   failed = λ is. absurd (no_fault is);
 }
   where
-    told : (r : Result Outcome Stop) → IfOk r (IsVerdict graphs (Some feeds.taken.0)) → IfOk r (λ outcome. (account : List ℕ) × IsVerdict graphs (Some account) outcome × (IsTrue tells → account ≡ old.unread))
+    told : (r : Result Outcome ReadStop) → IfOk r (IsVerdict graphs (Some feeds.taken.0)) → IfOk r (λ outcome. (account : List ℕ) × IsVerdict graphs (Some account) outcome × (IsTrue tells → account ≡ old.unread))
     told (Ok outcome) says = (feeds.taken.0, says, feeds.taken.2)
     told (Err stop) says = tt
 
 -- the shelf failed, or memory ran out
-pub stopped_by : (tells : Bool) (graphs : Graphs) (old new : ShelfState) (progress : Progress) (fed : Result (Unit {0}) Halt) (halted : Stop) → FeedsRest tells graphs old new progress fed → fed ≡ Err (halt.Stop halted) → JudgesRest tells graphs old new (Err halted)
+pub stopped_by : (tells : Bool) (graphs : Graphs) (old new : ShelfState) (progress : Progress) (fed : Result (Unit {0}) Halt) (halted : ReadStop) → FeedsRest tells graphs old new progress fed → fed ≡ Err (halt.Stop halted) → JudgesRest tells graphs old new (Err halted)
 stopped_by tells graphs old new progress fed halted feeds is = record {
   files = feeds.files;
   mode = feeds.mode;
@@ -97,10 +97,10 @@ stopped_by tells graphs old new progress fed halted feeds is = record {
   matches = tt;
   judged = tt;
   faults = feeds.faults;
-  failed = λ e. feeds.failed (is ∙ ap (λ (s : Stop). Err (halt.Stop s)) (same e));
+  failed = λ e. feeds.failed (is ∙ ap (λ (s : ReadStop). Err (halt.Stop s)) (same e));
 }
   where
-    same : ◌≡◌ {A = Result Outcome Stop} (Err halted) (Err stop.ReadFault) → halted ≡ stop.ReadFault
+    same : ◌≡◌ {A = Result Outcome ReadStop} (Err halted) (Err stop.ReadFault) → halted ≡ stop.ReadFault
     same e = cc
 
 -- a bad line is told
@@ -250,7 +250,7 @@ fed_nothing tells graphs bytes old new buffer after progress shelf_stop result r
     failed Memory e = cc
 
 -- what is judged of the account once it is open
-pub judged_open : (tells : Bool) (graphs : Graphs) (content : Option (List ℕ)) (old open' new : ShelfState) (result : Result Outcome Stop) → ((n : List ℕ) → open'.held n ≡ old.held n) → old.faults ≤ open'.faults → (IsTrue tells → content ≡ Some open'.unread)
+pub judged_open : (tells : Bool) (graphs : Graphs) (content : Option (List ℕ)) (old open' new : ShelfState) (result : Result Outcome ReadStop) → ((n : List ℕ) → open'.held n ≡ old.held n) → old.faults ≤ open'.faults → (IsTrue tells → content ≡ Some open'.unread)
     → Judges tells graphs (Some open'.unread) open' new result → Judges tells graphs content old new result
 judged_open tells graphs content old open' new result files faults same judges = record {
   files = λ n. judges.files n ∙ files n;

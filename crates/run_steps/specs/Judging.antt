@@ -9,8 +9,8 @@ use Rattle.account_check.specs.declared.verdict.Why.{Why}
 use Rattle.account_check.specs.Checking.{HasTaken, Progress}
 use Rattle.account_check.specs.Verdicts.{IsRejected as IsBadAt}
 use Rattle.run_steps.specs.Steps.{IsJudged, IsMatchIfTable, IsVerdict}
-use Rattle.shelf_files.specs.declared.files.Stop.{Stop}
-use Rattle.shelf_files.specs.declared.files.Stop.TheVariants as stop
+use Rattle.shelf_files.specs.declared.files.ReadStop.{ReadStop}
+use Rattle.shelf_files.specs.declared.files.ReadStop.TheVariants as stop
 use Rattle.run_steps.specs.declared.judging.Halt.{Halt}
 use Rattle.run_steps.specs.declared.judging.Halt.TheVariants as halt
 use Rattle.run_steps.specs.declared.outcome.Outcome.{Outcome}
@@ -46,7 +46,7 @@ pub record FeedsRest (tells : Bool) (graphs : Graphs) (old new : ShelfState) (pr
   pub failed : result ≡ Err (halt.Stop stop.ReadFault) → Rose old.faults new.faults
 
 -- What the unread bytes of an account come to.
-pub record JudgesRest (tells : Bool) (graphs : Graphs) (old new : ShelfState) (result : Result Outcome Stop) : Type 0 where
+pub record JudgesRest (tells : Bool) (graphs : Graphs) (old new : ShelfState) (result : Result Outcome ReadStop) : Type 0 where
   pub files : (n : List ℕ) → new.held n ≡ old.held n
   pub mode : new.mode ≡ Reading
   pub verdict : IfOk result (λ outcome. (account : List ℕ) × IsVerdict graphs (Some account) outcome

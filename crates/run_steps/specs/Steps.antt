@@ -28,8 +28,8 @@ use Rattle.run_steps.specs.declared.outcome.Which.TheVariants.{Account}
 use Rattle.run_steps.specs.declared.outcome.Outcome.{Outcome}
 use Rattle.run_steps.specs.declared.outcome.Outcome.TheVariants.{AcceptedMatch, AcceptedRefusal, Rejected, Matched, NoMatching, Spent, Usage, Absent, Malformed, Informed, Made, Tried, ReadFault, WriteFault, Memory}
 use Rattle.command_words.specs.declared.words.Command.{Command}
-use Rattle.shelf_files.specs.declared.files.Stop.{Stop}
-use Rattle.shelf_files.specs.declared.files.Stop.TheVariants as stop
+use Rattle.shelf_files.specs.declared.files.ReadStop.{ReadStop}
+use Rattle.shelf_files.specs.declared.files.ReadStop.TheVariants as stop
 use Rattle.run_steps.specs.declared.outcome.Ending.{Ending}
 use Rattle.command_words.specs.Commands.{Ask, IsNotWritten, IsWritingCommand}
 
@@ -134,7 +134,7 @@ pub record IsJudged (outcome : Outcome) : Type 0 where
   pub no_table : (table : Matching) → outcome ≢ Matched table
 
 -- Judging two graphs by what the account's name holds.
-pub record Judges (tells : Bool) (graphs : Graphs) (content : Option (List ℕ)) (old new : ShelfState) (result : Result Outcome Stop) : Type 0 where
+pub record Judges (tells : Bool) (graphs : Graphs) (content : Option (List ℕ)) (old new : ShelfState) (result : Result Outcome ReadStop) : Type 0 where
   pub files : (n : List ℕ) → new.held n ≡ old.held n
   pub right : IsTrue tells → IfOk result (IsVerdict graphs content)
   pub matches : IfOk result (IsMatchIfTable graphs.first graphs.second)

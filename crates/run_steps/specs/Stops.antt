@@ -1,12 +1,12 @@
 -- What ends a run where a file isn't read or written.
 use Rattle.shelf_core.specs.declared.outside.ShelfStop.{ShelfStop}
 use Rattle.shelf_core.specs.declared.outside.ShelfStop.TheVariants.{Failed, Memory}
-use Rattle.shelf_files.specs.declared.files.Stop.{Stop}
-use Rattle.shelf_files.specs.declared.files.Stop.TheVariants as stop
+use Rattle.shelf_files.specs.declared.files.ReadStop.{ReadStop}
+use Rattle.shelf_files.specs.declared.files.ReadStop.TheVariants as stop
 use Rattle.run_steps.specs.declared.outcome.Outcome.{Outcome}
 use Rattle.run_steps.specs.declared.outcome.Outcome.TheVariants as outcome
 
-abbrev pub outcome_of : Stop → Outcome
+abbrev pub outcome_of : ReadStop → Outcome
 outcome_of stop.ReadFault = outcome.ReadFault
 outcome_of stop.Memory = outcome.Memory
 

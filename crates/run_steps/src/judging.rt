@@ -12,7 +12,7 @@ use account_check::{AccountCheck, CheckStop, Verdict, Why};
 use net_core::Graphs;
 use net_file::Named;
 use shelf_core::{Shelf, ShelfStop};
-use shelf_files::{PIECE, Stop, zeros};
+use shelf_files::{PIECE, ReadStop, zeros};
 use std::alloc::Global;
 use watch_core::{Stage, Watch};
 
@@ -20,7 +20,7 @@ use watch_core::{Stage, Watch};
 #[derive(Drop)]
 pub enum Halt {
     /// The shelf failed, or there was no memory.
-    Stop(Stop),
+    Stop(ReadStop),
     /// A line is bad, and why.
     Bad { line: u64, why: Why },
 }
@@ -32,7 +32,7 @@ impl From<ShelfStop> for Halt {
     ghost from_gives = { λ stop e. e ≡ halt.Stop (stop_of stop) };
 
     fn from(stop: ShelfStop) -> Halt {
-        Halt::Stop(Stop::from(stop))
+        Halt::Stop(ReadStop::from(stop))
     }
 }
 
@@ -44,7 +44,7 @@ impl From<CheckStop> for Halt {
     fn from(stop: CheckStop) -> Halt {
         match stop {
             CheckStop::Rejected { line, why } => Halt::Bad { line, why },
-            CheckStop::Memory => Halt::Stop(Stop::Memory),
+            CheckStop::Memory => Halt::Stop(ReadStop::Memory),
         }
     }
 }
@@ -57,7 +57,7 @@ pub fn judge<S: Shelf, W: Watch>(
     shelf: &mut S,
     name: &str,
     watch: &W,
-) -> Result<Outcome, Stop>
+) -> Result<Outcome, ReadStop>
     requires { (S.state shelf.old).mode ≡ Closed }
     ensures { Judges S.tells (graphs_of first.now second.now) ((S.state shelf.old).held name.now)
         (S.state shelf.old) (S.state shelf.new) result }
@@ -76,7 +76,7 @@ fn judge_open<S: Shelf, W: Watch>(
     shelf: &mut S,
     size: u64,
     watch: &W,
-) -> Result<Outcome, Stop>
+) -> Result<Outcome, ReadStop>
     requires reading { (S.state shelf.old).mode ≡ Reading }
     requires left { (S.state shelf.old).left ≡ size }
     requires told { IsTrue S.tells → length (S.state shelf.old).unread ≡ size }
@@ -97,7 +97,7 @@ fn judge_by<S: Shelf, W: Watch>(
     piece: &mut [u8],
     size: u64,
     watch: &W,
-) -> Result<Outcome, Stop>
+) -> Result<Outcome, ReadStop>
     requires reading { (S.state shelf.old).mode ≡ Reading }
     requires left { (S.state shelf.old).left ≡ size }
     requires told { IsTrue S.tells → length (S.state shelf.old).unread ≡ size }
@@ -120,7 +120,7 @@ fn judge_rest<S: Shelf, W: Watch>(
     size: u64,
     check: &mut AccountCheck<'_>,
     watch: &W,
-) -> Result<Outcome, Stop>
+) -> Result<Outcome, ReadStop>
     requires reading { (S.state shelf.old).mode ≡ Reading }
     requires left { (S.state shelf.old).left ≡ size }
     requires told { IsTrue S.tells → length (S.state shelf.old).unread ≡ size }
@@ -182,19 +182,19 @@ fn feed_next<S: Shelf>(
 }
 
 /// What an account comes to whose bytes were all checked.
-fn settle(alloc: Global, check: &mut AccountCheck<'_>) -> Result<Outcome, Stop>
+fn settle(alloc: Global, check: &mut AccountCheck<'_>) -> Result<Outcome, ReadStop>
     requires { IsUnderWay check.old }
     ensures verdict { (graphs : TwoGraphs) (bytes : List ℕ) → HasTaken graphs bytes check.old
         → IfOk result (IsVerdict graphs (Some bytes)) }
     ensures matches { (graphs : TwoGraphs) (bytes : List ℕ) → HasTaken graphs bytes check.old
         → IfOk result (IsMatchIfTable graphs.first graphs.second) }
     ensures judged { IfOk result IsJudged }
-    ensures no_fault { result ≢ Err Stop.ReadFault }
+    ensures no_fault { result ≢ Err ReadStop.ReadFault }
 {
     match check.finish(alloc) {
         Ok(Verdict::Match(table)) => Ok(Outcome::AcceptedMatch(table)),
         Ok(Verdict::None) => Ok(Outcome::AcceptedRefusal),
         Err(CheckStop::Rejected { line, why }) => Ok(Outcome::Rejected { line, why }),
-        Err(CheckStop::Memory) => Err(Stop::Memory),
+        Err(CheckStop::Memory) => Err(ReadStop::Memory),
     }
 }

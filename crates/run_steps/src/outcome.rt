@@ -8,7 +8,7 @@ use items::Items;
 use net_core::Matching;
 use net_file::NetKind;
 use query_core::Ledger;
-use shelf_files::Stop;
+use shelf_files::ReadStop;
 use std::alloc::AllocError;
 
 /// A file of the command line.
@@ -105,15 +105,15 @@ impl Outcome {
     }
 }
 
-impl From<Stop> for Outcome {
+impl From<ReadStop> for Outcome {
     ghost use Rattle.run_steps.specs.Stops.{outcome_of};
 
     ghost from_gives = { λ stop e. e ≡ outcome_of stop };
 
-    fn from(stop: Stop) -> Outcome {
+    fn from(stop: ReadStop) -> Outcome {
         match stop {
-            Stop::ReadFault => Outcome::ReadFault,
-            Stop::Memory => Outcome::Memory,
+            ReadStop::ReadFault => Outcome::ReadFault,
+            ReadStop::Memory => Outcome::Memory,
         }
     }
 }

@@ -6,8 +6,8 @@ use Rattle.shelf_core.specs.declared.outside.ShelfStop.{ShelfStop}
 use Rattle.shelf_core.specs.declared.outside.ShelfStop.TheVariants.{Failed}
 use Rattle.shelf_files.specs.declared.files.File.{File}
 use Rattle.shelf_files.specs.declared.files.File.TheVariants.{Absent, TooLong, Bytes}
-use Rattle.shelf_files.specs.declared.files.Stop.{Stop}
-use Rattle.shelf_files.specs.declared.files.Stop.TheVariants.{ReadFault}
+use Rattle.shelf_files.specs.declared.files.ReadStop.{ReadStop}
+use Rattle.shelf_files.specs.declared.files.ReadStop.TheVariants.{ReadFault}
 
 -- what an answer says of what the name holds
 abbrev pub Tells : ℕ → Option (List ℕ) → File → Type 0
@@ -21,7 +21,7 @@ IsWithin limit (Bytes bytes) = length bytes.items ≤ limit
 IsWithin limit other = Unit {0}
 
 -- Reading whole what a name holds, if it has at most `limit` bytes.
-pub record ReadsFile (tells : Bool) (limit : ℕ) (held : Option (List ℕ)) (old new : ShelfState) (result : Result File Stop) : Type 0 where
+pub record ReadsFile (tells : Bool) (limit : ℕ) (held : Option (List ℕ)) (old new : ShelfState) (result : Result File ReadStop) : Type 0 where
   -- no file changes, and none is open after an answer
   pub files : (n : List ℕ) → new.held n ≡ old.held n
   pub closed : OnOk result (new.mode ≡ Closed)
@@ -31,7 +31,7 @@ pub record ReadsFile (tells : Bool) (limit : ℕ) (held : Option (List ℕ)) (ol
   pub failed : result ≡ Err ReadFault → Rose old.faults new.faults
 
 -- Reading once, and adding what came to what was there.
-pub record ReadsPiece (tells : Bool) (old new : ShelfState) (before after : List ℕ) (result : Result ℕ Stop) : Type 0 where
+pub record ReadsPiece (tells : Bool) (old new : ShelfState) (before after : List ℕ) (result : Result ℕ ReadStop) : Type 0 where
   pub files : (n : List ℕ) → new.held n ≡ old.held n
   pub mode : new.mode ≡ Reading
   pub some : IfOk result (λ count. 0 < count)

@@ -13,33 +13,33 @@ pub const PIECE: usize = 65_536;
 
 /// Why a file was not read.
 #[derive(Clone, Copy, Debug, PartialEq, Eq)]
-pub enum Stop {
+pub enum ReadStop {
     /// The shelf failed.
     ReadFault,
     /// There was no memory.
     Memory,
 }
 
-impl From<ShelfStop> for Stop {
+impl From<ShelfStop> for ReadStop {
     ghost use Rattle.shelf_files.specs.Stops.{stop_of};
 
     ghost from_gives = { λ stop e. e ≡ stop_of stop };
 
-    fn from(stop: ShelfStop) -> Stop {
+    fn from(stop: ShelfStop) -> ReadStop {
         match stop {
-            ShelfStop::Failed => Stop::ReadFault,
-            ShelfStop::Memory => Stop::Memory,
+            ShelfStop::Failed => ReadStop::ReadFault,
+            ShelfStop::Memory => ReadStop::Memory,
         }
     }
 }
 
-impl From<AllocError> for Stop {
-    ghost use Rattle.shelf_files.specs.declared.files.Stop.TheVariants.{Memory};
+impl From<AllocError> for ReadStop {
+    ghost use Rattle.shelf_files.specs.declared.files.ReadStop.TheVariants.{Memory};
 
     ghost from_gives = { λ _ e. e ≡ Memory };
 
-    fn from(_stop: AllocError) -> Stop {
-        Stop::Memory
+    fn from(_stop: AllocError) -> ReadStop {
+        ReadStop::Memory
     }
 }
 
@@ -60,7 +60,7 @@ pub fn read_file<S: Shelf>(
     shelf: &mut S,
     name: &str,
     limit: u64,
-) -> Result<File, Stop>
+) -> Result<File, ReadStop>
     requires { (S.state shelf.old).mode ≡ Closed }
     ensures { ReadsFile S.tells limit ((S.state shelf.old).held name.now)
         (S.state shelf.old) (S.state shelf.new) result }
@@ -72,7 +72,12 @@ pub fn read_file<S: Shelf>(
 }
 
 /// Reads the open file, of `size` bytes, and closes it.
-fn read_open<S: Shelf>(alloc: Global, shelf: &mut S, size: u64, limit: u64) -> Result<File, Stop>
+fn read_open<S: Shelf>(
+    alloc: Global,
+    shelf: &mut S,
+    size: u64,
+    limit: u64,
+) -> Result<File, ReadStop>
     requires reading { (S.state shelf.old).mode ≡ Reading }
     requires left { (S.state shelf.old).left ≡ size }
     requires told { IsTrue S.tells → length (S.state shelf.old).unread ≡ size }
@@ -95,7 +100,7 @@ fn read_rest<S: Shelf>(
     shelf: &mut S,
     piece: &mut [u8],
     size: u64,
-) -> Result<Vec<u8>, Stop>
+) -> Result<Vec<u8>, ReadStop>
     requires reading { (S.state shelf.old).mode ≡ Reading }
     requires left { (S.state shelf.old).left ≡ size }
     requires told { IsTrue S.tells → length (S.state shelf.old).unread ≡ size }
@@ -106,7 +111,7 @@ fn read_rest<S: Shelf>(
     ensures reading { OnOk result ((S.state shelf.new).mode ≡ Reading) }
     ensures files { (n : List ℕ) → (S.state shelf.new).held n ≡ (S.state shelf.old).held n }
     ensures faults { (S.state shelf.old).faults ≤ (S.state shelf.new).faults }
-    ensures failed { result ≡ Err Stop.ReadFault
+    ensures failed { result ≡ Err ReadStop.ReadFault
         → Rose (S.state shelf.old).faults (S.state shelf.new).faults }
 {
     let mut bytes = Vec::new(alloc);
@@ -118,7 +123,11 @@ fn read_rest<S: Shelf>(
 }
 
 /// Reads once, adds what came to `bytes`, and answers how much came.
-fn read_piece<S: Shelf>(shelf: &mut S, piece: &mut [u8], bytes: &mut Vec<u8>) -> Result<u64, Stop>
+fn read_piece<S: Shelf>(
+    shelf: &mut S,
+    piece: &mut [u8],
+    bytes: &mut Vec<u8>,
+) -> Result<u64, ReadStop>
     requires reading { (S.state shelf.old).mode ≡ Reading }
     requires left { 0 < (S.state shelf.old).left }
     requires room { 0 < length piece.old }
@@ -131,6 +140,7 @@ fn read_piece<S: Shelf>(shelf: &mut S, piece: &mut [u8], bytes: &mut Vec<u8>) ->
 }
 
 /// `count` zeros.
+// A function, so that no caller slices a vector of literal length: that ends the prover in deep recursion.
 pub fn zeros(alloc: Global, count: usize) -> Result<Vec<u8>, AllocError>
     ensures { IfOk result (λ bytes. bytes.items ≡ replicate count 0) }
 {

@@ -4,5 +4,5 @@
 mod files;
 mod writing;
 
-pub use files::{File, PIECE, Stop, read_file, zeros};
+pub use files::{File, PIECE, ReadStop, read_file, zeros};
 pub use writing::{write_account, write_text};

@@ -1,5 +1,5 @@
 -- One fact more is read.
-use Rattle.std.proofs.Common.{◌+◌, get_or, drop, ap, subst, ◌∙◌, arith}
+use Rattle.std.proofs.Common.{◌+◌, get_or, drop, ap, subst, ◌∙◌}
 use Rattle.claim_core.specs.declared.claims.Claim.{Claim}
 use Rattle.account_core.specs.Given.{fact_at}
 use Rattle.account_core.specs.Tallies.{shapes_of}

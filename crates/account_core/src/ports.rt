@@ -1,0 +1,38 @@
+//! The ports of two circuits, and pairs of them.
+
+ghost use Rattle.std.specs.Prelude.{◌≡◌, ◌↔◌, IsTrue};
+ghost use Rattle.account_core.specs.Covers.{way};
+ghost use Rattle.account_core.specs.Ports.{HaveAsMany, ports_in};
+
+use circuits::{Pair, PortKind};
+use net_core::{Graph, Graphs};
+
+/// Whether two circuits have as many inputs, and as many outputs.
+pub fn have_as_many(graphs: &Graphs<'_>) -> bool
+    ensures { IsTrue result ↔ HaveAsMany graphs.now.first graphs.now.second }
+{
+    (graphs.first().inputs() == graphs.second().inputs())
+        & (graphs.first().outputs().len() == graphs.second().outputs().len())
+}
+
+/// How many ports of a kind a circuit has.
+pub fn ports_in(graph: &Graph, kind: PortKind) -> u32
+    ensures { result ≡ ports_in graph.now kind }
+{
+    match kind {
+        PortKind::Input => graph.inputs(),
+        PortKind::Output => graph.outputs().len() as u32,
+    }
+}
+
+/// A way to pair two ports.
+pub fn way(kind: PortKind, from: u32, to: u32, flip: bool) -> Pair
+    ensures { result ≡ way kind from to flip }
+{
+    Pair {
+        kind,
+        from,
+        to,
+        flip,
+    }
+}
