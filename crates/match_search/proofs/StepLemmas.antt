@@ -17,7 +17,7 @@ use Rattle.conflict_core.proofs.GroundedLemmas.{grounded_none}
 use Rattle.pair_search.specs.Progress.{IsTrail, Propagates, StaysJustified}
 use Rattle.match_search.specs.declared.found.Found.{Found}
 use Rattle.match_search.specs.Founds.{IsFound}
-use Rattle.match_search.specs.States.{AreSameLoans, GoesOn, Lent, MayGoOn, MaySearch, MayStep, Searches, Steps}
+use Rattle.match_search.specs.States.{AreSameLoans, GoesOn, Lent, MayGoOn, MayStep, Searches, Steps}
 use Rattle.match_search.proofs.AskLemmas.{IsUnderWay, held_learned, shown_adds, shown_follows, shown_stays}
 use Rattle.fact_bans.proofs.ServeLemmas.{served_one, serves_err, serves_last}
 
