@@ -65,7 +65,8 @@ fn keys(alloc: Global, side: Side, outputs: u32, seen: &Seen) -> Result<Vec<Key>
     Ok(keys)
 }
 
-// The key that one circuit has more often, with the fewest ways to pair its outputs with those of other keys.
+// The key that one circuit has more often, with the fewest ways to pair its outputs with those of other keys. It counts anew for
+// each output, which is good enough because this is done once a try, and tries are few.
 fn rarest(first: &[Key], second: &[Key]) -> Option<Key> {
     let mut found = None;
     let mut fewest = MOST_WAYS + 1;

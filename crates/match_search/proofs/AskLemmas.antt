@@ -14,7 +14,6 @@ use Rattle.account_core.specs.declared.step.Step.TheVariants as step
 use Rattle.claim_rows.specs.declared.mismatched.Unlike.{Unlike}
 use Rattle.claim_rows.specs.Mismatched.{IsBanBy, mismatch_of}
 use Rattle.oracle_core.specs.Oracles.{Grows, Known}
-use Rattle.table_guess.specs.declared.trials.Trials.{Trials}
 use Rattle.table_guess.specs.Trials.{AreTrials}
 use Rattle.ban_book.specs.Vectors.{AreLastResorts}
 use Rattle.ban_book.proofs.VectorLemmas.{last_resorts_push_other}
@@ -35,7 +34,7 @@ use Rattle.pair_search.proofs.StepLemmas.{HasOneMore, justified_one, less_one, o
 pub use Rattle.pair_refine.proofs.TrailLemmas.{known_of, shown_adds, shown_grows, trail_adds}
 use Rattle.match_search.specs.declared.ahead.Ahead.{Ahead}
 use Rattle.match_search.specs.declared.ahead.Ahead.TheVariants as ahead
-use Rattle.match_search.specs.States.{Deletes, IsAhead, IsShownTrail}
+use Rattle.match_search.specs.States.{AreSameLoans, Deletes, IsAhead, IsShownTrail, Lent}
 
 -- the trail after pairs were held and deleted in view of the bans as they were lent
 pub trail_beside : (graphs : Graphs) (bans lent : List Ban) (before after : Domained) → lent ≡ bans → IsTrail graphs bans before → after.inputs ≡ before.inputs → after.outputs ≡ before.outputs → AreJustified after.inputs after.outputs lent after.entries → IsTrail graphs bans after
@@ -108,14 +107,15 @@ deleting_then graphs old mid now a b c bans pair start before after one served d
 }
 
 -- Bans were held, while pairs were held and deleted as it follows.
-pub record IsUnderWay (graphs : Graphs) (old now : Known) (a b : Ledgered) (bans more : List Ban) (domains : Domained) (vectors : Trials) : Type 0 where
-  pub held : HasHeld graphs old now a b bans more
-  pub trail : IsShownTrail graphs now more domains
-  pub trials : AreTrials graphs.first vectors
+pub record IsUnderWay (graphs : Graphs) (old now : Lent) (domains : Domained) : Type 0 where
+  pub same : AreSameLoans old now
+  pub held : HasHeld graphs old.known now.known old.ledger now.ledger old.bans now.bans
+  pub trail : IsShownTrail graphs now.known now.bans domains
+  pub trials : AreTrials graphs.first now.vectors
 
 -- and no more is left than at first
-pub record IsSettling (graphs : Graphs) (old now : Known) (a b : Ledgered) (bans more : List Ban) (start domains : Domained) (vectors : Trials) : Type 0 where
-  pub way : IsUnderWay graphs old now a b bans more domains vectors
+pub record IsSettling (graphs : Graphs) (old now : Lent) (start domains : Domained) : Type 0 where
+  pub way : IsUnderWay graphs old now domains
   pub less : left domains ≤ left start
 
 step_later : (graphs : Graphs) (facts : List Decided) (bans : List Ban) (start before after : Domained) (step : Ahead) → left before ≤ left start → IsAhead graphs facts bans before after step → IsAhead graphs facts bans start after step

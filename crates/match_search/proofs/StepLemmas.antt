@@ -1,5 +1,5 @@
 -- Steps of the search, one after the other.
-use Rattle.std.proofs.Common.{◌≡◌, List, [], Result, Ok, Err, refl}
+use Rattle.std.proofs.Common.{◌≡◌, List, [], Result, Ok, Err, refl, sym, subst, ◌∙◌}
 use Rattle.std.specs.Prelude.{IfOk, IsErrAnd, OnOk}
 use Rattle.cnf_core.specs.declared.stop.Stop.{Stop}
 use Rattle.cnf_core.specs.declared.stop.Stop.TheVariants.{Memory}
@@ -8,15 +8,16 @@ use Rattle.query_core.specs.Ledgers.{Ledgered}
 use Rattle.account_core.specs.declared.step.Ban.{Ban}
 use Rattle.oracle_core.specs.Oracles.{Known, Serves}
 use Rattle.table_guess.specs.declared.trials.Trials.{Trials}
+use Rattle.table_guess.specs.Trials.{AreTrials}
 use Rattle.class_refine.specs.Trails.{Domained}
-use Rattle.fact_bans.specs.Serving.{HasServed, HoldsBans, MayHold}
+use Rattle.fact_bans.specs.Serving.{HasServed, HoldsBans}
 use Rattle.fact_bans.proofs.HoldingLemmas.{HasHeld, held_kept, held_one, held_same, held_then, holds_err, holds_last, holds_ok, holds_stop, may_later}
 use Rattle.conflict_core.specs.Grounded.{LearnsMore, StayGrounded}
 use Rattle.conflict_core.proofs.GroundedLemmas.{grounded_none}
 use Rattle.pair_search.specs.Progress.{IsTrail, Propagates, StaysJustified}
 use Rattle.match_search.specs.declared.found.Found.{Found}
 use Rattle.match_search.specs.Founds.{IsFound}
-use Rattle.match_search.specs.States.{MaySearch, MayStep, Searches, Steps}
+use Rattle.match_search.specs.States.{AreSameLoans, GoesOn, Lent, MayGoOn, MayStep, Searches, Steps}
 use Rattle.match_search.proofs.AskLemmas.{IsUnderWay, held_learned, shown_adds, shown_follows, shown_stays}
 use Rattle.fact_bans.proofs.ServeLemmas.{served_one, serves_err, serves_last}
 
@@ -41,107 +42,197 @@ held_on held holds = held_then _ _ _ _ _ _ _ _ _ _ held (held_one _ _ _ _ _ _ _ 
 pub held_asked : {X : Type 0} {graphs : Graphs} {old mid new : Known} {a b c : Ledgered} {first second : List Ban} {x : X} → HasHeld graphs old mid a b first second → Serves mid new b c (Ok x) → HasHeld graphs old new a c first second
 held_asked held serves = held_then _ _ _ _ _ _ _ _ _ _ held (held_kept _ _ _ _ _ _ _ held.valid (served_one _ _ _ _ _ serves) refl)
 
+same_then : {old mid new : Lent} → AreSameLoans old mid → AreSameLoans mid new → AreSameLoans old new
+same_then one other = record {
+  oracle = other.oracle ∙ one.oracle;
+  aids = other.aids ∙ one.aids;
+  book = other.book ∙ one.book;
+  ledger = other.ledger ∙ one.ledger;
+}
+
 -- all pairs are open
-pub may_anew : {graphs : Graphs} {known : Known} {ledger : Ledgered} {bans : List Ban} {d : Domained} {v : Trials} → MaySearch graphs known ledger bans v → IsTrail graphs bans d → d.entries ≡ [] → MayStep graphs known ledger bans d v
-may_anew may trail none = record {
-  may = may.may;
+pub may_anew : {graphs : Graphs} {s : Lent} {d : Domained} → MayGoOn graphs s → AreTrials graphs.first s.vectors → IsTrail graphs s.bans d → d.entries ≡ [] → MayStep graphs s d
+may_anew may trials trail none = record {
+  may = may;
   trail = record { trail = trail; shown = grounded_none _ _ _ none };
-  trials = may.trials;
+  trials = trials;
 }
 
 -- nothing was done yet
-pub way_start : {graphs : Graphs} {known : Known} {ledger : Ledgered} {bans : List Ban} {d : Domained} {v : Trials} → MayStep graphs known ledger bans d v → IsUnderWay graphs known known ledger ledger bans bans d v
+pub way_start : {graphs : Graphs} {s : Lent} {d : Domained} → MayStep graphs s d → IsUnderWay graphs s s d
 way_start may = record {
+  same = record { oracle = refl; aids = refl; book = refl; ledger = refl };
   held = held_same _ _ _ _ may.may;
   trail = may.trail;
   trials = may.trials;
 }
 
 -- a step that was answered
-pub way_one : {X : Type 0} {graphs : Graphs} {old new : Known} {a b : Ledgered} {bans more : List Ban} {d : Domained} {v : Trials} {x : X} → Steps graphs old new a b bans more d v (Ok x) → IsUnderWay graphs old new a b bans more d v
+pub way_one : {X : Type 0} {graphs : Graphs} {old new : Lent} {d : Domained} {x : X} → Steps graphs old new d (Ok x) → IsUnderWay graphs old new d
 way_one steps = record {
+  same = steps.same;
   held = held_one _ _ _ _ _ _ _ _ steps.holds;
   trail = steps.trail;
   trials = steps.trials;
 }
 
 -- one more step after others
-pub way_more : {X : Type 0} {graphs : Graphs} {old mid new : Known} {a b c : Ledgered} {first second third : List Ban} {d e : Domained} {v w : Trials} {x : X} → IsUnderWay graphs old mid a b first second d v → Steps graphs mid new b c second third e w (Ok x) → IsUnderWay graphs old new a c first third e w
+pub way_more : {X : Type 0} {graphs : Graphs} {old mid new : Lent} {d e : Domained} {x : X} → IsUnderWay graphs old mid d → Steps graphs mid new e (Ok x) → IsUnderWay graphs old new e
 way_more way steps = record {
+  same = same_then way.same steps.same;
   held = held_on way.held steps.holds;
   trail = steps.trail;
   trials = steps.trials;
 }
 
 -- bans were held, and no pair
-pub way_bans : {X : Type 0} {graphs : Graphs} {old mid new : Known} {a b c : Ledgered} {first second third : List Ban} {d : Domained} {v : Trials} {x : X} → IsUnderWay graphs old mid a b first second d v → HoldsBans graphs mid new b c second third (Ok x) → IsUnderWay graphs old new a c first third d v
-way_bans way holds = record {
-  held = held_on way.held holds;
-  trail = shown_adds _ _ _ _ _ _ holds.serves.grows holds.adds way.trail;
-  trials = way.trials;
+pub way_bans : {X : Type 0} {graphs : Graphs} {old mid new : Lent} {d : Domained} {x : X} → IsUnderWay graphs old mid d → GoesOn graphs mid new (Ok x) → IsUnderWay graphs old new d
+way_bans {X} {graphs} way goes = record {
+  same = same_then way.same goes.same;
+  held = held_on way.held goes.holds;
+  trail = shown_adds _ _ _ _ _ _ goes.holds.serves.grows goes.holds.adds way.trail;
+  trials = subst (AreTrials graphs.first) (sym goes.trials) way.trials;
+}
+
+-- whole tables were compared, with more trials
+pub way_compared : {X : Type 0} {graphs : Graphs} {lent : Lent} {d : Domained} {known : Known} {ledger : Ledgered} {bans : List Ban} {vectors : Trials} {x : X} → MayStep graphs lent d → HoldsBans graphs lent.known known lent.ledger ledger lent.bans bans (Ok x) → AreTrials graphs.first vectors → IsUnderWay graphs lent (record lent { known = known; ledger = ledger; bans = bans; vectors = vectors }) d
+way_compared may holds trials = record {
+  same = record { oracle = refl; aids = refl; book = refl; ledger = refl };
+  held = held_one _ _ _ _ _ _ _ _ holds;
+  trail = shown_adds _ _ _ _ _ _ holds.serves.grows holds.adds may.trail;
+  trials = trials;
 }
 
 -- what follows was held and deleted, in view of the bans as they were lent
-pub way_follows : {graphs : Graphs} {old new : Known} {a b : Ledgered} {bans more lent : List Ban} {d e : Domained} {v : Trials} → lent ≡ more → IsUnderWay graphs old new a b bans more d v → Propagates lent d e → IsUnderWay graphs old new a b bans more e v
+pub way_follows : {graphs : Graphs} {old now : Lent} {lent : List Ban} {d e : Domained} → lent ≡ now.bans → IsUnderWay graphs old now d → Propagates lent d e → IsUnderWay graphs old now e
 way_follows same way follows = record {
+  same = way.same;
   held = way.held;
   trail = shown_follows _ _ _ _ _ _ same way.trail follows;
   trials = way.trials;
 }
 
 -- and a pair was chosen or deleted, or the search went back
-pub way_stays : {graphs : Graphs} {old new : Known} {a b : Ledgered} {bans more lent : List Ban} {d e : Domained} {v : Trials} → lent ≡ more → IsUnderWay graphs old new a b bans more d v → StaysJustified lent d e → IsUnderWay graphs old new a b bans more e v
+pub way_stays : {graphs : Graphs} {old now : Lent} {lent : List Ban} {d e : Domained} → lent ≡ now.bans → IsUnderWay graphs old now d → StaysJustified lent d e → IsUnderWay graphs old now e
 way_stays same way stays = record {
+  same = way.same;
   held = way.held;
   trail = shown_stays _ _ _ _ _ _ same way.trail stays;
   trials = way.trials;
 }
 
 -- and bans came that are learned from the pairs
-pub way_back : {graphs : Graphs} {old new : Known} {a b : Ledgered} {bans more learned : List Ban} {d e : Domained} {v : Trials} → IsUnderWay graphs old new a b bans more d v → LearnsMore graphs d.entries more learned → IsTrail graphs learned e → StayGrounded d.entries e.entries → IsUnderWay graphs old new a b bans learned e v
+pub way_back : {graphs : Graphs} {old mid : Lent} {d e : Domained} {learned : List Ban} → IsUnderWay graphs old mid d → LearnsMore graphs d.entries mid.bans learned → IsTrail graphs learned e → StayGrounded d.entries e.entries → IsUnderWay graphs old (record mid { bans = learned }) e
 way_back way more trail stay = record {
+  same = record { oracle = way.same.oracle; aids = way.same.aids; book = way.same.book; ledger = way.same.ledger };
   held = held_learned _ _ _ _ _ _ _ _ _ way.held way.trail.shown more;
   trail = record { trail = trail; shown = stay.stay _ _ way.trail.shown };
   trials = way.trials;
 }
 
 -- after steps that were answered the next one may be made
-pub may_go_on : {graphs : Graphs} {old new : Known} {a b : Ledgered} {bans more : List Ban} {d : Domained} {v : Trials} → MayHold graphs old a bans → IsUnderWay graphs old new a b bans more d v → MayStep graphs new b more d v
+pub may_go_on : {graphs : Graphs} {old now : Lent} {d : Domained} → MayGoOn graphs old → IsUnderWay graphs old now d → MayStep graphs now d
 may_go_on may way = record {
   may = may_later _ _ _ _ _ _ _ may way.held;
   trail = way.trail;
   trials = way.trials;
 }
 
-pub steps_ok : {X : Type 0} {graphs : Graphs} {old new : Known} {a b : Ledgered} {bans more : List Ban} {d : Domained} {v : Trials} {x : X} → IsUnderWay graphs old new a b bans more d v → Steps graphs old new a b bans more d v (Ok x)
+pub steps_ok : {X : Type 0} {graphs : Graphs} {old now : Lent} {d : Domained} {x : X} → IsUnderWay graphs old now d → Steps graphs old now d (Ok x)
 steps_ok way = record {
+  same = way.same;
   holds = holds_ok _ _ _ _ _ _ _ _ _ refl way.held;
   trail = way.trail;
   trials = way.trials;
 }
 
 -- a call that ends the others without an answer
-pub steps_err : {X Y : Type 0} {graphs : Graphs} {old mid new : Known} {a b c : Ledgered} {first second third : List Ban} {d : Domained} {v : Trials} {result : Result Y Stop} {stop : Stop} → IsErrAnd result (λ e. e ≡ stop) → HasHeld graphs old mid a b first second → HoldsBans {X = X} graphs mid new b c second third (Err stop) → Steps graphs old new a c first third d v result
-steps_err is held holds = record {
-  holds = holds_err _ _ _ _ _ _ _ _ _ _ _ _ is held holds;
+pub steps_cut : {X Y : Type 0} {graphs : Graphs} {old mid new : Lent} {c e : Domained} {result : Result Y Stop} {stop : Stop} → IsErrAnd result (λ e. e ≡ stop) → IsUnderWay graphs old mid c → AreSameLoans mid new → HoldsBans {X = X} graphs mid.known new.known mid.ledger new.ledger mid.bans new.bans (Err stop) → Steps graphs old new e result
+steps_cut is way same holds = record {
+  same = same_then way.same same;
+  holds = holds_err _ _ _ _ _ _ _ _ _ _ _ _ is way.held holds;
   trail = never_ok _ _ _ is;
   trials = never_ok _ _ _ is;
 }
 
+-- a step that does
+pub steps_err : {X Y : Type 0} {graphs : Graphs} {old mid new : Lent} {c d e : Domained} {result : Result Y Stop} {stop : Stop} → IsErrAnd result (λ e. e ≡ stop) → IsUnderWay graphs old mid c → Steps {X = X} graphs mid new d (Err stop) → Steps graphs old new e result
+steps_err is way steps = steps_cut is way steps.same steps.holds
+
+-- and a call that holds and deletes no pair
+pub steps_fail : {X Y : Type 0} {graphs : Graphs} {old mid new : Lent} {c e : Domained} {result : Result Y Stop} {stop : Stop} → IsErrAnd result (λ e. e ≡ stop) → IsUnderWay graphs old mid c → GoesOn {X = X} graphs mid new (Err stop) → Steps graphs old new e result
+steps_fail is way goes = steps_cut is way goes.same goes.holds
+
 -- memory ran out after calls that were answered
-pub steps_stop : {Y : Type 0} {graphs : Graphs} {old new : Known} {a b : Ledgered} {bans more : List Ban} {d : Domained} {v : Trials} {result : Result Y Stop} → IsErrAnd result (λ e. e ≡ Memory) → HasHeld graphs old new a b bans more → Steps graphs old new a b bans more d v result
-steps_stop is held = record {
-  holds = holds_stop _ _ _ _ _ _ _ _ is held;
+pub steps_stop : {Y : Type 0} {graphs : Graphs} {old now : Lent} {c d : Domained} {result : Result Y Stop} → IsErrAnd result (λ e. e ≡ Memory) → IsUnderWay graphs old now c → Steps graphs old now d result
+steps_stop is way = record {
+  same = way.same;
+  holds = holds_stop _ _ _ _ _ _ _ _ is way.held;
+  trail = never_ok _ _ _ is;
+  trials = never_ok _ _ _ is;
+}
+
+-- also while a ban is learned from the pairs
+pub steps_unlearned : {Y : Type 0} {graphs : Graphs} {old mid : Lent} {c d : Domained} {learned : List Ban} {result : Result Y Stop} → IsErrAnd result (λ e. e ≡ Memory) → IsUnderWay graphs old mid c → LearnsMore graphs c.entries mid.bans learned → Steps graphs old (record mid { bans = learned }) d result
+steps_unlearned is way more = record {
+  same = record { oracle = way.same.oracle; aids = way.same.aids; book = way.same.book; ledger = way.same.ledger };
+  holds = holds_stop _ _ _ _ _ _ _ _ is (held_learned _ _ _ _ _ _ _ _ _ way.held way.trail.shown more);
   trail = never_ok _ _ _ is;
   trials = never_ok _ _ _ is;
 }
 
 -- a step that is the last one
-pub steps_last : {X : Type 0} {graphs : Graphs} {old mid new : Known} {a b c : Ledgered} {first second third : List Ban} {d : Domained} {v : Trials} {result : Result X Stop} → HasHeld graphs old mid a b first second → Steps graphs mid new b c second third d v result → Steps graphs old new a c first third d v result
-steps_last held steps = record {
-  holds = holds_last _ _ _ _ _ _ _ _ _ _ _ held steps.holds;
+pub steps_last : {X : Type 0} {graphs : Graphs} {old mid new : Lent} {c d : Domained} {result : Result X Stop} → IsUnderWay graphs old mid c → Steps graphs mid new d result → Steps graphs old new d result
+steps_last way steps = record {
+  same = same_then way.same steps.same;
+  holds = holds_last _ _ _ _ _ _ _ _ _ _ _ way.held steps.holds;
   trail = steps.trail;
   trials = steps.trials;
+}
+
+-- a call of what the session is lent, one by one
+pub goes_by : {X : Type 0} {graphs : Graphs} {old : Lent} {known : Known} {ledger : Ledgered} {bans : List Ban} {vectors : Trials} {result : Result X Stop} → HoldsBans graphs old.known known old.ledger ledger old.bans bans result → vectors ≡ old.vectors → GoesOn graphs old (record old { known = known; ledger = ledger; bans = bans; vectors = vectors }) result
+goes_by holds trials = record {
+  same = record { oracle = refl; aids = refl; book = refl; ledger = refl };
+  holds = holds;
+  trials = trials;
+}
+
+-- Calls that hold bans and no pair, one after the other.
+pub record HasGoneOn (graphs : Graphs) (old now : Lent) : Type 0 where
+  pub same : AreSameLoans old now
+  pub held : HasHeld graphs old.known now.known old.ledger now.ledger old.bans now.bans
+  pub trials : now.vectors ≡ old.vectors
+
+pub gone_none : {graphs : Graphs} {s : Lent} → MayGoOn graphs s → HasGoneOn graphs s s
+gone_none may = record {
+  same = record { oracle = refl; aids = refl; book = refl; ledger = refl };
+  held = held_same _ _ _ _ may;
+  trials = refl;
+}
+
+pub gone_more : {X : Type 0} {graphs : Graphs} {old mid new : Lent} {x : X} → HasGoneOn graphs old mid → GoesOn graphs mid new (Ok x) → HasGoneOn graphs old new
+gone_more gone goes = record {
+  same = same_then gone.same goes.same;
+  held = held_on gone.held goes.holds;
+  trials = goes.trials ∙ gone.trials;
+}
+
+pub may_ask_on : {graphs : Graphs} {old now : Lent} → MayGoOn graphs old → HasGoneOn graphs old now → MayGoOn graphs now
+may_ask_on may gone = may_later _ _ _ _ _ _ _ may gone.held
+
+pub goes_ok : {X : Type 0} {graphs : Graphs} {old now : Lent} {x : X} → HasGoneOn graphs old now → GoesOn graphs old now (Ok x)
+goes_ok gone = record {
+  same = gone.same;
+  holds = holds_ok _ _ _ _ _ _ _ _ _ refl gone.held;
+  trials = gone.trials;
+}
+
+pub goes_err : {X Y : Type 0} {graphs : Graphs} {old mid new : Lent} {result : Result Y Stop} {stop : Stop} → IsErrAnd result (λ e. e ≡ stop) → HasGoneOn graphs old mid → GoesOn {X = X} graphs mid new (Err stop) → GoesOn graphs old new result
+goes_err is gone goes = record {
+  same = same_then gone.same goes.same;
+  holds = holds_err _ _ _ _ _ _ _ _ _ _ _ _ is gone.held goes.holds;
+  trials = goes.trials ∙ gone.trials;
 }
 
 -- a search that found a match, or a ban without pairs

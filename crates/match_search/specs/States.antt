@@ -1,5 +1,6 @@
 -- What a step of a search leaves.
 use Rattle.std.specs.Prelude.{◌≡◌, ◌<◌, ◌≤◌, List, Contains, Result, IfOk, OnOk}
+use Rattle.std.specs.Borrow.{GName}
 use Rattle.cnf_core.specs.declared.stop.Stop.{Stop}
 use Rattle.circuits.specs.declared.port.Pair.{Pair}
 use Rattle.net_core.specs.Sides.{Graphs}
@@ -19,6 +20,7 @@ use Rattle.pair_search.specs.Progress.{left}
 use Rattle.pair_refine.specs.Stable.{AreOutputsDecided}
 use Rattle.match_search.specs.Founds.{IsFound}
 use Rattle.match_search.specs.declared.found.Found.{Found}
+use Rattle.match_search.specs.declared.session.Session.{Session}
 use Rattle.match_search.specs.declared.ahead.Ahead.{Ahead}
 use Rattle.match_search.specs.declared.ahead.Ahead.TheVariants as ahead
 use Rattle.match_search.specs.declared.ahead.Settled.{Settled}
@@ -26,12 +28,52 @@ use Rattle.match_search.specs.declared.ahead.Settled.TheVariants as settled
 pub use Rattle.fact_bans.specs.Serving.{AreValid, HasServed}
 pub use Rattle.pair_refine.specs.Refining.{IsShownTrail}
 
+-- What a session has of what it is lent, as far as bans and pairs hang on it, and the names of the loans.
+pub record Lent : Type 0 where
+  pub known : Known
+  pub ledger : Ledgered
+  pub bans : List Ban
+  pub vectors : Trials
+  pub oracle_name : GName
+  pub aids_name : GName
+  pub book_name : GName
+  pub ledger_name : GName
+
+abbrev pub lent : {O : Type 0} → (O → Known) → Session O → Lent
+lent known s = record {
+  known = known s.oracle.now;
+  ledger = s.ledger.now;
+  bans = s.book.now;
+  vectors = s.aids.now.trials;
+  oracle_name = s.oracle.ghost_name;
+  aids_name = s.aids.ghost_name;
+  book_name = s.book.ghost_name;
+  ledger_name = s.ledger.ghost_name;
+}
+
+-- They are the same loans.
+pub record AreSameLoans (old new : Lent) : Type 0 where
+  pub oracle : new.oracle_name ≡ old.oracle_name
+  pub aids : new.aids_name ≡ old.aids_name
+  pub book : new.book_name ≡ old.book_name
+  pub ledger : new.ledger_name ≡ old.ledger_name
+
+-- claims may be asked and bans held
+abbrev pub MayGoOn : Graphs → Lent → Type 0
+MayGoOn graphs lent = MayHold graphs lent.known lent.ledger lent.bans
+
+-- What a call does that holds and deletes no pair: claims were decided and bans held by their facts, whatever it answers, and the
+-- trials stay.
+pub record GoesOn {X : Type 0} (graphs : Graphs) (old new : Lent) (result : Result X Stop) : Type 0 where
+  pub same : AreSameLoans old new
+  pub holds : HoldsBans graphs old.known new.known old.ledger new.ledger old.bans new.bans result
+  pub trials : new.vectors ≡ old.vectors
+
 -- A step may be made: claims may be asked and bans held, facts show the trail, and the trials are the first circuit's.
-pub record MayStep (graphs : Graphs) (known : Known) (ledger : Ledgered) (bans : List Ban) (domains : Domained)
-    (vectors : Trials) : Type 0 where
-  pub may : MayHold graphs known ledger bans
-  pub trail : IsShownTrail graphs known bans domains
-  pub trials : AreTrials graphs.first vectors
+pub record MayStep (graphs : Graphs) (lent : Lent) (domains : Domained) : Type 0 where
+  pub may : MayGoOn graphs lent
+  pub trail : IsShownTrail graphs lent.known lent.bans domains
+  pub trials : AreTrials graphs.first lent.vectors
 
 -- A search may begin: the same without a trail.
 pub record MaySearch (graphs : Graphs) (known : Known) (ledger : Ledgered) (bans : List Ban) (vectors : Trials) : Type 0 where
@@ -39,12 +81,12 @@ pub record MaySearch (graphs : Graphs) (known : Known) (ledger : Ledgered) (bans
   pub trials : AreTrials graphs.first vectors
 
 -- What a step does: claims were decided and bans held by their facts, whatever it answers, and where it does the next step may be
--- made, with these pairs held and deleted and these trials.
-pub record Steps {X : Type 0} (graphs : Graphs) (old new : Known) (before after : Ledgered) (bans more : List Ban)
-    (domains : Domained) (vectors : Trials) (result : Result X Stop) : Type 0 where
-  pub holds : HoldsBans graphs old new before after bans more result
-  pub trail : OnOk result (IsShownTrail graphs new more domains)
-  pub trials : OnOk result (AreTrials graphs.first vectors)
+-- made, with these pairs held and deleted.
+pub record Steps {X : Type 0} (graphs : Graphs) (old new : Lent) (domains : Domained) (result : Result X Stop) : Type 0 where
+  pub same : AreSameLoans old new
+  pub holds : HoldsBans graphs old.known new.known old.ledger new.ledger old.bans new.bans result
+  pub trail : OnOk result (IsShownTrail graphs new.known new.bans domains)
+  pub trials : OnOk result (AreTrials graphs.first new.vectors)
 
 -- What a search does: claims were decided, and the bans are valid by their facts, whatever it answers; and a match that it
 -- answers is shown, or a ban without pairs.

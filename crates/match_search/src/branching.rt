@@ -3,12 +3,12 @@
 ghost use Rattle.std.specs.Prelude.{◌≡◌, ◌<◌, false, IfNone, IfOk, IfSome, OnOk, map};
 ghost use Rattle.account_core.specs.Given.{decided_by};
 ghost use Rattle.account_core.specs.Shown.{IsShownMatch};
-ghost use Rattle.fact_bans.specs.Serving.{HoldsBans, MayHold};
+ghost use Rattle.fact_bans.specs.Serving.{HoldsBans};
 ghost use Rattle.match_search.specs.Founds.{IsDecidedFound, IsFound};
 ghost use Rattle.port_sides.specs.Held.{IsWhole};
 ghost use Rattle.class_refine.specs.Trails.{held_in};
 ghost use Rattle.pair_search.specs.Progress.{left};
-ghost use Rattle.match_search.specs.States.{IsAhead, IsShownTrail, MaySearch, MayStep, Searches, Steps};
+ghost use Rattle.match_search.specs.States.{IsAhead, MaySearch, MayStep, Searches, Steps, lent};
 ghost use Rattle.table_guess.specs.Trials.{AreTrials};
 
 use crate::ahead::{Ahead, Settled};
@@ -16,11 +16,11 @@ use crate::aids::Aids;
 use crate::candidate::compare_whole;
 use crate::following::follow;
 use crate::found::Found;
-use crate::trail::Trail;
+use crate::session::Session;
+use crate::trail::PairTrail;
 use ban_book::BanBook;
 use class_refine::Domains;
 use cnf_core::{Log, Stop};
-use fact_bans::Seen;
 use items::Items;
 use net_core::Matching;
 use oracle_core::Oracle;
@@ -55,19 +55,40 @@ pub(crate) fn explore_rounds<O: Oracle>(
     ensures decided { IfOk result (λ found. IfSome found
         (IsDecidedFound graphs.now (map decided_by (O.known oracle.new).facts))) }
 {
-    aids.guide.begin(lines);
-    let mut trail = Trail::new(alloc, graphs)?;
+    let mut trail = PairTrail::new(alloc, graphs)?;
+    let mut session = Session {
+        alloc,
+        oracle,
+        aids,
+        book,
+        ledger,
+    };
+    session.aids.guide.begin(lines);
+    run_rounds(graphs, &mut session, &mut trail, rounds)
+}
+
+// Searches for this many rounds, or until something is found, or the bans take all their room.
+fn run_rounds<O: Oracle>(
+    graphs: &PairableGraphs<'_>,
+    session: &mut Session<'_, O>,
+    trail: &mut PairTrail,
+    rounds: u64,
+) -> Result<Option<Found>, Stop>
+    requires may { MayStep graphs.now (lent O.known session.old) trail.old.domains }
+    ensures steps { Steps graphs.now (lent O.known session.old) (lent O.known session.new) trail.new.domains result }
+    ensures found { IfOk result (λ found. IfSome found (IsFound graphs.now session.new.book.now)) }
+    ensures decided { IfOk result (λ found. IfSome found
+        (IsDecidedFound graphs.now (map decided_by (O.known session.new.oracle.now).facts))) }
+{
     for _round in 0..rounds {
-        if let Some(found) = explore_round(
-            alloc, graphs, oracle, aids, &mut trail, true, book, ledger,
-        )? {
+        if let Some(found) = explore_round(graphs, session, trail, true)? {
             return Ok(Some(found));
         }
-        if aids.guide.is_full() {
+        if session.aids.guide.is_full() {
             return Ok(None);
         }
-        start_over(&mut trail.domains, &mut trail.queue, book.bans());
-        aids.guide.begin_round(trail.domains.pairs().len());
+        start_over(&mut trail.domains, &mut trail.queue, session.book.bans());
+        session.aids.guide.begin_round(trail.domains.pairs().len());
     }
     Ok(None)
 }
@@ -89,8 +110,29 @@ pub(crate) fn explore_whole<O: Oracle>(
     ensures searches { Searches graphs.now (O.known oracle.old) (O.known oracle.new) ledger.old ledger.new book.new result }
     ensures decided { IfOk result (IsDecidedFound graphs.now (map decided_by (O.known oracle.new).facts)) }
 {
-    let mut trail = Trail::new(alloc, graphs)?;
-    match explore_round(alloc, graphs, oracle, aids, &mut trail, false, book, ledger)? {
+    let mut trail = PairTrail::new(alloc, graphs)?;
+    let mut session = Session {
+        alloc,
+        oracle,
+        aids,
+        book,
+        ledger,
+    };
+    run_whole(graphs, &mut session, &mut trail)
+}
+
+// Searches until something is found.
+fn run_whole<O: Oracle>(
+    graphs: &PairableGraphs<'_>,
+    session: &mut Session<'_, O>,
+    trail: &mut PairTrail,
+) -> Result<Found, Stop>
+    requires may { MayStep graphs.now (lent O.known session.old) trail.old.domains }
+    ensures steps { Steps graphs.now (lent O.known session.old) (lent O.known session.new) trail.new.domains result }
+    ensures found { IfOk result (IsFound graphs.now session.new.book.now) }
+    ensures decided { IfOk result (IsDecidedFound graphs.now (map decided_by (O.known session.new.oracle.now).facts)) }
+{
+    match explore_round(graphs, session, trail, false)? {
         Some(found) => Ok(found),
         None => unreachable!(),
     }
@@ -98,25 +140,20 @@ pub(crate) fn explore_whole<O: Oracle>(
 
 // Searches until a round is over, if it is one that ends. Else it searches on until something is found.
 fn explore_round<O: Oracle>(
-    alloc: Global,
     graphs: &PairableGraphs<'_>,
-    oracle: &mut O,
-    aids: &mut Aids,
-    trail: &mut Trail,
+    session: &mut Session<'_, O>,
+    trail: &mut PairTrail,
     ends: bool,
-    book: &mut BanBook,
-    ledger: &mut Ledger,
 ) -> Result<Option<Found>, Stop>
-    requires may { MayStep graphs.now (O.known oracle.old) ledger.old book.old trail.old.domains aids.old.trials }
-    ensures steps { Steps graphs.now (O.known oracle.old) (O.known oracle.new) ledger.old ledger.new book.old book.new
-        trail.new.domains aids.new.trials result }
-    ensures found { IfOk result (λ found. IfSome found (IsFound graphs.now book.new)) }
+    requires may { MayStep graphs.now (lent O.known session.old) trail.old.domains }
+    ensures steps { Steps graphs.now (lent O.known session.old) (lent O.known session.new) trail.new.domains result }
+    ensures found { IfOk result (λ found. IfSome found (IsFound graphs.now session.new.book.now)) }
     ensures decided { IfOk result (λ found. IfSome found
-        (IsDecidedFound graphs.now (map decided_by (O.known oracle.new).facts))) }
+        (IsDecidedFound graphs.now (map decided_by (O.known session.new.oracle.now).facts))) }
     ensures ends { ends ≡ false → IfOk result (λ found. IfNone found ⊥) }
 {
-    while !(ends & aids.guide.is_round_over(ledger.learned())) {
-        if let Some(found) = turn(alloc, graphs, oracle, aids, trail, book, ledger)? {
+    while !(ends & session.aids.guide.is_round_over(session.ledger.learned())) {
+        if let Some(found) = turn(graphs, session, trail)? {
             return Ok(Some(found));
         }
     }
@@ -125,43 +162,38 @@ fn explore_round<O: Oracle>(
 
 // One step ahead, and back from an impasse. It answers None where less is left than before.
 fn turn<O: Oracle>(
-    alloc: Global,
     graphs: &PairableGraphs<'_>,
-    oracle: &mut O,
-    aids: &mut Aids,
-    trail: &mut Trail,
-    book: &mut BanBook,
-    ledger: &mut Ledger,
+    session: &mut Session<'_, O>,
+    trail: &mut PairTrail,
 ) -> Result<Option<Found>, Stop>
-    requires may { MayStep graphs.now (O.known oracle.old) ledger.old book.old trail.old.domains aids.old.trials }
-    ensures steps { Steps graphs.now (O.known oracle.old) (O.known oracle.new) ledger.old ledger.new book.old book.new
-        trail.new.domains aids.new.trials result }
+    requires may { MayStep graphs.now (lent O.known session.old) trail.old.domains }
+    ensures steps { Steps graphs.now (lent O.known session.old) (lent O.known session.new) trail.new.domains result }
     ensures less { IfOk result (λ found. IfNone found (left trail.new.domains < left trail.old.domains)) }
-    ensures found { IfOk result (λ found. IfSome found (IsFound graphs.now book.new)) }
+    ensures found { IfOk result (λ found. IfSome found (IsFound graphs.now session.new.book.now)) }
     ensures decided { IfOk result (λ found. IfSome found
-        (IsDecidedFound graphs.now (map decided_by (O.known oracle.new).facts))) }
+        (IsDecidedFound graphs.now (map decided_by (O.known session.new.oracle.now).facts))) }
 {
-    oracle.at(Stage::Banning {
-        bans: book.bans().len() as u64,
+    session.oracle.at(Stage::Banning {
+        bans: session.book.bans().len() as u64,
     });
-    let impasse = match ahead(alloc, graphs, oracle, aids, trail, book, ledger)? {
+    let impasse = match ahead(graphs, session, trail)? {
         Ahead::Deeper => return Ok(None),
         Ahead::Match(matching, logs) => return Ok(Some(Found::Match(matching, logs))),
         Ahead::Impasse(impasse) => impasse,
     };
-    let before = book.bans().len();
+    let before = session.book.bans().len();
     let dead = impasse.ban();
-    aids.guide.hurry(&impasse);
+    session.aids.guide.hurry(&impasse);
     let refusal = turn_back(
-        alloc,
+        session.alloc,
         graphs,
         &mut trail.domains,
         &mut trail.queue,
         impasse,
-        book,
+        session.book,
     )?;
-    aids.guide.learn(book.bans(), before, dead);
-    aids.guide.forget(trail.domains.pairs().len());
+    session.aids.guide.learn(session.book.bans(), before, dead);
+    session.aids.guide.forget(trail.domains.pairs().len());
     match refusal {
         None => Ok(None),
         Some(ban) => Ok(Some(Found::None(ban))),
@@ -170,47 +202,36 @@ fn turn<O: Oracle>(
 
 // One step ahead: what follows is held and deleted, then the next port is decided.
 fn ahead<O: Oracle>(
-    alloc: Global,
     graphs: &PairableGraphs<'_>,
-    oracle: &mut O,
-    aids: &mut Aids,
-    trail: &mut Trail,
-    book: &mut BanBook,
-    ledger: &mut Ledger,
+    session: &mut Session<'_, O>,
+    trail: &mut PairTrail,
 ) -> Result<Ahead, Stop>
-    requires may { MayStep graphs.now (O.known oracle.old) ledger.old book.old trail.old.domains aids.old.trials }
-    ensures steps { Steps graphs.now (O.known oracle.old) (O.known oracle.new) ledger.old ledger.new book.old book.new
-        trail.new.domains aids.new.trials result }
+    requires may { MayStep graphs.now (lent O.known session.old) trail.old.domains }
+    ensures steps { Steps graphs.now (lent O.known session.old) (lent O.known session.new) trail.new.domains result }
     ensures ahead { IfOk result
-        (IsAhead graphs.now (map decided_by (O.known oracle.new).facts) book.new trail.old.domains trail.new.domains) }
+        (IsAhead graphs.now (map decided_by (O.known session.new.oracle.now).facts) session.new.book.now trail.old.domains trail.new.domains) }
 {
-    if let Some(impasse) = follow(alloc, graphs, oracle, aids, trail, book, ledger)? {
+    if let Some(impasse) = follow(graphs, session, trail)? {
         return Ok(Ahead::Impasse(impasse));
     }
-    let domains = &mut trail.domains;
-    go_on(alloc, graphs, oracle, aids, domains, book, ledger)
+    go_on(graphs, session, &mut trail.domains)
 }
 
 // Decides the next port, and where no port is left compares the outputs.
 fn go_on<O: Oracle>(
-    alloc: Global,
     graphs: &PairableGraphs<'_>,
-    oracle: &mut O,
-    aids: &mut Aids,
+    session: &mut Session<'_, O>,
     domains: &mut Domains,
-    book: &mut BanBook,
-    ledger: &mut Ledger,
 ) -> Result<Ahead, Stop>
-    requires may { MayStep graphs.now (O.known oracle.old) ledger.old book.old domains.old aids.old.trials }
-    ensures steps { Steps graphs.now (O.known oracle.old) (O.known oracle.new) ledger.old ledger.new book.old book.new
-        domains.new aids.new.trials result }
-    ensures ahead { IfOk result (IsAhead graphs.now (map decided_by (O.known oracle.new).facts) book.new domains.old domains.new) }
+    requires may { MayStep graphs.now (lent O.known session.old) domains.old }
+    ensures steps { Steps graphs.now (lent O.known session.old) (lent O.known session.new) domains.new result }
+    ensures ahead { IfOk result (IsAhead graphs.now (map decided_by (O.known session.new.oracle.now).facts) session.new.book.now domains.old domains.new) }
 {
-    let Some(port) = next_port(alloc, graphs, &aids.guide, domains)? else {
-        return compare_held(alloc, graphs, oracle, aids, domains, book, ledger);
+    let Some(port) = next_port(session.alloc, graphs, &session.aids.guide, domains)? else {
+        return compare_held(graphs, session, domains);
     };
-    aids.guide.decide(port);
-    match branch(domains, book.bans(), port)? {
+    session.aids.guide.decide(port);
+    match branch(domains, session.book.bans(), port)? {
         None => Ok(Ahead::Deeper),
         Some(impasse) => Ok(Ahead::Impasse(impasse)),
     }
@@ -218,37 +239,26 @@ fn go_on<O: Oracle>(
 
 // Compares the outputs under the pairs that are held, one of each port.
 fn compare_held<O: Oracle>(
-    alloc: Global,
     graphs: &PairableGraphs<'_>,
-    oracle: &mut O,
-    aids: &mut Aids,
+    session: &mut Session<'_, O>,
     domains: &mut Domains,
-    book: &mut BanBook,
-    ledger: &mut Ledger,
 ) -> Result<Ahead, Stop>
-    requires may { MayStep graphs.now (O.known oracle.old) ledger.old book.old domains.old aids.old.trials }
+    requires may { MayStep graphs.now (lent O.known session.old) domains.old }
     requires whole { IsWhole graphs.now (held_in domains.old.entries) }
-    ensures steps { Steps graphs.now (O.known oracle.old) (O.known oracle.new) ledger.old ledger.new book.old book.new
-        domains.new aids.new.trials result }
-    ensures ahead { IfOk result (IsAhead graphs.now (map decided_by (O.known oracle.new).facts) book.new domains.old domains.new) }
+    ensures steps { Steps graphs.now (lent O.known session.old) (lent O.known session.new) domains.new result }
+    ensures ahead { IfOk result (IsAhead graphs.now (map decided_by (O.known session.new.oracle.now).facts) session.new.book.now domains.old domains.new) }
 {
     let _lawful = domains.entries();
     match compare_whole(
-        alloc,
+        session.alloc,
         graphs,
-        oracle,
-        &mut aids.trials,
-        &mut aids.seen,
+        session.oracle,
+        session.aids,
         domains.pairs(),
-        book,
-        ledger,
+        session.book,
+        session.ledger,
     )? {
-        Settled::Match(matching, logs) => {
-            let seen = &mut aids.seen;
-            confirm(
-                alloc, graphs, oracle, domains, matching, logs, seen, book, ledger,
-            )
-        }
+        Settled::Match(matching, logs) => confirm(graphs, session, domains, matching, logs),
         Settled::Ban(ban) => Ok(Ahead::Impasse(Impasse::Ban(ban))),
     }
 }
@@ -256,24 +266,26 @@ fn compare_held<O: Oracle>(
 // Answers a match, once the claims of one input of all outputs are decided. Neither these nor bans exclude the pairs of a
 // match, so that the other answer of refining is not expected here; but it is no harm, and goes the way of any ban.
 fn confirm<O: Oracle>(
-    alloc: Global,
     graphs: &PairableGraphs<'_>,
-    oracle: &mut O,
+    session: &mut Session<'_, O>,
     domains: &mut Domains,
     matching: Matching,
     logs: Items<Log>,
-    seen: &mut Seen,
-    book: &mut BanBook,
-    ledger: &mut Ledger,
 ) -> Result<Ahead, Stop>
-    requires may { MayHold graphs.now (O.known oracle.old) ledger.old book.old }
-    requires trail { IsShownTrail graphs.now (O.known oracle.old) book.old domains.old }
+    requires may { MayStep graphs.now (lent O.known session.old) domains.old }
     requires shown { IsShownMatch graphs.now matching logs }
-    ensures holds { HoldsBans graphs.now (O.known oracle.old) (O.known oracle.new) ledger.old ledger.new book.old book.new result }
-    ensures trail { OnOk result (IsShownTrail graphs.now (O.known oracle.new) book.new domains.new) }
-    ensures ahead { IfOk result (IsAhead graphs.now (map decided_by (O.known oracle.new).facts) book.new domains.old domains.new) }
+    ensures steps { Steps graphs.now (lent O.known session.old) (lent O.known session.new) domains.new result }
+    ensures ahead { IfOk result (IsAhead graphs.now (map decided_by (O.known session.new.oracle.now).facts) session.new.book.now domains.old domains.new) }
 {
-    match refine(alloc, graphs, oracle, domains, seen, book, ledger)? {
+    match refine(
+        session.alloc,
+        graphs,
+        session.oracle,
+        domains,
+        &mut session.aids.seen,
+        session.book,
+        session.ledger,
+    )? {
         Refined::Stable => Ok(Ahead::Match(matching, logs)),
         Refined::Dead(ban) => Ok(Ahead::Impasse(Impasse::Ban(ban))),
     }

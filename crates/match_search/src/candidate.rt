@@ -12,19 +12,18 @@ ghost use Rattle.match_search.specs.States.{IsSettled};
 ghost use Rattle.table_guess.specs.Trials.{AreTrials};
 
 use crate::ahead::Settled;
+use crate::aids::Aids;
 use crate::table::table;
 use ban_book::BanBook;
 use bit_list::Bits;
 use circuits::Pair;
 use cnf_core::{Log, Stop};
-use fact_bans::Seen;
 use items::Items;
 use net_core::Matching;
 use oracle_core::{Compared, Oracle};
 use port_sides::PairableGraphs;
 use query_core::Ledger;
 use std::alloc::Global;
-use table_guess::Trials;
 use vector_bans::exclude;
 use watch_core::Stage;
 
@@ -41,8 +40,7 @@ pub(crate) fn compare_whole<O: Oracle>(
     alloc: Global,
     graphs: &PairableGraphs<'_>,
     oracle: &mut O,
-    trials: &mut Trials,
-    seen: &mut Seen,
+    aids: &mut Aids,
     held: &[Pair],
     book: &mut BanBook,
     ledger: &mut Ledger,
@@ -50,9 +48,9 @@ pub(crate) fn compare_whole<O: Oracle>(
     requires may { MayHold graphs.now (O.known oracle.old) ledger.old book.old }
     requires held { AreHeld graphs.now held.now }
     requires whole { IsWhole graphs.now held.now }
-    requires trials { AreTrials graphs.now.first trials.old }
+    requires trials { AreTrials graphs.now.first aids.old.trials }
     ensures holds { HoldsBans graphs.now (O.known oracle.old) (O.known oracle.new) ledger.old ledger.new book.old book.new result }
-    ensures trials { OnOk result (AreTrials graphs.now.first trials.new) }
+    ensures trials { OnOk result (AreTrials graphs.now.first aids.new.trials) }
     ensures settled { IfOk result (IsSettled graphs.now book.new held.now) }
 {
     let _first = graphs.first();
@@ -62,7 +60,7 @@ pub(crate) fn compare_whole<O: Oracle>(
     match compare_all(alloc, graphs, oracle, &matching, ledger, &mut logs)? {
         None => Ok(Settled::Match(matching, logs)),
         Some(found) => {
-            trials.keep(alloc, graphs.first(), &found.vector)?;
+            aids.trials.keep(alloc, graphs.first(), &found.vector)?;
             let ban = exclude(
                 alloc,
                 graphs,
@@ -70,7 +68,7 @@ pub(crate) fn compare_whole<O: Oracle>(
                 &matching,
                 found.output,
                 &found.vector,
-                seen,
+                &mut aids.seen,
                 book,
                 ledger,
             )?;
@@ -79,7 +77,8 @@ pub(crate) fn compare_whole<O: Oracle>(
     }
 }
 
-/// Compares the outputs in order, until one differs. The logs of those that agree come after those given.
+/// Compares the outputs, until one differs. The logs of those that agree come after those given. The outputs are taken in order, as an
+/// account has their logs.
 pub(crate) fn compare_all<O: Oracle>(
     alloc: Global,
     graphs: &PairableGraphs<'_>,

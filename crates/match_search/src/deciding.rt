@@ -38,7 +38,8 @@ const FEW_TRIES: u32 = 1;
 /// (`encoder64`) isn't refused; 15 in which more lines may be learned gain nothing more.
 const LITTLE_ROUNDS: u64 = 7;
 
-/// How many lines may be learned in the short search before all guesses: an eighth of a second's.
+/// How many lines may be learned in the short search before all guesses: an eighth of a second's. Four times as many, in twice the
+/// rounds, gain nothing more.
 const FEW_LINES: u64 = 5_000;
 
 /// Decides whether two circuits with as many ports match. Tables that are guessed are compared first; where none of them is a

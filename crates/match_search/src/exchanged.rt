@@ -1,42 +1,36 @@
 //! Bans that claims of two inputs show of the newest pair.
 
-ghost use Rattle.std.specs.Prelude.{All, Contains, IfOk, IfSome, List};
+ghost use Rattle.std.specs.Prelude.{◌≡◌, ◌∷◌, [], All, Contains, IfOk, IfSome, List};
 ghost use Rattle.circuits.specs.declared.port.Pair.{Pair as AnyPair};
+ghost use Rattle.circuits.specs.declared.port.PortKind.TheVariants.{Input, Output};
 ghost use Rattle.account_core.specs.Ports.{IsKnown};
 ghost use Rattle.ban_book.specs.Covering.{Covers};
-ghost use Rattle.fact_bans.specs.Serving.{HoldsBans, MayHold};
+ghost use Rattle.match_search.specs.States.{GoesOn, MayGoOn, lent};
 
-use ban_book::BanBook;
+use crate::session::Session;
 use circuits::{Pair, PortKind};
 use cnf_core::Stop;
-use fact_bans::{Seen, swap_mismatch};
+use fact_bans::swap_mismatch;
 use oracle_core::Oracle;
 use port_sides::PairableGraphs;
-use query_core::Ledger;
-use std::alloc::Global;
 
 /// Holds a ban that claims of two inputs show of the newest held pair and two others, and answers its number; None where none was
-/// shown.
+/// shown. It looks at any two others, which is good enough because a look takes what vectors showed of two claims: one is asked only
+/// where that tells the pairs apart.
 pub(crate) fn exclude_by_swaps<O: Oracle>(
-    alloc: Global,
     graphs: &PairableGraphs<'_>,
-    oracle: &mut O,
+    session: &mut Session<'_, O>,
     held: &[Pair],
     newest: Pair,
-    seen: &mut Seen,
-    book: &mut BanBook,
-    ledger: &mut Ledger,
 ) -> Result<Option<u64>, Stop>
-    requires may { MayHold graphs.now (O.known oracle.old) ledger.old book.old }
+    requires may { MayGoOn graphs.now (lent O.known session.old) }
     requires known { All (IsKnown graphs.now) held.now }
     requires held { Contains held.now newest }
-    ensures holds { HoldsBans graphs.now (O.known oracle.old) (O.known oracle.new) ledger.old ledger.new book.old book.new result }
-    ensures covers { IfOk result (λ found. IfSome found (Covers book.new held.now)) }
+    ensures goes_on { GoesOn graphs.now (lent O.known session.old) (lent O.known session.new) result }
+    ensures covers { IfOk result (λ found. IfSome found (Covers session.new.book.now held.now)) }
 {
     for other in held.iter() {
-        if let Some(ban) = exclude_with(
-            alloc, graphs, oracle, held, newest, *other, seen, book, ledger,
-        )? {
+        if let Some(ban) = exclude_with(graphs, session, held, newest, *other)? {
             return Ok(Some(ban));
         }
     }
@@ -45,30 +39,24 @@ pub(crate) fn exclude_by_swaps<O: Oracle>(
 
 // Holds a ban of the newest pair, an input's, and a third one.
 fn exclude_with<O: Oracle>(
-    alloc: Global,
     graphs: &PairableGraphs<'_>,
-    oracle: &mut O,
+    session: &mut Session<'_, O>,
     held: &[Pair],
     newest: Pair,
     other: Pair,
-    seen: &mut Seen,
-    book: &mut BanBook,
-    ledger: &mut Ledger,
 ) -> Result<Option<u64>, Stop>
-    requires may { MayHold graphs.now (O.known oracle.old) ledger.old book.old }
+    requires may { MayGoOn graphs.now (lent O.known session.old) }
     requires known { All (IsKnown graphs.now) held.now }
     requires newest_held { Contains held.now newest }
     requires other_held { Contains held.now other }
-    ensures holds { HoldsBans graphs.now (O.known oracle.old) (O.known oracle.new) ledger.old ledger.new book.old book.new result }
-    ensures covers { IfOk result (λ found. IfSome found (Covers book.new held.now)) }
+    ensures goes_on { GoesOn graphs.now (lent O.known session.old) (lent O.known session.new) result }
+    ensures covers { IfOk result (λ found. IfSome found (Covers session.new.book.now held.now)) }
 {
     if other.kind == PortKind::Output {
         return Ok(None);
     }
     for third in held.iter() {
-        if let Some(ban) = exclude_three(
-            alloc, graphs, oracle, newest, other, *third, seen, book, ledger,
-        )? {
+        if let Some(ban) = exclude_three(graphs, session, newest, other, *third)? {
             return Ok(Some(ban));
         }
     }
@@ -77,34 +65,61 @@ fn exclude_with<O: Oracle>(
 
 // Holds a ban of three pairs, where the third is an output's and the others are inputs', or the first is an output's.
 fn exclude_three<O: Oracle>(
-    alloc: Global,
     graphs: &PairableGraphs<'_>,
-    oracle: &mut O,
+    session: &mut Session<'_, O>,
     one: Pair,
     other: Pair,
     third: Pair,
-    seen: &mut Seen,
-    book: &mut BanBook,
-    ledger: &mut Ledger,
 ) -> Result<Option<u64>, Stop>
-    requires may { MayHold graphs.now (O.known oracle.old) ledger.old book.old }
+    requires may { MayGoOn graphs.now (lent O.known session.old) }
     requires one_known { IsKnown graphs.now one }
     requires other_known { IsKnown graphs.now other }
     requires third_known { IsKnown graphs.now third }
-    ensures holds { HoldsBans graphs.now (O.known oracle.old) (O.known oracle.new) ledger.old ledger.new book.old book.new result }
+    ensures goes_on { GoesOn graphs.now (lent O.known session.old) (lent O.known session.new) result }
     ensures covers { (held : List AnyPair)
         → Contains held one
         → Contains held other
         → Contains held third
-        → IfOk result (λ found. IfSome found (Covers book.new held)) }
+        → IfOk result (λ found. IfSome found (Covers session.new.book.now held)) }
 {
     match (one.kind, other.kind, third.kind) {
-        (PortKind::Input, PortKind::Input, PortKind::Output) => swap_mismatch(
-            alloc, graphs, oracle, one, other, third, seen, book, ledger,
-        ),
-        (PortKind::Output, PortKind::Input, PortKind::Input) => swap_mismatch(
-            alloc, graphs, oracle, other, third, one, seen, book, ledger,
-        ),
+        (PortKind::Input, PortKind::Input, PortKind::Output) => {
+            exclude_swap(graphs, session, one, other, third)
+        }
+        (PortKind::Output, PortKind::Input, PortKind::Input) => {
+            exclude_swap(graphs, session, other, third, one)
+        }
         _ => Ok(None),
     }
+}
+
+// Holds a ban of the pairs of two inputs and an output.
+fn exclude_swap<O: Oracle>(
+    graphs: &PairableGraphs<'_>,
+    session: &mut Session<'_, O>,
+    one: Pair,
+    other: Pair,
+    output: Pair,
+) -> Result<Option<u64>, Stop>
+    requires may { MayGoOn graphs.now (lent O.known session.old) }
+    requires one { one.kind ≡ Input }
+    requires other { other.kind ≡ Input }
+    requires output { output.kind ≡ Output }
+    requires one_known { IsKnown graphs.now one }
+    requires other_known { IsKnown graphs.now other }
+    requires output_known { IsKnown graphs.now output }
+    ensures goes_on { GoesOn graphs.now (lent O.known session.old) (lent O.known session.new) result }
+    ensures covers { IfOk result (λ found. IfSome found (Covers session.new.book.now (one ∷ other ∷ output ∷ []))) }
+{
+    swap_mismatch(
+        session.alloc,
+        graphs,
+        session.oracle,
+        one,
+        other,
+        output,
+        &mut session.aids.seen,
+        session.book,
+        session.ledger,
+    )
 }

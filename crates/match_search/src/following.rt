@@ -1,16 +1,21 @@
 //! What follows of the pairs that are held, by bans, by decided claims and by vectors.
 
 ghost use Rattle.std.specs.Prelude.{◌≡◌, ◌≤◌, Contains, IfOk, IfSome, OnOk};
+ghost use Rattle.ban_book.specs.Covering.{Covers};
+ghost use Rattle.fact_bans.specs.Serving.{HoldsBans, MayHold};
 ghost use Rattle.pair_search.specs.Impasses.{IsImpasse};
+ghost use Rattle.port_sides.specs.Held.{AreHeld};
+ghost use Rattle.table_guess.specs.Trials.{AreTrials};
 ghost use Rattle.oracle_core.specs.Oracles.{Serves};
 ghost use Rattle.class_refine.specs.Trails.{held_in};
 ghost use Rattle.pair_search.specs.Progress.{left};
-ghost use Rattle.match_search.specs.States.{Deletes, MayDelete, MayStep, Steps};
+ghost use Rattle.match_search.specs.States.{Deletes, MayDelete, MayStep, Steps, lent};
 
 use crate::aids::Aids;
 use crate::asking::{ask_held, ask_output};
 use crate::exchanged::exclude_by_swaps;
-use crate::trail::Trail;
+use crate::session::Session;
+use crate::trail::PairTrail;
 use crate::unlike::{delete_unlike, list_unlike};
 use account_core::Ban;
 use ban_book::BanBook;
@@ -27,112 +32,129 @@ use vector_bans::foresee;
 /// Holds and deletes what follows of bans and of claims, those of one input first, which are fewer and whose bans are shorter,
 /// and tries the pairs that are held on vectors.
 pub(crate) fn follow<O: Oracle>(
-    alloc: Global,
     graphs: &PairableGraphs<'_>,
-    oracle: &mut O,
-    aids: &mut Aids,
-    trail: &mut Trail,
-    book: &mut BanBook,
-    ledger: &mut Ledger,
+    session: &mut Session<'_, O>,
+    trail: &mut PairTrail,
 ) -> Result<Option<Impasse>, Stop>
-    requires may { MayStep graphs.now (O.known oracle.old) ledger.old book.old trail.old.domains aids.old.trials }
-    ensures steps { Steps graphs.now (O.known oracle.old) (O.known oracle.new) ledger.old ledger.new book.old book.new
-        trail.new.domains aids.new.trials result }
+    requires may { MayStep graphs.now (lent O.known session.old) trail.old.domains }
+    ensures steps { Steps graphs.now (lent O.known session.old) (lent O.known session.new) trail.new.domains result }
     ensures less { OnOk result (left trail.new.domains ≤ left trail.old.domains) }
     ensures impasse { IfOk result (λ found. IfSome found
-        (IsImpasse trail.new.domains.inputs trail.new.domains.outputs book.new trail.new.domains.entries)) }
+        (IsImpasse trail.new.domains.inputs trail.new.domains.outputs session.new.book.now trail.new.domains.entries)) }
 {
-    if let Some(impasse) = settle(alloc, graphs, oracle, aids, trail, book, ledger)? {
+    if let Some(impasse) = settle(graphs, session, trail)? {
         return Ok(Some(impasse));
     }
-    if aids.guide.has_had_its_share(ledger.learned()) {
+    if session
+        .aids
+        .guide
+        .has_had_its_share(session.ledger.learned())
+    {
         return Ok(None);
     }
     let domains = &trail.domains;
-    if let Some(exchanged) = exchange_held(alloc, graphs, oracle, aids, domains, book, ledger)? {
+    if let Some(exchanged) = exchange_held(graphs, session, domains)? {
         return Ok(Some(exchanged));
     }
     let _lawful = domains.entries();
-    let pairs = domains.pairs();
-    match foresee(
-        alloc,
+    match try_held(
+        session.alloc,
         graphs,
-        oracle,
-        pairs,
-        &aids.trials,
-        &mut aids.seen,
-        book,
-        ledger,
+        session.oracle,
+        session.aids,
+        domains.pairs(),
+        session.book,
+        session.ledger,
     )? {
         Some(ban) => Ok(Some(Impasse::Ban(ban))),
         None => Ok(None),
     }
 }
 
-// Holds each held pair that wasn't yet against claims of two inputs, beside all others.
-fn exchange_held<O: Oracle>(
+// Tries held pairs on vectors.
+fn try_held<O: Oracle>(
     alloc: Global,
     graphs: &PairableGraphs<'_>,
     oracle: &mut O,
     aids: &mut Aids,
-    domains: &Domains,
+    held: &[Pair],
     book: &mut BanBook,
     ledger: &mut Ledger,
+) -> Result<Option<u64>, Stop>
+    requires may { MayHold graphs.now (O.known oracle.old) ledger.old book.old }
+    requires held { AreHeld graphs.now held.now }
+    requires trials { AreTrials graphs.now.first aids.old.trials }
+    ensures holds { HoldsBans graphs.now (O.known oracle.old) (O.known oracle.new) ledger.old ledger.new book.old book.new result }
+    ensures trials { aids.new.trials ≡ aids.old.trials }
+    ensures covers { IfOk result (λ found. IfSome found (Covers book.new held.now)) }
+{
+    let seen = &mut aids.seen;
+    foresee(
+        alloc,
+        graphs,
+        oracle,
+        held,
+        &aids.trials,
+        seen,
+        book,
+        ledger,
+    )
+}
+
+// Holds each held pair that wasn't yet against claims of two inputs, beside all others.
+fn exchange_held<O: Oracle>(
+    graphs: &PairableGraphs<'_>,
+    session: &mut Session<'_, O>,
+    domains: &Domains,
 ) -> Result<Option<Impasse>, Stop>
-    requires may { MayStep graphs.now (O.known oracle.old) ledger.old book.old domains.now aids.old.trials }
-    ensures steps { Steps graphs.now (O.known oracle.old) (O.known oracle.new) ledger.old ledger.new book.old book.new
-        domains.now aids.new.trials result }
+    requires may { MayStep graphs.now (lent O.known session.old) domains.now }
+    ensures steps { Steps graphs.now (lent O.known session.old) (lent O.known session.new) domains.now result }
     ensures impasse { IfOk result (λ found. IfSome found
-        (IsImpasse domains.now.inputs domains.now.outputs book.new domains.now.entries)) }
+        (IsImpasse domains.now.inputs domains.now.outputs session.new.book.now domains.now.entries)) }
 {
     let _lawful = domains.entries();
     let held = domains.pairs();
-    for place in aids.guide.exchanged..held.len() {
-        let newest = held[place];
-        aids.guide.exchanged = place;
-        let seen = &mut aids.seen;
-        if let Some(ban) = exclude_by_swaps(
-            alloc, graphs, oracle, held, newest, seen, book, ledger,
-        )? {
+    for place in session.aids.guide.exchanged..held.len() {
+        session.aids.guide.exchanged = place;
+        if let Some(ban) = exclude_by_swaps(graphs, session, held, held[place])? {
             return Ok(Some(Impasse::Ban(ban)));
         }
     }
-    aids.guide.exchanged = held.len();
+    session.aids.guide.exchanged = held.len();
     Ok(None)
 }
 
 // Holds and deletes what follows of bans, and has claims decided of each output and of each held pair, whose bans come to them.
 // In each turn but the last one it is one more. Where the round has learned its lines, no more are.
 fn settle<O: Oracle>(
-    alloc: Global,
     graphs: &PairableGraphs<'_>,
-    oracle: &mut O,
-    aids: &mut Aids,
-    trail: &mut Trail,
-    book: &mut BanBook,
-    ledger: &mut Ledger,
+    session: &mut Session<'_, O>,
+    trail: &mut PairTrail,
 ) -> Result<Option<Impasse>, Stop>
-    requires may { MayStep graphs.now (O.known oracle.old) ledger.old book.old trail.old.domains aids.old.trials }
-    ensures steps { Steps graphs.now (O.known oracle.old) (O.known oracle.new) ledger.old ledger.new book.old book.new
-        trail.new.domains aids.new.trials result }
+    requires may { MayStep graphs.now (lent O.known session.old) trail.old.domains }
+    ensures steps { Steps graphs.now (lent O.known session.old) (lent O.known session.new) trail.new.domains result }
     ensures less { OnOk result (left trail.new.domains ≤ left trail.old.domains) }
     ensures impasse { IfOk result (λ found. IfSome found
-        (IsImpasse trail.new.domains.inputs trail.new.domains.outputs book.new trail.new.domains.entries)) }
+        (IsImpasse trail.new.domains.inputs trail.new.domains.outputs session.new.book.now trail.new.domains.entries)) }
 {
     let inputs = trail.domains.ports(PortKind::Input) as u64;
     let outputs = trail.domains.ports(PortKind::Output) as u64;
     for _turn in 0..inputs + 2 * outputs + 1 {
         if let Some(impasse) = propagate(
-            alloc,
+            session.alloc,
             &mut trail.domains,
             &mut trail.queue,
-            book.bans(),
+            session.book.bans(),
         )? {
             return Ok(Some(impasse));
         }
-        let domains = &mut trail.domains;
-        let more = ask_next(alloc, graphs, oracle, aids, domains, book, ledger)?;
-        if !more | aids.guide.has_had_its_share(ledger.learned()) {
+        let more = ask_next(graphs, session, &mut trail.domains)?;
+        if !more
+            | session
+                .aids
+                .guide
+                .has_had_its_share(session.ledger.learned())
+        {
             return Ok(None);
         }
     }
@@ -142,24 +164,19 @@ fn settle<O: Oracle>(
 // Holds the tallies of the next output that none were held of, or else the bans that decided claims show of the next held pair,
 // and deletes the ways that they tell from it. Answers whether there is one.
 fn ask_next<O: Oracle>(
-    alloc: Global,
     graphs: &PairableGraphs<'_>,
-    oracle: &mut O,
-    aids: &mut Aids,
+    session: &mut Session<'_, O>,
     domains: &mut Domains,
-    book: &mut BanBook,
-    ledger: &mut Ledger,
 ) -> Result<bool, Stop>
-    requires may { MayStep graphs.now (O.known oracle.old) ledger.old book.old domains.old aids.old.trials }
-    ensures steps { Steps graphs.now (O.known oracle.old) (O.known oracle.new) ledger.old ledger.new book.old book.new
-        domains.new aids.new.trials result }
+    requires may { MayStep graphs.now (lent O.known session.old) domains.old }
+    ensures steps { Steps graphs.now (lent O.known session.old) (lent O.known session.new) domains.new result }
     ensures less { OnOk result (left domains.new ≤ left domains.old) }
 {
-    let Some(output) = aids.guide.next_output(domains.ports(PortKind::Output)) else {
-        return ask_next_pair(alloc, graphs, oracle, aids, domains, book, ledger);
+    let outputs = domains.ports(PortKind::Output);
+    let Some(output) = session.aids.guide.next_output(outputs) else {
+        return ask_next_pair(graphs, session, domains);
     };
-    let seen = &mut aids.seen;
-    ask_output(alloc, graphs, oracle, domains, output, seen, book, ledger)?;
+    ask_output(graphs, session, domains, output)?;
     Ok(true)
 }
 
@@ -167,36 +184,31 @@ fn ask_next<O: Oracle>(
 // tell from it. Where there are such bans, what follows of them comes first, and the pair is compared again. Answers whether
 // there is such a pair.
 fn ask_next_pair<O: Oracle>(
-    alloc: Global,
     graphs: &PairableGraphs<'_>,
-    oracle: &mut O,
-    aids: &mut Aids,
+    session: &mut Session<'_, O>,
     domains: &mut Domains,
-    book: &mut BanBook,
-    ledger: &mut Ledger,
 ) -> Result<bool, Stop>
-    requires may { MayStep graphs.now (O.known oracle.old) ledger.old book.old domains.old aids.old.trials }
-    ensures steps { Steps graphs.now (O.known oracle.old) (O.known oracle.new) ledger.old ledger.new book.old book.new
-        domains.new aids.new.trials result }
+    requires may { MayStep graphs.now (lent O.known session.old) domains.old }
+    ensures steps { Steps graphs.now (lent O.known session.old) (lent O.known session.new) domains.new result }
     ensures less { OnOk result (left domains.new ≤ left domains.old) }
 {
-    let Some(pair) = next_held(domains, aids.guide.asked) else {
+    let Some(pair) = next_held(domains, session.aids.guide.asked) else {
         return Ok(false);
     };
-    let more = ask_held(alloc, graphs, oracle, aids, domains, pair, book, ledger)?;
+    let more = ask_held(graphs, session, domains, pair)?;
     if more {
         return Ok(true);
     }
-    aids.guide.asked = aids.guide.asked.saturating_add(1);
+    session.aids.guide.asked = session.aids.guide.asked.saturating_add(1);
     delete_beside(
-        alloc,
+        session.alloc,
         graphs,
-        oracle,
-        aids,
+        session.oracle,
+        session.aids,
         domains,
-        book.bans(),
+        session.book.bans(),
         pair,
-        ledger,
+        session.ledger,
     )?;
     Ok(true)
 }

@@ -17,7 +17,8 @@ use std::alloc::Global;
 use table_guess::{Effort, Guesser};
 use watch_core::Stage;
 
-/// How many guessed tables are compared.
+/// How many guessed tables are compared. Each is right on the vectors that showed the ones before it to be wrong, so that it
+/// isn't wrong for what they were; that they are 16 was chosen, and not measured.
 const MOST_GUESSES: u32 = 16;
 
 /// What a guess comes to.

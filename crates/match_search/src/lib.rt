@@ -12,6 +12,7 @@ mod following;
 mod found;
 mod guessed;
 mod searching;
+mod session;
 mod table;
 mod trail;
 mod unlike;

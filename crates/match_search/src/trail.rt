@@ -12,14 +12,14 @@ use std::alloc::{AllocError, Global};
 
 /// The pairs of two circuits, held and deleted in order, and how far it was followed what comes of that.
 #[derive(Drop)]
-pub(crate) struct Trail {
+pub(crate) struct PairTrail {
     pub(crate) domains: Domains,
     pub(crate) queue: Queue,
 }
 
-impl Trail {
+impl PairTrail {
     /// All pairs are open, and nothing was propagated.
-    pub(crate) fn new(alloc: Global, graphs: &PairableGraphs<'_>) -> Result<Trail, AllocError>
+    pub(crate) fn new(alloc: Global, graphs: &PairableGraphs<'_>) -> Result<PairTrail, AllocError>
         ensures trail { IfOk result (λ trail. (bans : List AnyBan) → IsTrail graphs.now bans trail.domains) }
         ensures none { IfOk result (λ trail. trail.domains.entries ≡ []) }
     {
@@ -28,6 +28,6 @@ impl Trail {
         let outputs = graphs.ports(PortKind::Output);
         let domains = Domains::new(alloc, inputs, outputs)?;
         let queue = Queue::new(alloc, inputs, outputs)?;
-        Ok(Trail { domains, queue })
+        Ok(PairTrail { domains, queue })
     }
 }

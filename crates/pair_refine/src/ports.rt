@@ -61,7 +61,7 @@ fn cover(
     Ok(Some(conflict.ban))
 }
 
-// The first port of which all ways are deleted.
+// The first port of which all ways are deleted, of the first circuit, and of inputs, before others: any would do.
 fn empty_port(domains: &Domains) -> Option<Port>
     ensures found { IfSome result (HasNoWay domains.now.inputs domains.now.outputs domains.now.entries) }
     ensures none { IfNone result ((side : AnySide) (kind : AnyKind) (port : ℕ)

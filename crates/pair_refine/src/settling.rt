@@ -33,7 +33,8 @@ pub(crate) enum Exclusion {
     Shown(Ban),
 }
 
-/// Settles all pairs, unless a ban within the held ones is found. It answers that one's number.
+/// Settles all pairs, unless a ban within the held ones is found. It answers that one's number. Which kind comes first is free: no pair
+/// is held meanwhile, so that one that is deleted excludes no other.
 pub(crate) fn settle_all(
     alloc: Global,
     grounds: &Grounds<'_>,
@@ -143,7 +144,7 @@ fn settle_open(
 }
 
 // What excludes a pair beside the held ones: one that it clashes with, a held ban, or a ban that decided claims show, of one
-// input first.
+// input first. So what needs no new ban is found first, and then the bans of the fewest pairs.
 fn exclusion_of(
     alloc: Global,
     grounds: &Grounds<'_>,

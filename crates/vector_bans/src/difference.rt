@@ -194,7 +194,7 @@ fn without_one(
     }
 }
 
-// Where a pair stands among some.
+// Where a pair stands among some. A search from the front is good enough because a circuit is evaluated for each pair.
 fn place_of(pairs: &[Pair], pair: Pair) -> Option<usize>
     ensures { IfSome result (λ place. place < length pairs.now) }
 {

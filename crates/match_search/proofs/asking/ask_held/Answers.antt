@@ -3,7 +3,7 @@ use Rattle.std.proofs.lemmas.List.Elements.{All-contains}
 use Rattle.account_core.specs.Ports.{IsKnown}
 use Rattle.class_refine.specs.Trails.{held_in}
 use Rattle.conflict_core.proofs.PivotLemmas.{held_known}
-use Rattle.match_search.proofs.StepLemmas.{may_go_on, steps_err, steps_ok, way_bans, way_start}
+use Rattle.match_search.proofs.StepLemmas.{may_go_on, steps_fail, steps_ok, way_bans, way_start}
 use Rattle.match_search.proofs.asking.ask_held.Goals as goal
 
 pub ask_alone-requires-clause-may : goal.ask_alone-requires-clause-may
@@ -15,7 +15,7 @@ ask_alone-requires-clause-known g c =
     All-contains (IsKnown c.args.graphs.now) (held_in d.entries) c.args.pair (held_known c.args.graphs.now d.inputs d.outputs d.entries c.requires.may.trail.trail.fit c.entries-lawful.ensures.lawful).known c.requires.held
 
 pub returns-in_err-ask_alone : goal.returns-in_err-ask_alone
-returns-in_err-ask_alone g c = record { steps = steps_err c.from_residual.ensures.1 (way_start c.requires.may).held c.in_err-ask_alone.ensures }
+returns-in_err-ask_alone g c = record { steps = steps_fail c.from_residual.ensures.1 (way_start c.requires.may) c.in_err-ask_alone.ensures }
 
 pub loop-other-init : goal.loop-other-init
 loop-other-init g c = way_bans (way_start c.requires.may) c.in_ok-ask_alone.ensures
@@ -31,7 +31,7 @@ ask_two-requires g c =
     }
 
 pub returns-in_err-ask_two : goal.returns-in_err-ask_two
-returns-in_err-ask_two g c = record { steps = steps_err c.from_residual-in_err-ask_two.ensures.1 c.loop-other.invariant.held c.in_err-ask_two.ensures }
+returns-in_err-ask_two g c = record { steps = steps_fail c.from_residual-in_err-ask_two.ensures.1 c.loop-other.invariant c.in_err-ask_two.ensures }
 
 pub loop-other-preserved : goal.loop-other-preserved
 loop-other-preserved g c = way_bans c.loop-other.invariant c.in_ok-ask_two.ensures

@@ -1,6 +1,7 @@
-use Rattle.fact_bans.proofs.HoldingLemmas.{HasHeld}
+use Rattle.match_search.specs.States.{lent}
+use Rattle.match_search.proofs.StepLemmas.{HasGoneOn}
 use Rattle.match_search.proofs.asking.ask_output.Given as goal
 
 abbrev pub invariant-loop-number : goal.invariant-loop-number
 invariant-loop-number g l =
-    HasHeld l.graphs (g.O.Oracle.known l.fn.oracle) (g.O.Oracle.known l.oracle) l.fn.ledger l.ledger l.fn.book l.book
+    HasGoneOn l.graphs (lent g.O.Oracle.known l.fn.session) (lent g.O.Oracle.known l.session)

@@ -5,7 +5,7 @@ use Rattle.match_search.proofs.StepLemmas.{may_go_on, steps_err, steps_last, ste
 use Rattle.match_search.proofs.branching.ahead.Goals as goal
 
 pub returns-in_err-impasse-clause-steps : goal.returns-in_err-impasse-clause-steps
-returns-in_err-impasse-clause-steps g c = steps_err c.from_residual.ensures.1 (way_start c.requires.may).held c.in_err-impasse.ensures.steps.holds
+returns-in_err-impasse-clause-steps g c = steps_err c.from_residual.ensures.1 (way_start c.requires.may) c.in_err-impasse.ensures.steps
 
 pub returns-in-Some-clause-steps : goal.returns-in-Some-clause-steps
 returns-in-Some-clause-steps g c = steps_ok (way_one c.in_ok-impasse.ensures.steps)
@@ -20,8 +20,8 @@ pub go_on-requires : goal.go_on-requires
 go_on-requires g c = record { may = may_go_on c.requires.may.may (way_one c.in_ok-impasse.ensures.steps) }
 
 pub returns-clause-steps : goal.returns-clause-steps
-returns-clause-steps g c = steps_last (way_one c.in_ok-impasse.ensures.steps).held c.go_on.ensures.steps
+returns-clause-steps g c = steps_last (way_one c.in_ok-impasse.ensures.steps) c.go_on.ensures.steps
 
 pub returns-clause-ahead : goal.returns-clause-ahead
 returns-clause-ahead g c =
-    ahead_later c.args.graphs.now (map decided_by (g.O.Oracle.known c.go_on.new.oracle).facts) c.go_on.new.book c.args.trail.now.domains c.follow.new.trail.domains c.go_on.new.domains c.go_on.result c.in_ok-impasse.ensures.less c.go_on.ensures.ahead
+    ahead_later c.args.graphs.now (map decided_by (g.O.Oracle.known c.go_on.new.session.oracle.now).facts) c.go_on.new.session.book.now c.args.trail.now.domains c.follow.new.trail.domains c.go_on.new.domains c.go_on.result c.in_ok-impasse.ensures.less c.go_on.ensures.ahead

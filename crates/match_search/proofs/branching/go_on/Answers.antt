@@ -8,13 +8,13 @@ pub next_port-requires : goal.next_port-requires
 next_port-requires g c = record { fit = c.requires.may.trail.trail.fit }
 
 pub returns-in_err-port-clause-steps : goal.returns-in_err-port-clause-steps
-returns-in_err-port-clause-steps g c = steps_stop c.from_residual.ensures.1 (way_start c.requires.may).held
+returns-in_err-port-clause-steps g c = steps_stop c.from_residual.ensures.1 (way_start c.requires.may)
 
 pub branch-domains-requires-clause-justified : goal.branch-domains-requires-clause-justified
 branch-domains-requires-clause-justified g c = subst (λ (bs : List Ban). IsJustifiedTrail bs c.args.domains.now) (sym c.bans.ensures) c.requires.may.trail.trail.justified
 
 pub returns-in_err-branch-clause-steps : goal.returns-in_err-branch-clause-steps
-returns-in_err-branch-clause-steps g c = steps_stop c.from_residual-in_err-branch.ensures.1 (way_start c.requires.may).held
+returns-in_err-branch-clause-steps g c = steps_stop c.from_residual-in_err-branch.ensures.1 (way_start c.requires.may)
 
 pub returns-in-None-clause-steps : goal.returns-in-None-clause-steps
 returns-in-None-clause-steps g c = steps_ok (way_stays c.bans.ensures (way_start c.requires.may) c.in_ok-branch.ensures.stays)

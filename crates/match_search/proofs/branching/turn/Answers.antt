@@ -1,10 +1,9 @@
 use Rattle.std.proofs.Common.{arith}
-use Rattle.match_search.proofs.AskLemmas.{held_learned}
-use Rattle.match_search.proofs.StepLemmas.{steps_err, steps_ok, steps_stop, way_back, way_one, way_start}
+use Rattle.match_search.proofs.StepLemmas.{steps_err, steps_ok, steps_unlearned, way_back, way_one, way_start}
 use Rattle.match_search.proofs.branching.turn.Goals as goal
 
 pub returns-in_err-ahead-clause-steps : goal.returns-in_err-ahead-clause-steps
-returns-in_err-ahead-clause-steps g c = steps_err c.from_residual.ensures.1 (way_start c.requires.may).held c.in_err-ahead.ensures.steps.holds
+returns-in_err-ahead-clause-steps g c = steps_err c.from_residual.ensures.1 (way_start c.requires.may) c.in_err-ahead.ensures.steps
 
 pub returns-in-Deeper-clause-steps : goal.returns-in-Deeper-clause-steps
 returns-in-Deeper-clause-steps g c = steps_ok (way_one c.in_ok-ahead.ensures.steps)
@@ -22,7 +21,7 @@ pub turn_back-requires-clause-trail : goal.turn_back-requires-clause-trail
 turn_back-requires-clause-trail g c = c.in_ok-ahead.ensures.steps.trail.trail
 
 pub returns-in_err-refusal-clause-steps : goal.returns-in_err-refusal-clause-steps
-returns-in_err-refusal-clause-steps g c = steps_stop c.from_residual-in_err-refusal.ensures.1 (held_learned _ _ _ _ _ _ _ _ _ (way_one c.in_ok-ahead.ensures.steps).held c.in_ok-ahead.ensures.steps.trail.shown c.in_err-refusal.ensures.more)
+returns-in_err-refusal-clause-steps g c = steps_unlearned c.from_residual-in_err-refusal.ensures.1 (way_one c.in_ok-ahead.ensures.steps) c.in_err-refusal.ensures.more
 
 pub returns-in-None-clause-steps : goal.returns-in-None-clause-steps
 returns-in-None-clause-steps g c =

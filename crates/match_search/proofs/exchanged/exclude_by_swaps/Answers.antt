@@ -1,27 +1,25 @@
-use Rattle.std.proofs.Common.{refl}
 use Rattle.std.proofs.lemmas.List.Elements.{Contains-get_or}
-use Rattle.fact_bans.proofs.HoldingLemmas.{held_same, holds_err, holds_ok, may_later}
-use Rattle.match_search.proofs.StepLemmas.{held_on}
+use Rattle.match_search.proofs.StepLemmas.{goes_err, goes_ok, gone_more, gone_none, may_ask_on}
 use Rattle.match_search.proofs.exchanged.exclude_by_swaps.Goals as goal
 
 pub loop-other-init : goal.loop-other-init
-loop-other-init g c = held_same _ _ _ _ c.requires.may
+loop-other-init g c = gone_none c.requires.may
 
 pub exclude_with-requires-clause-may : goal.exclude_with-requires-clause-may
-exclude_with-requires-clause-may g c = may_later _ _ _ _ _ _ _ c.requires.may c.loop-other.invariant
+exclude_with-requires-clause-may g c = may_ask_on c.requires.may c.loop-other.invariant
 
 pub exclude_with-requires-clause-other_held : goal.exclude_with-requires-clause-other_held
 exclude_with-requires-clause-other_held g c = Contains-get_or c.args.held.now c.loop-other.other-index _ c.loop-other-test.true
 
 pub loop-other-preserved : goal.loop-other-preserved
-loop-other-preserved g c = held_on c.loop-other.invariant c.in_ok-ban.ensures.holds
+loop-other-preserved g c = gone_more c.loop-other.invariant c.in_ok-ban.ensures.goes_on
 
-pub returns-in_err-ban-clause-holds : goal.returns-in_err-ban-clause-holds
-returns-in_err-ban-clause-holds g c =
-    holds_err _ _ _ _ _ _ _ _ _ _ _ c.in_err-ban.field-0.0 c.from_residual.ensures.1 c.loop-other.invariant c.in_err-ban.ensures.holds
+pub returns-in_err-ban-clause-goes_on : goal.returns-in_err-ban-clause-goes_on
+returns-in_err-ban-clause-goes_on g c =
+    goes_err c.from_residual.ensures.1 c.loop-other.invariant c.in_err-ban.ensures.goes_on
 
-pub returns-in-Some-clause-holds : goal.returns-in-Some-clause-holds
-returns-in-Some-clause-holds g c = holds_ok _ _ _ _ _ _ _ _ _ refl (held_on c.loop-other.invariant c.in_ok-ban.ensures.holds)
+pub returns-in-Some-clause-goes_on : goal.returns-in-Some-clause-goes_on
+returns-in-Some-clause-goes_on g c = goes_ok (gone_more c.loop-other.invariant c.in_ok-ban.ensures.goes_on)
 
-pub returns-clause-holds : goal.returns-clause-holds
-returns-clause-holds g c = holds_ok _ _ _ _ _ _ _ _ _ refl c.loop-other.invariant
+pub returns-clause-goes_on : goal.returns-clause-goes_on
+returns-clause-goes_on g c = goes_ok c.loop-other.invariant

@@ -1,7 +1,7 @@
 use Rattle.std.proofs.Common.{sym, subst}
 use Rattle.port_sides.specs.Held.{AreHeld}
 use Rattle.conflict_core.proofs.PivotLemmas.{held_known}
-use Rattle.match_search.proofs.StepLemmas.{may_go_on, steps_err, steps_ok, way_bans, way_start}
+use Rattle.match_search.proofs.StepLemmas.{may_go_on, steps_fail, steps_ok, way_bans, way_start}
 use Rattle.match_search.proofs.following.exchange_held.Goals as goal
 
 pub loop-place-init : goal.loop-place-init
@@ -16,13 +16,13 @@ exclude_by_swaps-requires-clause-known g c =
     (subst (AreHeld c.args.graphs.now) (sym c.pairs-held.ensures.value) (held_known c.args.graphs.now d.inputs d.outputs d.entries c.requires.may.trail.trail.fit c.entries-lawful.ensures.lawful)).known
 
 pub returns-in_err-ban-clause-steps : goal.returns-in_err-ban-clause-steps
-returns-in_err-ban-clause-steps g c = steps_err c.from_residual.ensures.1 c.loop-place.invariant.held c.in_err-ban.ensures.holds
+returns-in_err-ban-clause-steps g c = steps_fail c.from_residual.ensures.1 c.loop-place.invariant c.in_err-ban.ensures.goes_on
 
 pub returns-in-Some-clause-steps : goal.returns-in-Some-clause-steps
-returns-in-Some-clause-steps g c = steps_ok (way_bans c.loop-place.invariant c.in_ok-ban.ensures.holds)
+returns-in-Some-clause-steps g c = steps_ok (way_bans c.loop-place.invariant c.in_ok-ban.ensures.goes_on)
 
 pub loop-place-preserved : goal.loop-place-preserved
-loop-place-preserved g c = way_bans c.loop-place.invariant c.in_ok-ban.ensures.holds
+loop-place-preserved g c = way_bans c.loop-place.invariant c.in_ok-ban.ensures.goes_on
 
 pub returns-clause-steps : goal.returns-clause-steps
 returns-clause-steps g c = steps_ok c.loop-place.invariant

@@ -6,7 +6,7 @@ pub loop-turn-init : goal.loop-turn-init
 loop-turn-init g c = record { way = way_start c.requires.may; less = omega arith }
 
 pub returns-in_err-impasse-clause-steps : goal.returns-in_err-impasse-clause-steps
-returns-in_err-impasse-clause-steps g c = steps_stop c.from_residual.ensures.1 c.loop-turn.invariant.way.held
+returns-in_err-impasse-clause-steps g c = steps_stop c.from_residual.ensures.1 c.loop-turn.invariant.way
 
 pub returns-in-Some-clause-steps : goal.returns-in-Some-clause-steps
 returns-in-Some-clause-steps g c = steps_ok (way_follows c.bans.ensures c.loop-turn.invariant.way c.in_ok-impasse.ensures.propagates)
@@ -18,7 +18,7 @@ pub ask_next-requires : goal.ask_next-requires
 ask_next-requires g c = record { may = may_go_on c.requires.may.may (way_follows c.bans.ensures c.loop-turn.invariant.way c.in_ok-impasse.ensures.propagates) }
 
 pub returns-in_err-more-clause-steps : goal.returns-in_err-more-clause-steps
-returns-in_err-more-clause-steps g c = steps_err c.from_residual-in_err-more.ensures.1 (way_follows c.bans.ensures c.loop-turn.invariant.way c.in_ok-impasse.ensures.propagates).held c.in_err-more.ensures.steps.holds
+returns-in_err-more-clause-steps g c = steps_err c.from_residual-in_err-more.ensures.1 (way_follows c.bans.ensures c.loop-turn.invariant.way c.in_ok-impasse.ensures.propagates) c.in_err-more.ensures.steps
 
 pub returns-then-more-has_had_its_share-clause-steps : goal.returns-then-more-has_had_its_share-clause-steps
 returns-then-more-has_had_its_share-clause-steps g c = steps_ok (way_more (way_follows c.bans.ensures c.loop-turn.invariant.way c.in_ok-impasse.ensures.propagates) c.in_ok-more.ensures.steps)
