@@ -11,16 +11,24 @@ use port_cells::{literal_of, port_at};
 use std::alloc::{AllocError, Global};
 use word_sim::mix;
 
-/// The most blocks of 256 vectors that are drawn in each circuit.
+/// The most blocks of 256 vectors that are drawn in each circuit. Of circuits with 26 inputs one pair of vectors is expected to
+/// correspond among 8,192 of both (8,192^2 is 2^26), and more where inputs may be exchanged. With four times as many 29 pairs
+/// take 7 s in place of 5.
 const MOST_BLOCKS: usize = 32;
 
-/// How many counts may be made, one for each input, output and block: fewer blocks are drawn of circuits with many ports.
+/// The fewest, where one block alone takes too many counts. It wasn't tuned.
+const LEAST_BLOCKS: usize = 2;
+
+/// How many counts may be made, one for each input, output and block: fewer blocks are drawn of circuits with more than 1,024
+/// pairs of an input and an output. With a fourth of them the minimum and maximum of 16 bits takes 0.45 s in place of 0.17.
 const MOST_COUNTS: usize = 1 << 15;
 
-/// How many pairs of vectors are taken.
+/// How many pairs of vectors are taken, those with rare profiles first: each costs a search. With a fourth of them the rotation
+/// of 32 bits takes 0.4 s longer, and the cubic graph of 24 vertices, joined by exclusive or, is guessed on one seed of six in
+/// place of three; with four times as many the minimum and maximum of 16 bits takes a second longer.
 const MOST_ANCHORS: usize = 24;
 
-/// How many of them have one profile. A profile that many vectors have tells little.
+/// How many of them have one profile, so that three profiles are tried at least. A profile that many vectors have tells little.
 const MOST_ALIKE: usize = 8;
 
 /// What the inputs of a circuit have on drawn vectors, and a hash of each vector's profile: of how many outputs change with
@@ -106,7 +114,7 @@ impl Profiles {
 fn blocks_of(simulator: &FlipSim<'_>) -> usize {
     let graph = simulator.graph();
     let counts = (graph.inputs() as usize).saturating_mul(graph.outputs().len());
-    (MOST_COUNTS / counts.max(1)).clamp(2, MOST_BLOCKS)
+    (MOST_COUNTS / counts.max(1)).clamp(LEAST_BLOCKS, MOST_BLOCKS)
 }
 
 fn draw_block(
@@ -141,20 +149,40 @@ fn hashes_of(
 ) -> Result<Vec<u64>, AllocError> {
     let mut hashes = vec![in alloc; 0u64; 256]?;
     let mut of_outputs = no_counts(alloc, simulator.graph().outputs().len())?;
-    for input in 0..simulator.graph().inputs() {
-        let changes = changes_with(alloc, simulator, input, &mut of_outputs)?;
-        add_hashes(
-            class_of(state.inputs.of(side), input),
-            &changes,
-            &mut hashes,
-        );
-    }
-    for (output, changes) in of_outputs.iter().enumerate() {
-        let class = class_of(state.outputs.of(side), port_at(output));
-        // an input's class isn't an output's
-        add_hashes(class | 1 << 63, &changes.counts(alloc)?, &mut hashes);
-    }
+    let inputs = state.inputs.of(side);
+    add_inputs(alloc, inputs, simulator, &mut of_outputs, &mut hashes)?;
+    add_outputs(alloc, state.outputs.of(side), &of_outputs, &mut hashes)?;
     Ok(hashes)
+}
+
+// Adds what each input changes to the hashes, and counts it for each output.
+fn add_inputs(
+    alloc: Global,
+    cells: &[usize],
+    simulator: &mut FlipSim<'_>,
+    of_outputs: &mut [LaneCounts],
+    hashes: &mut [u64],
+) -> Result<(), AllocError> {
+    for input in 0..simulator.graph().inputs() {
+        let changes = changes_with(alloc, simulator, input, of_outputs)?;
+        add_hashes(class_of(cells, input), &changes, hashes);
+    }
+    Ok(())
+}
+
+// Adds how many inputs change each output to the hashes.
+fn add_outputs(
+    alloc: Global,
+    cells: &[usize],
+    of_outputs: &[LaneCounts],
+    hashes: &mut [u64],
+) -> Result<(), AllocError> {
+    for (output, changes) in of_outputs.iter().enumerate() {
+        // an input's class isn't an output's
+        let class = class_of(cells, port_at(output)) | 1 << 63;
+        add_hashes(class, &changes.counts(alloc)?, hashes);
+    }
+    Ok(())
 }
 
 fn no_counts(alloc: Global, outputs: usize) -> Result<Vec<LaneCounts>, AllocError> {

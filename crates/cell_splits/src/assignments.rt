@@ -8,6 +8,9 @@ use net_core::Side;
 use port_cells::{Cells, Counts, Tally, port_at};
 use std::alloc::{AllocError, Global};
 
+/// Up to how many free inputs have all values: the 256 lanes of a block hold all of eight.
+const FREE_IN_BLOCK: usize = 8;
+
 /// An assignment that is constant on cells whose signs are known, so that it is known in both circuits. The free inputs have all
 /// values, or drawn ones: those whose signs are open, or, where none is, those that share a cell.
 #[derive(Drop)]
@@ -27,12 +30,8 @@ impl Assignment {
         blocks: u64,
         draws: &mut Draws,
     ) -> Result<Assignment, AllocError> {
-        let is_all = count_free(alloc, inputs)? <= 8;
-        Ok(Assignment {
-            patterns: Patterns::draw_constant(alloc, inputs, draws)?,
-            blocks: if is_all { 1 } else { blocks },
-            is_all,
-        })
+        let patterns = Patterns::draw_constant(alloc, inputs, draws)?;
+        Assignment::of(alloc, inputs, patterns, blocks)
     }
 
     /// The inputs of the first circuit whose signs are known have one bit: 0 or 1 on all is what few drawn assignments come
@@ -43,12 +42,8 @@ impl Assignment {
         bit: bool,
         blocks: u64,
     ) -> Result<Assignment, AllocError> {
-        let is_all = count_free(alloc, inputs)? <= 8;
-        Ok(Assignment {
-            patterns: Patterns::constant(alloc, inputs, bit)?,
-            blocks: if is_all { 1 } else { blocks },
-            is_all,
-        })
+        let patterns = Patterns::constant(alloc, inputs, bit)?;
+        Assignment::of(alloc, inputs, patterns, blocks)
     }
 
     /// An assignment that most literals of each cell have on a vector of the first circuit.
@@ -59,9 +54,20 @@ impl Assignment {
         lane: usize,
         blocks: u64,
     ) -> Result<Assignment, AllocError> {
-        let is_all = count_free(alloc, inputs)? <= 8;
+        let patterns = Patterns::by_majority(alloc, inputs, vectors, lane)?;
+        Assignment::of(alloc, inputs, patterns, blocks)
+    }
+
+    // On all vectors of few free inputs, of which both circuits have as many, else on blocks of drawn ones.
+    fn of(
+        alloc: Global,
+        inputs: &Cells,
+        patterns: Patterns,
+        blocks: u64,
+    ) -> Result<Assignment, AllocError> {
+        let is_all = free_inputs(alloc, inputs, Side::First)?.len() <= FREE_IN_BLOCK;
         Ok(Assignment {
-            patterns: Patterns::by_majority(alloc, inputs, vectors, lane)?,
+            patterns,
             blocks: if is_all { 1 } else { blocks },
             is_all,
         })
@@ -102,7 +108,7 @@ impl Assignment {
     fn put_free(&self, free: &[u32], simulator: &mut FlipSim<'_>, draws: &mut Draws) {
         for (place, input) in free.iter().enumerate() {
             let lanes = if self.is_all {
-                all_lanes(port_at(place % 8), 0)
+                all_lanes(port_at(place % FREE_IN_BLOCK), 0)
             } else {
                 draws.lanes()
             };
@@ -149,9 +155,4 @@ fn free_inputs(alloc: Global, inputs: &Cells, side: Side) -> Result<Vec<u32>, Al
         }
     }
     Ok(free)
-}
-
-// Both circuits have as many.
-fn count_free(alloc: Global, inputs: &Cells) -> Result<usize, AllocError> {
-    Ok(free_inputs(alloc, inputs, Side::First)?.len())
 }

@@ -6,19 +6,31 @@ use items::Items;
 use port_cells::port_at;
 use std::alloc::{AllocError, Global};
 
-/// The most generations. Later ones gain little.
+/// The most generations. With half as many adders of 128 bits aren't guessed, and twice as many gain nothing.
 const MOST_GENERATIONS: u64 = 300;
 
 /// How many words of gates may be computed for them, a fifth of a second's (with half of that adders of 128 bits get too few
-/// generations), and how many generations there are at least.
+/// generations), and how many generations there are at least, where two or 32 do as well for ten wide circuits.
 const MOST_WORDS: u64 = 1 << 28;
 
 const FEWEST_GENERATIONS: u64 = 8;
 
-/// How many of 256 vectors have descendants. They stay too, as the first ones.
+/// How many generations an input adds, since each sets few right, and how many there are beside these: without the latter
+/// `content_match8x8` takes 0.7 s in place of 0.2.
+const GENERATIONS_EACH: u64 = 2;
+
+const FIRST_GENERATIONS: u64 = 40;
+
+/// How many of 256 vectors have descendants. They stay too, as the first ones: one of the four words, so that the other three
+/// are made of it a word at a time.
 pub const BEST: usize = 64;
 
-/// From which vector on a descendant has two inputs inverted and not one.
+/// From how many blocks the climb starts beside drawn vectors, which keep one of the four words. Without any equalities of 32
+/// and of 128 bits aren't guessed in three seconds; one block does as well.
+const MOST_STARTS: usize = 3;
+
+/// From which vector on a descendant has two inputs inverted and not one: half of those after the best have. Where all have,
+/// comparators of 64 bits take 1.5 s longer; where none has, none of 29 pairs changes.
 const FIRST_OF_TWO: usize = 160;
 
 /// 256 vectors of a circuit on which many outputs change with many inputs, far more than on drawn ones: there wide gates tell
@@ -47,7 +59,7 @@ pub fn climbed(
 // What an input has on the vectors from which the climb starts: 64 of each of the first blocks, up to three, and else drawn ones.
 fn start_of(input: usize, starts: &[Items<Lanes>], drawn: Lanes) -> Lanes {
     let mut words = drawn.to_array();
-    for (place, block) in starts.iter().take(3).enumerate() {
+    for (place, block) in starts.iter().take(MOST_STARTS).enumerate() {
         if let Some(lanes) = block.get(input) {
             let [first, _, _, _] = lanes.to_array();
             words[place % 4] = first;
@@ -56,13 +68,12 @@ fn start_of(input: usize, starts: &[Items<Lanes>], drawn: Lanes) -> Lanes {
     Lanes::from_array(words)
 }
 
-// A generation sets few inputs right, so that many inputs take many.
 fn generations(simulator: &FlipSim<'_>) -> u64 {
     let inputs = u64::from(simulator.graph().inputs());
     let most = (MOST_WORDS / simulator.words_of_flips().max(1)).max(FEWEST_GENERATIONS);
     inputs
-        .saturating_mul(2)
-        .saturating_add(40)
+        .saturating_mul(GENERATIONS_EACH)
+        .saturating_add(FIRST_GENERATIONS)
         .min(MOST_GENERATIONS)
         .min(most)
 }

@@ -1,4 +1,4 @@
-//! Ways to split the cells of literals that may correspond.
+//! Ways to split the cells of literals that may correspond. What other values of constants do was measured as `table_guess` says.
 #![tactic(auto)]
 
 mod anchors;

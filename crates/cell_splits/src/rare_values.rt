@@ -6,15 +6,24 @@ use net_core::Lit;
 use port_cells::port_at;
 use std::alloc::{AllocError, Global};
 
-/// On how many blocks of 256 drawn vectors gates are looked at first.
+/// On how many blocks of 256 drawn vectors gates are looked at first. A fourth of them does as well for 29 pairs.
 const DRAWN_BLOCKS: u32 = 16;
 
-/// A value is rare that a gate has on fewer vectors, of these 4,096.
+/// A value is rare that a gate has on fewer vectors, of these 4,096. The inputs of an AND are faint where it is 1 on less than
+/// one vector of 2,048, since on twice as many it changes with an input: four times as many allow for chance. A fourth or four
+/// times as many change none of 29 pairs.
 const FEW_VECTORS: u32 = 8;
 
-/// From how many gates walks begin at most. Where a wide gate near the outputs has its rare value those below it have theirs too,
-/// mostly.
+/// From how many gates walks begin at most, which bounds their words by those that counting all vectors may take. Where a wide
+/// gate near the outputs has its rare value those below it have theirs too, mostly; two walks do as well for 29 pairs.
 const MOST_WALKS: usize = 8;
+
+/// How many steps an input adds to a walk, and how many there are beside these. A drawn vector has half of the inputs of an AND
+/// wrong, and a step sets one right, so that this is four times what that takes; what is beside it is for few inputs, and
+/// wasn't tuned.
+const STEPS_EACH: u64 = 2;
+
+const FIRST_STEPS: u64 = 40;
 
 /// How many words of gates a walk may compute, about a thirtieth of a second's.
 const MOST_WORDS: u64 = 1 << 24;
@@ -141,13 +150,15 @@ fn walk(
     }
 }
 
-// Each step sets an input or two right, so that many inputs take many.
 fn steps(simulator: &FlipSim<'_>) -> u64 {
     let inputs = u64::from(simulator.graph().inputs());
     let gates = simulator.graph().gates().len() as u64;
     // going down a gate costs about what computing it does
     let most = MOST_WORDS / gates.saturating_mul(8).max(1);
-    inputs.saturating_mul(2).saturating_add(40).min(most)
+    inputs
+        .saturating_mul(STEPS_EACH)
+        .saturating_add(FIRST_STEPS)
+        .min(most)
 }
 
 fn gate_signal(gate: usize, simulator: &FlipSim<'_>) -> usize {

@@ -4,6 +4,9 @@ use crate::lanes::Lanes;
 use rand_core::Rng;
 use rand_pcg::Pcg32;
 
+/// Which of the generator's streams all draws are of: that of PCG's own examples. Any one serves, as seeds tell searches apart.
+const STREAM: u64 = 54;
+
 /// Numbers drawn one after another, by a seed.
 #[derive(Debug, Drop)]
 pub struct Draws {
@@ -13,7 +16,7 @@ pub struct Draws {
 impl Draws {
     pub fn new(seed: u64) -> Draws {
         Draws {
-            generator: Pcg32::new(seed, 54),
+            generator: Pcg32::new(seed, STREAM),
         }
     }
 
@@ -22,7 +25,7 @@ impl Draws {
         self.generator.next_u64()
     }
 
-    /// A number below another one, or 0 where that is 0.
+    /// A number below another one, or 0 where that is 0. All are equally likely, up to a share of `count` of 2^64.
     pub fn below(&mut self, count: usize) -> usize {
         (self.word() % (count as u64).max(1)) as usize
     }
@@ -32,7 +35,7 @@ impl Draws {
         Lanes::from_array([self.word(), self.word(), self.word(), self.word()])
     }
 
-    /// Puts numbers in another order.
+    /// Puts numbers in another order. Not all orders are equally likely, which an order of tries doesn't need.
     pub fn shuffle(&mut self, numbers: &mut [usize]) {
         for place in 0..numbers.len() {
             let other = self.below(numbers.len());

@@ -4,9 +4,14 @@ ghost use Rattle.std.specs.Prelude.{◌≡◌, ◌+◌, ◌^◌, ◌<◌, All, O
 ghost use Rattle.circuits.specs.Literals.{signal_of};
 ghost use Rattle.net_core.specs.Graph.{AreInOrder};
 
+use crate::lanes::WORDS;
 use items::Items;
 use net_core::{Gate, Graph, Lit};
 use std::alloc::{AllocError, Global};
+
+/// As many gates as take about as long as comparing an output: each is two literals' lanes read and joined, and of an output
+/// that is compared the bits are counted besides.
+const GATES_OF_OUTPUT: u64 = 4;
 
 /// What an input reaches.
 pub(crate) struct Fanout {
@@ -31,13 +36,12 @@ impl Drop for Fanout {
 }
 
 impl Fanout {
-    /// How many words of 64 vectors are computed where the input is inverted. Comparing an output costs as much as some four
-    /// gates.
+    /// How many words of 64 vectors are computed where the input is inverted, with those that comparing outputs is worth.
     pub(crate) fn words(&self) -> u64 {
         let outputs = self.outputs.len() as u64;
         self.count
-            .saturating_add(outputs.saturating_mul(4))
-            .saturating_mul(4)
+            .saturating_add(outputs.saturating_mul(GATES_OF_OUTPUT))
+            .saturating_mul(WORDS)
     }
 }
 

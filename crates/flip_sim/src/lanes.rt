@@ -6,6 +6,9 @@ use word_sim::alternating;
 /// A bit of each of 256 vectors.
 pub type Lanes = u64x4;
 
+/// How many words of 64 vectors these are.
+pub(crate) const WORDS: u64 = 4;
+
 /// The same bit on all vectors.
 pub fn replicated(bit: bool) -> Lanes {
     Lanes::splat(if bit { u64::MAX } else { 0 })
@@ -43,7 +46,8 @@ pub fn word_of_all(input: u32, word: usize) -> u64 {
     }
 }
 
-/// How many blocks of 256 vectors all vectors of n inputs take, the greatest number where that is more than 4,096.
+/// How many blocks of 256 vectors all vectors of n inputs take, the greatest number where that is more than 4,096: past a million
+/// vectors drawn ones are counted.
 pub fn blocks_of_all(inputs: u32) -> u64 {
     match inputs {
         0..=8 => 1,

@@ -5,7 +5,7 @@ ghost use Rattle.circuits.specs.Netlists.{signals_of};
 ghost use Rattle.net_core.specs.Graph.{AreInOrder};
 
 use crate::fanout::{Fanout, fanouts};
-use crate::lanes::{Lanes, replicated};
+use crate::lanes::{Lanes, WORDS, replicated};
 use items::Items;
 use net_core::{Gate, Graph, eval_gates, gate_value, literal_value};
 use std::alloc::{AllocError, Global};
@@ -85,7 +85,7 @@ impl<'a> FlipSim<'a> {
 
     /// How many words of 64 vectors are computed where the circuit is run and each input is inverted once.
     pub fn words_of_flips(&self) -> u64 {
-        let mut words = 4 * self.graph.gates().len() as u64;
+        let mut words = WORDS * self.graph.gates().len() as u64;
         for fanout in self.fanouts.iter() {
             words = words.saturating_add(fanout.words());
         }
@@ -125,7 +125,7 @@ impl<'a> FlipSim<'a> {
             self.values.as_mut_slice(),
         );
         self.is_copied = false;
-        self.words = self.words.saturating_add(4 * gates.len() as u64);
+        self.words = self.words.saturating_add(WORDS * gates.len() as u64);
     }
 
     /// Inverts an input, and computes what the gates have that it reaches.

@@ -95,7 +95,7 @@ impl Cells {
         self.first.get(literal) == self.first.get(literal ^ 1)
     }
 
-    /// Whether the sign of some port is open.
+    /// Whether the sign of some port is open. Going over all of them costs less than the sorting by which cells were split.
     pub fn has_open(&self) -> bool {
         for literal in 0..self.first.len() {
             if self.is_open(literal) {

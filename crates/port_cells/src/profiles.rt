@@ -103,8 +103,7 @@ pub fn input_profiles(
 ) -> Result<Items<Profile>, AllocError> {
     let mut profiles = Items::new(alloc);
     for influences in counts.of_inputs.iter() {
-        profiles.push(profile_of(alloc, influences, false, outputs, 0)?)?;
-        profiles.push(profile_of(alloc, influences, true, outputs, 0)?)?;
+        add_profiles(alloc, influences, outputs, 0, 0, &mut profiles)?;
     }
     Ok(profiles)
 }
@@ -122,10 +121,23 @@ pub fn output_profiles(
     let mut profiles = Items::new(alloc);
     for (influences, ones) in counts.of_outputs.iter().zip(counts.ones.iter()) {
         let zeros = counts.vectors.saturating_sub(*ones);
-        profiles.push(profile_of(alloc, influences, false, inputs, *ones)?)?;
-        profiles.push(profile_of(alloc, influences, true, inputs, zeros)?)?;
+        add_profiles(alloc, influences, inputs, *ones, zeros, &mut profiles)?;
     }
     Ok(profiles)
+}
+
+// Adds the profiles of a port's literals, the plain one and its complement, by how often each is true.
+fn add_profiles(
+    alloc: Global,
+    influences: &[Influence],
+    cells: &[usize],
+    plain: u32,
+    inverted: u32,
+    profiles: &mut Items<Profile>,
+) -> Result<(), AllocError> {
+    profiles.push(profile_of(alloc, influences, false, cells, plain)?)?;
+    profiles.push(profile_of(alloc, influences, true, cells, inverted)?)?;
+    Ok(())
 }
 
 // The profile of a literal that is so often true.
@@ -175,8 +187,10 @@ fn cell_after(cells: &[usize], literal: usize) -> usize {
     }
 }
 
-/// Keys of the literals of two circuits by which those have one key that may correspond: within a cell, near ones, and
-/// those that are near to one of these, and so on.
+/// Keys of the literals of two circuits by which those have one key that may correspond: within a cell, near ones, and those
+/// that are near to one of these, and so on. Within a cell all are held against all that they aren't joined with yet: near
+/// profiles needn't stand near each other in any order, a comparison ends at the first counts that are apart, and cells soon get
+/// small.
 ///
 /// # Errors
 ///

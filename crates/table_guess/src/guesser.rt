@@ -31,46 +31,52 @@ const MOST_WORDS: u64 = 1 << 29;
 const LITTLE_SHARE: u64 = 8;
 
 /// On how many blocks of 256 vectors a circuit may be run with each input inverted where that takes longer. A search of large
-/// circuits needs some ten of them.
+/// circuits needs some ten of them; ten times as many leave room.
 const MOST_RUNS: u64 = 128;
 
 /// On how many for each input. Where inputs may all go to each other, as those of a parity, each of them is guessed, and takes
 /// one or two.
 const MOST_RUNS_EACH: u64 = 4;
 
-/// On how many for each input with little effort.
+/// On how many for each input with little effort: what guessing each of them takes.
 const LITTLE_RUNS_EACH: u64 = 2;
 
-/// The most inputs whose signs are guessed one after the other, before vectors are looked for that decide them all.
+/// The most inputs whose signs are guessed one after the other, before vectors are looked for that decide them all: four have
+/// 16 values, fewer than pairs of vectors are taken.
 const FEW_OPEN: usize = 4;
 
 /// How often a search begins anew, with other choices. Most tables that are found are found in the first two rounds.
 const ROUNDS: u32 = 8;
 
-/// How many guesses may fail in the first round. In each further round half as many more may.
+/// How many guesses may fail in the first round. In each further round half as many more may, some 390 in all. With half as
+/// many at first the adder and subtractor of 24 bits takes a second longer; with twice as many none of 29 pairs changes.
 const FIRST_FAILURES: u32 = 8;
 
-/// How many may fail where all signs are taken as plain: only circuits without negated ports are matched by that.
+/// How many may fail where all signs are taken as plain: only circuits without negated ports are matched by that. Neither one
+/// nor 16 change any of 60 such pairs.
 const PLAIN_FAILURES: u32 = 4;
 
-/// How many may fail where vectors decide all signs: these are right or wrong as a whole.
+/// How many may fail where vectors decide all signs: these are right or wrong as a whole. Neither one nor eight change any of
+/// 29 pairs.
 const ANCHOR_FAILURES: u32 = 3;
 
 /// The most states that one search goes through, and the most rounds of one refinement: bounds that aren't met, since each
 /// round splits a cell and each search has few failures.
 const MOST_STATES: u32 = 100_000;
 
-/// Under how many assignments cells are split where signs are open. Each tells other inputs apart.
+/// Under how many assignments cells are split where signs are open. Each tells other inputs apart, and eight are the fewest in
+/// which all kinds take a turn (`assignment`). Under four, comparators of 64 bits take one to three seconds longer.
 const MANY_ASSIGNMENTS: u32 = 8;
 
-/// Under how many more where these told nothing, and on how many blocks of 256 vectors each. More vectors show smaller
-/// influences.
+/// Under how many more where these told nothing, one turn, and on how many blocks of 256 vectors each. Deviations grow by the
+/// square root, so that sixteen times the vectors show influences a fourth as large. Without these the minimum and maximum of
+/// 16 bits takes two seconds longer; a fourth of the blocks does as well for 29 pairs.
 const FEW_ASSIGNMENTS: u32 = 4;
 
 const MANY_BLOCKS: u64 = 16;
 
-/// How often in a round assignments of inputs whose signs are known may tell nothing. Of inputs that are alike, as those of a parity,
-/// they never do, and of two numbers that are compared always.
+/// How often in a round assignments of inputs whose signs are known may tell nothing. Of inputs that are alike, as those of a
+/// parity, they never do, and of two numbers that are compared always.
 const MOST_IN_VAIN: u32 = 4;
 
 /// How many responses of gates to inputs may be compared so that inputs are paired by likeness. With an eighth of them tables of
@@ -84,8 +90,15 @@ const MOST_COMPARED: u64 = 1 << 21;
 
 const MOST_INPUTS: u32 = 1 << 10;
 
-/// How many literals are tried as the one whose sign is to decide all others.
+/// How many literals are tried with the one whose sign is to decide all others. Those of a majority or a sorter all serve;
+/// where four are refuted, few inputs may go to each other, and vectors are looked for.
 const FEW_TRIED: u32 = 4;
+
+/// The squares of 5.5, 6.25 and 7 standard deviations, rounded down: how far counts of corresponding literals may be apart, in
+/// rounds that take turns. A match is missed where one of its counts is farther off, as one in 26 million is by 5.5 if it is
+/// normal; circuits of 128 inputs and outputs have 32,768 counts, and those of rare changes stray farther. With 7 in all rounds
+/// comparators of 64 bits take 0.6 to 1.7 s longer.
+const DEVIATIONS: [u64; 3] = [30, 39, 49];
 
 /// How much a guess may take.
 #[derive(Clone, Copy, Debug, PartialEq, Eq)]
@@ -190,13 +203,10 @@ impl<'a> Guesser<'a> {
         let (first, first_rare) = Circuit::new(alloc, first, sample, &mut draws)?;
         let (second, second_rare) = Circuit::new(alloc, second, sample, &mut draws)?;
         let kept = Kept::new(alloc, graphs.first().inputs())?;
-        let inputs = graphs.first().inputs() as u64;
+        let inputs = u64::from(graphs.first().inputs());
         let runs = MOST_RUNS.max(inputs.saturating_mul(MOST_RUNS_EACH));
         let few_runs = inputs.saturating_mul(LITTLE_RUNS_EACH);
-        let counted = first
-            .simulator
-            .words()
-            .saturating_add(second.simulator.words());
+        let counted = words_of(&first, &second);
         Ok(Guesser {
             first,
             second,
@@ -265,21 +275,20 @@ impl<'a> Guesser<'a> {
         Ok(None)
     }
 
-    // Searches with all open signs plain in the first round, and then with them open.
+    // Searches with all open signs plain in the first round: without that 60 pairs without negated ports take 18 s in place of
+    // 5, and three of them aren't guessed. Then with signs that vectors decide, in every other round (in all rounds none of 29
+    // pairs changes), and then with them open.
     fn search_round(
         &mut self,
         alloc: Global,
         root: State,
         failures: u32,
     ) -> Result<Attempt, AllocError> {
-        let root = with_paired_idle(alloc, root, &self.first, &self.second, self.sample)?;
-        let Some(root) = self.linked(alloc, root)? else {
+        let Some(root) = self.split_root(alloc, root)? else {
             return Ok(Attempt::Exhausted);
         };
-        let root = self.signed(alloc, root)?;
         if self.round == 0
-            && let Some(plain) = with_plain_signs(alloc, &root)?
-            && let Attempt::Paired(state) = self.search(alloc, plain, PLAIN_FAILURES)?
+            && let Some(state) = self.find_plain(alloc, &root)?
         {
             return Ok(Attempt::Paired(state));
         }
@@ -289,6 +298,26 @@ impl<'a> Guesser<'a> {
             return Ok(Attempt::Paired(state));
         }
         self.search(alloc, root, failures)
+    }
+
+    // Splits the root's cells by what was counted at first.
+    fn split_root(&self, alloc: Global, root: State) -> Result<Option<State>, AllocError> {
+        let root = with_paired_idle(alloc, root, &self.first, &self.second, self.sample)?;
+        match self.linked(alloc, root)? {
+            Some(root) => Ok(Some(self.signed(alloc, root)?)),
+            None => Ok(None),
+        }
+    }
+
+    // Searches with all open signs plain, if there are some.
+    fn find_plain(&mut self, alloc: Global, root: &State) -> Result<Option<State>, AllocError> {
+        let Some(plain) = with_plain_signs(alloc, root)? else {
+            return Ok(None);
+        };
+        match self.search(alloc, plain, PLAIN_FAILURES)? {
+            Attempt::Paired(state) => Ok(Some(state)),
+            _ => Ok(None),
+        }
     }
 
     // Searches with open signs that vectors decide which may correspond.
@@ -392,9 +421,7 @@ impl<'a> Guesser<'a> {
     }
 
     fn is_spent(&self) -> bool {
-        let words = self.first.simulator.words();
-        let words = words.saturating_add(self.second.simulator.words());
-        words.saturating_sub(self.counted) > self.words_of_effort()
+        words_of(&self.first, &self.second).saturating_sub(self.counted) > self.words_of_effort()
     }
 
     // How many words of gates may be computed beside the first counts.
@@ -591,7 +618,9 @@ impl<'a> Guesser<'a> {
         link.split(alloc, state)
     }
 
-    // An assignment by a vector on which many inputs matter, or a drawn one, in turn.
+    // Every other one is by a vector on which many inputs matter: under most assignments a wide gate shows none of its inputs.
+    // Of the others half are drawn, and half have one bit on all inputs, 0 and 1 in turn: the upper bits of two numbers that
+    // are compared are equal then, which they hardly ever are on drawn vectors.
     fn assignment(
         &mut self,
         alloc: Global,
@@ -599,12 +628,20 @@ impl<'a> Guesser<'a> {
         number: u32,
         blocks: u64,
     ) -> Result<Assignment, AllocError> {
-        if number % 4 == 1 {
-            return Assignment::constant(alloc, &state.inputs, number % 8 == 5, blocks);
+        match number % 4 {
+            1 => Assignment::constant(alloc, &state.inputs, number % 8 == 5, blocks),
+            3 => Assignment::draw(alloc, &state.inputs, blocks, &mut self.draws),
+            _ => self.climbed_assignment(alloc, state, blocks),
         }
-        if number % 4 == 3 {
-            return Assignment::draw(alloc, &state.inputs, blocks, &mut self.draws);
-        }
+    }
+
+    // An assignment by one of the vectors on which many inputs matter.
+    fn climbed_assignment(
+        &mut self,
+        alloc: Global,
+        state: &State,
+        blocks: u64,
+    ) -> Result<Assignment, AllocError> {
         if self.climbed.is_empty() {
             self.climbed = climbed(
                 alloc,
@@ -685,20 +722,24 @@ impl<'a> Guesser<'a> {
         }
     }
 
-    // 5.5, 6.25 and 7 standard deviations in turn: a match is missed where one of many counts is farther off.
+    // How far counts on this many vectors may be apart.
     fn slack(&self, vectors: u32, is_all: bool) -> Option<Slack> {
         if is_all {
             return None;
         }
         Some(Slack {
             vectors,
-            deviations: match self.round % 3 {
-                0 => 30,
-                1 => 39,
-                _ => 49,
-            },
+            deviations: DEVIATIONS[self.round as usize % 3],
         })
     }
+}
+
+// How many words of gates were computed of both circuits.
+fn words_of(first: &Circuit<'_>, second: &Circuit<'_>) -> u64 {
+    first
+        .simulator
+        .words()
+        .saturating_add(second.simulator.words())
 }
 
 // The state where inputs that change no output go to such inputs in order, where both circuits have as many.

@@ -7,14 +7,17 @@ use flip_sim::{Draws, Lanes, all_lanes, blocks_of_all};
 use net_core::Side;
 use std::alloc::{AllocError, Global};
 
-/// How many blocks of 256 drawn vectors a table is tried on at first: most wrong ones fail on them.
+/// How many blocks of 256 drawn vectors a table is tried on at first: most wrong ones fail on them, for a hundredth of what
+/// trying it on all takes. One block does as well for 29 pairs.
 const FIRST_BLOCKS: u64 = 8;
 
-/// How many further ones a table of many inputs is tried on, some 200,000 vectors: a wrong table costs the oracle more.
+/// How many further ones a table of many inputs is tried on, some 200,000 vectors, where all aren't fewer: a wrong table costs
+/// the oracle more.
 const MORE_BLOCKS: u64 = 768;
 
 /// Pairs the outputs of circuits whose inputs are paired by what they have on vectors, where that can be: on those on which
-/// tables failed before, on drawn ones, and on all where the inputs are few.
+/// tables failed before, which are one block, on a few drawn ones, and on all where the inputs are few. So most wrong tables
+/// are left before what takes longest.
 pub(crate) fn with_paired_outputs(
     alloc: Global,
     state: State,

@@ -4,9 +4,7 @@ ghost use Rattle.std.specs.Prelude.{◌≡◌, ◌<◌, ◌≤◌, IfOk, length}
 ghost use Rattle.table_guess.specs.Trials.{HasColumns};
 
 use bit_list::Bits;
-use flip_sim::word_of_all;
-use rand_core::Rng;
-use rand_pcg::Pcg32;
+use flip_sim::{Draws, word_of_all};
 use std::alloc::{AllocError, Global};
 use word_sim::Words;
 
@@ -36,14 +34,14 @@ fn vectors(alloc: Global, inputs: u32, words: usize, seed: u64) -> Result<Words,
 {
     let whole = words >= words_of_all(inputs);
     let mut table = Words::new(alloc, inputs, words)?;
-    let mut generator = Pcg32::new(seed, 54);
+    let mut draws = Draws::new(seed);
     for word in 0..words {
-        fill(inputs, word, whole, &mut generator, &mut table);
+        fill(inputs, word, whole, &mut draws, &mut table);
     }
     Ok(table)
 }
 
-/// How many words all vectors of n inputs take, the greatest number where that is more.
+/// How many words all vectors of n inputs take, the greatest number where that is more than are tried.
 pub(crate) fn words_of_all(inputs: u32) -> usize
     ensures { 0 < result }
 {
@@ -54,54 +52,50 @@ pub(crate) fn words_of_all(inputs: u32) -> usize
         9 => 8,
         10 => 16,
         11 => 32,
-        12 => 64,
-        13 => 128,
-        14 => 256,
-        15 => 512,
-        16 => 1024,
         _ => usize::MAX,
     }
 }
 
 // Fills a word of each column.
-fn fill(inputs: u32, word: usize, whole: bool, generator: &mut Pcg32, table: &mut Words)
+fn fill(inputs: u32, word: usize, whole: bool, draws: &mut Draws, table: &mut Words)
     requires columns { length table.old.columns ≡ inputs }
     requires word { word < table.old.words }
     ensures columns { length table.new.columns ≡ inputs }
     ensures words { table.new.words ≡ table.old.words }
 {
     for input in 0..inputs {
-        table.set(input, word, bits_for(input, word, whole, generator));
+        table.set(input, word, bits_for(input, word, whole, draws));
     }
 }
 
 // A word of an input: of all vectors, or drawn.
-fn bits_for(input: u32, word: usize, whole: bool, generator: &mut Pcg32) -> u64 {
+fn bits_for(input: u32, word: usize, whole: bool, draws: &mut Draws) -> u64 {
     if whole {
         word_of_all(input, word)
     } else {
-        drawn(word, generator)
+        drawn(word, draws)
     }
 }
 
-// A drawn word. Of eight words, a block, two are even, and the others mostly 0 or mostly 1: an output that is nearly always 1 on
-// even vectors, as whether a graph has an edge between two of the inputs that are 1, tells the graph only where few inputs are.
-fn drawn(word: usize, generator: &mut Pcg32) -> u64 {
+// A drawn word. Of eight words, a block, two are even, and the others mostly 0 or mostly 1: an output that is nearly always 1
+// on even vectors, as whether a graph has an edge between two of the inputs that are 1, tells the graph only where few inputs
+// are. How few hangs on the graph, so that a quarter of them are, an eighth and a sixteenth. These shares weren't tuned.
+fn drawn(word: usize, draws: &mut Draws) -> u64 {
     match word % 8 {
-        2 | 5 => sparse(2, generator),
-        4 => sparse(3, generator),
-        7 => sparse(4, generator),
-        3 => !sparse(2, generator),
-        6 => !sparse(3, generator),
-        _ => generator.next_u64(),
+        2 | 5 => sparse(2, draws),
+        4 => sparse(3, draws),
+        7 => sparse(4, draws),
+        3 => !sparse(2, draws),
+        6 => !sparse(3, draws),
+        _ => draws.word(),
     }
 }
 
-// A word of which one bit of 2^draws is 1, on average.
-fn sparse(draws: u32, generator: &mut Pcg32) -> u64 {
+// A word of which one bit of 2^factors is 1, on average.
+fn sparse(factors: u32, draws: &mut Draws) -> u64 {
     let mut word = u64::MAX;
-    for _draw in 0..draws {
-        word &= generator.next_u64();
+    for _ in 0..factors {
+        word &= draws.word();
     }
     word
 }
