@@ -2,9 +2,11 @@
 #![tactic(auto)]
 
 mod build;
+mod drawing;
 mod fault;
 mod pair;
 
 pub use build::{graph, matching};
+pub use drawing::{drawn, drawn_over, output_on};
 pub use fault::SampleFault;
 pub use pair::GraphPair;

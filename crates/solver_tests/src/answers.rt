@@ -3,15 +3,15 @@
 ghost use Rattle.std.specs.Prelude.{◌≡◌, ◌<◌, All, IsTrue, false, length};
 ghost use Rattle.claim_core.specs.Queries.{IsCone, IsQuery, IsWired};
 
-use crate::drawn_circuits::{drawn, outputs};
 use crate::refutation::is_refutation;
+use crate::truth_tables::outputs;
 use ask_core::{Answer, ask};
 use cnf_core::Stop;
 use items::Items;
 use net_core::{Graphs, Side};
 use query_core::{Cone, Feed, Feeds, Ledger, Query, QueryBase};
 use rand_pcg::Pcg32;
-use samples::{GraphPair, graph};
+use samples::{GraphPair, drawn, graph};
 use std::alloc::{AllocError, Global};
 use std::test::Fail;
 

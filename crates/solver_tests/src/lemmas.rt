@@ -3,7 +3,6 @@
 ghost use Rattle.claim_core.specs.Queries.{IsQuery};
 
 use crate::answers::{exceeds, falls, is_query};
-use crate::drawn_circuits::drawn;
 use crate::queries::match_query;
 use crate::refutation::takes_all;
 use cnf_core::{Base, LogLine, SatLit};
@@ -11,7 +10,7 @@ use joint_hash::merge;
 use net_core::{Graphs, Matching};
 use query_core::{ConeClauses, Query, QueryBase};
 use rand_pcg::Pcg32;
-use samples::{GraphPair, graph, matching};
+use samples::{GraphPair, drawn, graph, matching};
 use std::alloc::{AllocError, Global};
 use std::test::Fail;
 

@@ -6,8 +6,6 @@ mod answers;
 #[cfg(test)]
 mod clauses;
 #[cfg(test)]
-mod drawn_circuits;
-#[cfg(test)]
 mod lemmas;
 #[cfg(test)]
 mod queries;
@@ -21,3 +19,5 @@ mod sightings;
 mod solvers;
 #[cfg(test)]
 mod trails;
+#[cfg(test)]
+mod truth_tables;

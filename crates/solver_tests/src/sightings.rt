@@ -1,11 +1,11 @@
 //! Claims that are known of an AND gate, or found broken by trying all vectors.
 
-use crate::drawn_circuits::{drawn, is_on, outputs};
+use crate::truth_tables::{is_on, outputs};
 use bit_list::Bits;
 use net_core::Graph;
 use query_core::Shape;
 use rand_pcg::Pcg32;
-use samples::graph;
+use samples::{drawn, graph};
 use sim_signature::{Sighting, hunt};
 use std::alloc::{AllocError, Global};
 use std::test::Fail;
