@@ -10,7 +10,7 @@ ghost use Rattle.ask_core.specs.Answers.{IsAnswer, IsAskedWith, IsBounded, IsBou
 use crate::question::Answer;
 use crate::vector::vector_of;
 use cnf_core::{LogLine, Stop};
-use learn_solver::{Finding, Guide, Solver, solve_guided};
+use learn_solver::{Finding, QuestionGuide, Solver, solve_guided};
 use net_core::Graphs;
 use number_marks::Marks;
 use query_core::{ConeClauses, Ledger, Query, QueryBase};
@@ -25,7 +25,7 @@ use std::alloc::Global;
 ///
 /// `Spent` at a conflict that is met with the budget spent; its line is kept as the refused one. When out of memory, nothing is
 /// said of the last entry.
-pub fn ask_guided<G: Guide>(
+pub fn ask_guided<G: QuestionGuide>(
     alloc: Global,
     graphs: &Graphs<'_>,
     query: &Query,

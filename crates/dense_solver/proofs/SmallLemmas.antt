@@ -16,11 +16,7 @@ use Rattle.learn_solver.specs.declared.verdict.Finding.{Finding}
 use Rattle.learn_solver.specs.declared.verdict.Finding.TheVariants.{Model, Refuted}
 use Rattle.learn_solver.proofs.AdvanceLemmas.{derived_after}
 use Rattle.dense_solver.specs.Renamings.{numbers_of}
-use Rattle.dense_solver.specs.Solved.{AreLearned, IsFound, IsHalted}
-
--- a solver for all clauses of a formula, without a line
-pub record IsAll (small : Formula) (s : Solving) : Type 0 where
-  pub is : s ≡ record { formula = small; ids = numbers_of [] 0 (length small.clauses); lines = [] }
+use Rattle.dense_solver.specs.Solved.{AreLearned, IsAll, IsFound, IsHalted}
 
 pub all_there : (small : Formula) → All (λ id. id < length small.clauses) (numbers_of [] 0 (length small.clauses))
 all_there small k d below =
@@ -42,42 +38,41 @@ wanted-all : (small : Formula) (s new : Solving) → IsAll small s → new.formu
 wanted-all small s new all formula ids =
     ap (λ f. wanted f new.ids) (formula ∙ ap (λ (x : Solving). x.formula) all.is) ∙ (ap (wanted small) (ids ∙ ap (λ (x : Solving). x.ids) all.is) ∙ whole_wanted small.clauses)
 
-found : {O : Type 0} (small : Formula) (s new : Solving) (before after : Charging O) (v : Finding) → IsAll small s → IsExtended s new before after → IsFinding new v → IsFound small after.lines v
+found : {O : Type 0} (small : Formula) (s new : Solving) (before after : Charging O) (v : Finding) → IsAll small s → IsExtended s new before after → IsFinding new v → IsFound small new.lines v
 found {O} small s new before after (Model values) all extended is =
     (is.variables ∙ ap (λ (f : Formula). f.variables) (extended.formula ∙ ap (λ (x : Solving). x.formula) all.is), subst (Meets values) (wanted-all small s new all extended.formula extended.ids) is.meets)
-found {O} small s new before after Refuted all extended is =
-    ap (λ ls. list_any is_empty (clauses_of ls)) extended.lines_are ∙ is.closed
+found {O} small s new before after Refuted all extended is = is.closed
 
-learned : {O : Type 0} (small : Formula) (s new : Solving) (before after : Charging O) → IsAll small s → IsExtended s new before after → AreLearned small after.lines
+learned : {O : Type 0} (small : Formula) (s new : Solving) (before after : Charging O) → IsAll small s → IsExtended s new before after → AreLearned small new.lines
 learned {O} small s new before after all extended =
     let none : s.lines ≡ [] = ap (λ (x : Solving). x.lines) all.is in
     let formula = ap (λ (x : Solving). x.formula) all.is in
     let first : AreDerived s.formula s.lines = subst (λ ls. AreDerived s.formula ls) (sym none) (λ k d below. absurd (omega (arith, below))) in
     let derived = subst (λ f. AreDerived f new.lines) (extended.formula ∙ formula) (derived_after s new before after first extended) in
     let whole : wanted s.formula s.ids ≡ small.clauses = wanted-all small s s all refl refl in
-    subst (AreLearned small) (sym extended.lines_are) (record {
+    record {
       derived = derived;
       fresh = λ k d within. subst (λ cs. All (λ clause. has_all (slice_index_or new.lines k d).clause clause ≡ false) (cs ++ clauses_of (take k new.lines))) whole (extended.added k d (omega (arith, ap length none)) within).fresh;
-    })
+    }
 
-pub small_found : {O : Type 0} (small : Formula) (s new : Solving) (before after : Charging O) (r : Result Finding Stop) → IsAll small s → IfOk r (λ _. IsExtended s new before after) → IfOk r (IsFinding new) → IfOk r (IsFound small after.lines)
+pub small_found : {O : Type 0} (small : Formula) (s new : Solving) (before after : Charging O) (r : Result Finding Stop) → IsAll small s → IfOk r (λ _. IsExtended s new before after) → IfOk r (IsFinding new) → IfOk r (IsFound small new.lines)
 small_found {O} small s new before after (Ok v) all extended is = found small s new before after v all extended is
 small_found {O} small s new before after (Err stop) all extended is = tt
 
-pub small_learned : {O : Type 0} (small : Formula) (s new : Solving) (before after : Charging O) (r : Result Finding Stop) → IsAll small s → IfOk r (λ _. IsExtended s new before after) → IfOk r (λ _. AreLearned small after.lines)
+pub small_learned : {O : Type 0} (small : Formula) (s new : Solving) (before after : Charging O) (r : Result Finding Stop) → IsAll small s → IfOk r (λ _. IsExtended s new before after) → IfOk r (λ _. AreLearned small new.lines)
 small_learned {O} small s new before after (Ok v) all extended = learned small s new before after all extended
 small_learned {O} small s new before after (Err stop) all extended = tt
 
-halted : {O : Type 0} (small : Formula) (s new : Solving) (before after : Charging O) (stop : Stop) → IsAll small s → IsStopped s new before after stop → IsHalted small before after stop
+halted : {O : Type 0} (small : Formula) (s new : Solving) (before after : Charging O) (stop : Stop) → IsAll small s → IsStopped s new before after stop → IsHalted small new.lines before stop
 halted {O} small s new before after Memory all is = tt
 halted {O} small s new before after (Spent n) all is = (
   learned small s new before after all is.extended,
   record {
     told = is.learned_is;
-    used = omega (arith, is.used, is.extended.counted, ap length is.extended.lines_are, ap length (ap (λ (x : Solving). x.lines) all.is));
+    used = omega (arith, is.used, is.extended.counted, ap length (ap (λ (x : Solving). x.lines) all.is));
   },
 )
 
-pub small_halted : {O : Type 0} (small : Formula) (s new : Solving) (before after : Charging O) (r : Result Finding Stop) → IsAll small s → IfErr r (IsStopped s new before after) → IfErr r (IsHalted small before after)
+pub small_halted : {O : Type 0} (small : Formula) (s new : Solving) (before after : Charging O) (r : Result Finding Stop) → IsAll small s → IfErr r (IsStopped s new before after) → IfErr r (IsHalted small new.lines before)
 small_halted {O} small s new before after (Ok v) all is = tt
 small_halted {O} small s new before after (Err stop) all is = halted small s new before after stop all is

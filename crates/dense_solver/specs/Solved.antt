@@ -13,7 +13,7 @@ use Rattle.learn_solver.specs.declared.verdict.Finding.{Finding}
 use Rattle.learn_solver.specs.declared.verdict.Finding.TheVariants.{Model, Refuted}
 use Rattle.dense_solver.specs.declared.verdict.DenseVerdict.{DenseVerdict}
 use Rattle.dense_solver.specs.declared.verdict.DenseVerdict.TheVariants.{Model as Full, Refuted as Logged}
-use Rattle.dense_solver.specs.Renamings.{IsSpread, translated}
+use Rattle.dense_solver.specs.Renamings.{IsSpread, numbers_of, translated}
 
 -- Lines that are derived from a formula, each of which has all the literals of no clause and no line before it.
 pub record AreLearned (formula : Formula) (lines : List LogLine) : Type 0 where
@@ -28,14 +28,18 @@ IsFound formula lines (Model values) = (length values ≡ formula.variables) × 
 IsFound formula lines Refuted = list_any is_empty (clauses_of lines) ≡ true
 
 -- The budget was spent on lines, a refused one counted.
-pub record IsSpentOn {O : Type 0} (before after : Charging O) (learned : ℕ) : Type 0 where
+pub record IsSpentOn {O : Type 0} (lines : List LogLine) (before : Charging O) (learned : ℕ) : Type 0 where
   pub told : learned ≡ before.budget
-  pub used : before.made + length after.lines ≡ before.budget + 1
+  pub used : before.made + length lines ≡ before.budget + 1
 
 -- why a search over names ended without an answer
-abbrev pub IsHalted : {O : Type 0} → Formula → Charging O → Charging O → Stop → Type 0
-IsHalted {O} formula before after (Spent learned) = AreLearned formula after.lines × IsSpentOn before after learned
-IsHalted {O} formula before after Memory = Unit {0}
+abbrev pub IsHalted : {O : Type 0} → Formula → List LogLine → Charging O → Stop → Type 0
+IsHalted {O} formula lines before (Spent learned) = AreLearned formula lines × IsSpentOn lines before learned
+IsHalted {O} formula lines before Memory = Unit {0}
+
+-- a solver for all clauses of a formula, without a line
+pub record IsAll (small : Formula) (s : Solving) : Type 0 where
+  pub is : s ≡ record { formula = small; ids = numbers_of [] 0 (length small.clauses); lines = [] }
 
 -- Lines were charged.
 pub record AreCharged {O : Type 0} (old : Charging O) (lines : List LogLine) (new : Charging O) : Type 0 where

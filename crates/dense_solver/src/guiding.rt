@@ -2,11 +2,11 @@
 
 use crate::base::DenseBase;
 use cnf_core::{Base, SatLit};
-use gate_pairs::{Gate, Pair, gates_of, inputs_of, pairs_of};
-use learn_solver::{Agenda, Candidate, Guide, Operands};
+use gate_pairs::{GatePair, LitGate, gates_of, inputs_of, pairs_of};
+use learn_solver::{Agenda, Candidate, Operands, QuestionGuide};
 use std::alloc::{AllocError, Global};
 
-/// The number that vectors are drawn from. Each question of a run draws the same ones.
+/// The number that vectors are drawn from: any would do. Each question of a run draws the same ones.
 const SEED: u64 = 1;
 
 /// Up to how many inputs are decided first. Then a question learns about as many lines at most as the inputs have vectors,
@@ -21,7 +21,7 @@ pub(crate) struct GatePairs<'a> {
     pub(crate) ids: &'a [u64],
 }
 
-impl<'a> Guide for GatePairs<'a> {
+impl<'a> QuestionGuide for GatePairs<'a> {
     fn agenda(&mut self, alloc: Global) -> Result<Agenda, AllocError> {
         agenda_of(alloc, self.base, self.ids)
     }
@@ -69,11 +69,11 @@ fn inputs_first(alloc: Global, inputs: Vec<SatLit>) -> Agenda {
 }
 
 // Two candidates for each pair.
-fn candidates_of(alloc: Global, gates: &[Gate]) -> Result<Vec<Candidate>, AllocError> {
+fn candidates_of(alloc: Global, gates: &[LitGate]) -> Result<Vec<Candidate>, AllocError> {
     let pairs = pairs_of(alloc, gates, SEED)?;
     let mut candidates = Vec::new(alloc);
     for pair in pairs.iter() {
-        let Pair { one, other } = *pair;
+        let GatePair { one, other } = *pair;
         push_clash(&mut candidates, one, other.opposite())?;
         push_clash(&mut candidates, one.opposite(), other)?;
     }
@@ -81,7 +81,7 @@ fn candidates_of(alloc: Global, gates: &[Gate]) -> Result<Vec<Candidate>, AllocE
 }
 
 // The variables of each gate.
-fn operands_of(alloc: Global, gates: &[Gate]) -> Result<Vec<Operands>, AllocError> {
+fn operands_of(alloc: Global, gates: &[LitGate]) -> Result<Vec<Operands>, AllocError> {
     let mut variables = Vec::new(alloc);
     for gate in gates.iter() {
         variables.push(Operands {

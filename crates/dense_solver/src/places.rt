@@ -71,16 +71,9 @@ fn table_of(alloc: Global, names: &[u64], variables: u64) -> Result<Vec<u64>, Al
     requires names { AreNames variables names.now }
     ensures { IfOk result (λ places. ArePlaces variables names.now places.items) }
 {
-    let mut places = zeros(alloc, variables as usize)?;
+    let mut places = vec![in alloc; 0; variables as usize]?;
     for (place, name) in names.iter().enumerate() {
         places[*name as usize] = place as u64;
     }
     Ok(places)
-}
-
-fn zeros(alloc: Global, count: usize) -> Result<Vec<u64>, AllocError>
-    ensures size { IfOk result (λ zeros. length zeros.items ≡ count) }
-    ensures few { IfOk result (λ zeros. All (λ place. place < 2 ^ 63) zeros.items) }
-{
-    vec![in alloc; 0; count]
 }

@@ -2,7 +2,7 @@
 
 ghost use Rattle.std.specs.Prelude.{◌≡◌, [], true, false, IfOk, IfErr};
 ghost use Rattle.dense_solver.specs.Renamings.{numbers_of, small_formula};
-ghost use Rattle.dense_solver.specs.Solved.{AreLearned, IsFound, IsHalted};
+ghost use Rattle.dense_solver.specs.Solved.{AreLearned, IsAll, IsFound, IsHalted};
 
 use crate::base::DenseBase;
 use crate::guiding::GatePairs;
@@ -12,28 +12,39 @@ use learn_solver::{Finding, Solver, solve_guided};
 use std::alloc::{AllocError, Global};
 use watch_core::Watch;
 
+/// A solver for all clauses over names, without a line.
+pub(crate) fn solver_of(
+    alloc: Global,
+    dense: &DenseBase,
+) -> Result<Solver<'_, DenseBase>, AllocError>
+    ensures { IfOk result (IsAll (small_formula dense.now)) }
+{
+    let numbers = places(alloc, dense.count())?;
+    Solver::new(alloc, dense, &numbers, &[])
+}
+
 /// Looks for a model of clauses over names, of which the first n say what the gates are.
 pub(crate) fn solve_small<W: Watch>(
     alloc: Global,
     dense: &DenseBase,
     gates: usize,
+    solver: &mut Solver<'_, DenseBase>,
     tab: &mut Tab<'_, W>,
 ) -> Result<Finding, Stop>
+    requires all { IsAll (small_formula dense.now) solver.old }
     requires unlearned { tab.old.lines ≡ [] }
     requires not_spent { tab.old.spent ≡ false }
     requires opened { tab.old.opened ≡ true }
-    ensures found { IfOk result (IsFound (small_formula dense.now) tab.new.lines) }
-    ensures learned { IfOk result (λ _. AreLearned (small_formula dense.now) tab.new.lines) }
-    ensures stop { IfErr result (IsHalted (small_formula dense.now) tab.old tab.new) }
+    ensures found { IfOk result (IsFound (small_formula dense.now) solver.new.lines) }
+    ensures learned { IfOk result (λ _. AreLearned (small_formula dense.now) solver.new.lines) }
+    ensures stop { IfErr result (IsHalted (small_formula dense.now) solver.new.lines tab.old) }
 {
-    let numbers = places(alloc, dense.count())?;
-    let mut solver = Solver::new(alloc, dense, &numbers, &[])?;
-    let gates = gates.min(numbers.len());
+    let gates = places(alloc, gates as u64)?;
     let mut guide = GatePairs {
         base: dense,
-        ids: &numbers[..gates],
+        ids: &gates,
     };
-    solve_guided(alloc, &mut solver, &mut guide, tab)
+    solve_guided(alloc, solver, &mut guide, tab)
 }
 
 // The numbers from 0 on.

@@ -8,7 +8,7 @@ ghost use Rattle.dense_solver.specs.Renamings.{AreShort, IsRenaming, small_formu
 ghost use Rattle.dense_solver.specs.Solved.{IsDenseVerdict, IsOf, IsSettled, IsUnsettled, start_of, with_lines_of};
 
 use crate::base::DenseBase;
-use crate::small::solve_small;
+use crate::small::{solve_small, solver_of};
 use crate::tab::Tab;
 use crate::telling::{charge_told, told};
 use crate::verdict::DenseVerdict;
@@ -72,14 +72,17 @@ fn search_dense<L: Charge, W: Watch>(
 {
     let _count = dense.count();
     let next = cones.count() + lemmas.len() as u64;
-    match solve_small(alloc, dense, cones.ids().len(), tab) {
+    let mut solver = solver_of(alloc, dense)?;
+    match solve_small(alloc, dense, cones.ids().len(), &mut solver, tab) {
         Ok(own) => {
-            let lines = charge_told(alloc, dense, next, tab.lines(), ledger)?;
+            let found = solver.into_log();
+            let lines = charge_told(alloc, dense, next, &found.lines, ledger)?;
             let verdict = told(alloc, dense, cones.variables(), lemmas, lines, own)?;
             Ok(verdict)
         }
         Err(Stop::Spent(_)) => {
-            let _lines = charge_told(alloc, dense, next, tab.lines(), ledger)?;
+            let found = solver.into_log();
+            let _lines = charge_told(alloc, dense, next, &found.lines, ledger)?;
             unreachable!()
         }
         Err(Stop::Memory) => Err(Stop::Memory),

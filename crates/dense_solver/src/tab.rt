@@ -1,23 +1,24 @@
 //! What learned lines are charged to while a question is searched over names.
 
-ghost use Rattle.std.specs.Prelude.{◌≡◌, ◌≤◌, [], false, true, IfOk, OnOk, OnErr, IfErr, ◌++◌, ◌∷◌};
+ghost use Rattle.std.specs.Prelude.{◌≡◌, ◌≤◌, [], false, true, OnOk, OnErr, IfErr, ◌++◌, ◌∷◌};
 
 use cnf_core::{Charge, LogLine, Stop};
-use items::Items;
-use std::alloc::{AllocError, Global};
+use query_core::Lines;
+use std::alloc::Global;
 use std::marker::Model;
 use watch_core::{Stage, Watch};
 
 /// Of this many learned lines one is told. They come by the thousand in a second, and what is shown changes once in one.
 const TOLD_EVERY: u64 = 64;
 
-/// A budget, and the lines that were charged to it, a refused one last. A watcher is told how many there are.
+/// A budget, and for contracts alone the lines that were charged to it, a refused one last: the solver has them. A watcher is told
+/// how many there are.
 #[derive(Drop)]
 pub struct Tab<'a, W: Watch> {
     budget: u64,
     learned: u64,
     spent: bool,
-    lines: Items<LogLine>,
+    lines: Lines,
     watch: &'a W,
 }
 
@@ -49,16 +50,9 @@ impl<'a, W: Watch> Tab<'a, W> {
             budget,
             learned,
             spent: false,
-            lines: Items::new(alloc),
+            lines: Lines::new(alloc),
             watch,
         }
-    }
-
-    /// The lines that were charged.
-    pub fn lines(&self) -> &[LogLine]
-        ensures { result.now ≡ self.now.lines }
-    {
-        &self.lines
     }
 
     // Tells how many lines were learned, at one of many.
@@ -79,8 +73,7 @@ impl<'a, W: Watch> Charge for Tab<'a, W> {
 
     fn charge(&mut self, line: &LogLine) -> Result<(), Stop> {
         self.tell();
-        let copy = copied(line)?;
-        push(&mut self.lines, copy)?;
+        push(&mut self.lines, line)?;
         if self.learned == self.budget {
             self.spent = true;
             return Err(Stop::Spent(self.learned));
@@ -91,18 +84,11 @@ impl<'a, W: Watch> Charge for Tab<'a, W> {
 }
 
 // Adds a line. A refusal changes nothing.
-fn push(lines: &mut Items<LogLine>, line: LogLine) -> Result<(), Stop>
-    ensures pushed { OnOk result (lines.new ≡ lines.old ++ line ∷ []) }
+fn push(lines: &mut Lines, line: &LogLine) -> Result<(), Stop>
+    ensures pushed { OnOk result (lines.new ≡ lines.old ++ line.now ∷ []) }
     ensures refused { OnErr result (lines.new ≡ lines.old) }
     ensures stop { IfErr result (λ stop. stop ≡ Stop.Memory) }
 {
     lines.push(line)?;
     Ok(())
-}
-
-// An equal line.
-fn copied(line: &LogLine) -> Result<LogLine, AllocError>
-    ensures { IfOk result (λ copy. copy ≡ line.now) }
-{
-    line.clone()
 }

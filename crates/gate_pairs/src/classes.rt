@@ -14,11 +14,16 @@ use word_sim::{Words, mix, simulate};
 /// equal, each of which costs the search 500 lines, and 32,768 leave none.
 const ROUNDS: u32 = 7;
 
-/// How many words of 64 vectors the first round has for each input.
+/// How many words of 64 vectors the first round has for each input: one of each kind that `drawn_word` draws. Over all questions
+/// of a multiplier of 8 bits one even word leaves some 470 pairs that aren't equal, four leave 100, and eight leave 20.
 const FIRST: usize = 8;
 
-/// How many words a round may have for all signals: of 16 megabytes.
+/// How many words a round may have for all signals: 16 megabytes. So all rounds are drawn for up to 8,192 signals, and fewer for
+/// more.
 const MOST_WORDS: usize = 1 << 21;
+
+/// The stream of the generator, the same for each seed. Any would do.
+const STREAM: u64 = 54;
 
 /// Which signals agreed on all vectors, or disagreed on all of them.
 #[derive(Drop)]
@@ -43,7 +48,7 @@ pub(crate) struct Member {
 ///
 /// Only when out of memory.
 pub(crate) fn classes_of(alloc: Global, graph: &Graph, seed: u64) -> Result<Classes, AllocError> {
-    let mut generator = Pcg32::new(seed, 54);
+    let mut generator = Pcg32::new(seed, STREAM);
     let mut classes = Classes {
         members: Vec::new(alloc),
         count: 0,

@@ -6,9 +6,9 @@ use cnf_core::{Base, SatLit};
 use indexmap::IndexSet;
 use std::alloc::{AllocError, Global};
 
-/// A gate: the literal of its variable, and its operands.
+/// A gate of a query's cones: the literal of its variable, and its operands.
 #[derive(Clone, Copy, Drop)]
-pub struct Gate {
+pub struct LitGate {
     pub output: SatLit,
     pub first: SatLit,
     pub second: SatLit,
@@ -20,7 +20,7 @@ pub struct Gate {
 /// # Errors
 ///
 /// Only when out of memory.
-pub fn gates_of<B: Base>(alloc: Global, base: &B, ids: &[u64]) -> Result<Vec<Gate>, AllocError> {
+pub fn gates_of<B: Base>(alloc: Global, base: &B, ids: &[u64]) -> Result<Vec<LitGate>, AllocError> {
     let mut gates = Vec::new(alloc);
     let end = ids.len() / 3;
     for k in 1..end {
@@ -33,7 +33,7 @@ pub fn gates_of<B: Base>(alloc: Global, base: &B, ids: &[u64]) -> Result<Vec<Gat
 
 // Gate k of the cones, counted from 1, whose clauses have these numbers: after that of variable 0 three for each gate, of
 // which the last says that the operands imply it.
-fn gate_at<B: Base>(base: &B, ids: &[u64], k: usize) -> Option<Gate>
+fn gate_at<B: Base>(base: &B, ids: &[u64], k: usize) -> Option<LitGate>
     requires { 3 * k < length ids.now }
 {
     let id = ids[3 * k];
@@ -42,7 +42,7 @@ fn gate_at<B: Base>(base: &B, ids: &[u64], k: usize) -> Option<Gate>
     }
     let clause = base.clause(id);
     let [output, first, second] = clause.lits;
-    Some(Gate {
+    Some(LitGate {
         output,
         first: first.opposite(),
         second: second.opposite(),
@@ -55,7 +55,7 @@ fn gate_at<B: Base>(base: &B, ids: &[u64], k: usize) -> Option<Gate>
 /// # Errors
 ///
 /// Only when out of memory.
-pub fn inputs_of(alloc: Global, gates: &[Gate]) -> Result<Vec<SatLit>, AllocError> {
+pub fn inputs_of(alloc: Global, gates: &[LitGate]) -> Result<Vec<SatLit>, AllocError> {
     let mut met = IndexSet::new(alloc);
     let mut inputs = Vec::new(alloc);
     add_inputs(gates, &mut met, &mut inputs)?;
@@ -64,7 +64,7 @@ pub fn inputs_of(alloc: Global, gates: &[Gate]) -> Result<Vec<SatLit>, AllocErro
 
 // Adds what gates read and what wasn't met before. The constant is met.
 fn add_inputs(
-    gates: &[Gate],
+    gates: &[LitGate],
     met: &mut IndexSet<u64>,
     inputs: &mut Vec<SatLit>,
 ) -> Result<(), AllocError> {

@@ -2,10 +2,10 @@
 
 ghost use Rattle.std.specs.Prelude.{◌≡◌, IfOk, length};
 
-use crate::gates::{Gate, inputs_of};
+use crate::gates::{LitGate, inputs_of};
 use cnf_core::SatLit;
 use indexmap::IndexMap;
-use net_core::{Gate as NetGate, Graph, Lit};
+use net_core::{Gate, Graph, Lit};
 use std::alloc::{AllocError, Global};
 
 /// How many signals a netlist may have.
@@ -43,7 +43,7 @@ struct Parts {
     /// The signal of each variable.
     numbers: IndexMap<u64, usize>,
     signals: Vec<Signal>,
-    gates: Vec<NetGate>,
+    gates: Vec<Gate>,
 }
 
 // By hand, and so one call wherever a value ends: a derived drop is expanded there, field by field, and makes proofs long.
@@ -63,7 +63,7 @@ impl Joint {
     /// # Errors
     ///
     /// Only when out of memory.
-    pub(crate) fn of(alloc: Global, gates: &[Gate]) -> Result<Option<Joint>, AllocError> {
+    pub(crate) fn of(alloc: Global, gates: &[LitGate]) -> Result<Option<Joint>, AllocError> {
         let inputs = inputs_of(alloc, gates)?;
         let mut parts = Parts::new(alloc)?;
         parts.add_all(&inputs, gates)?;
@@ -85,7 +85,7 @@ impl Parts {
     }
 
     // Adds inputs, and gates each of which stands after its operands.
-    fn add_all(&mut self, inputs: &[SatLit], gates: &[Gate]) -> Result<(), AllocError> {
+    fn add_all(&mut self, inputs: &[SatLit], gates: &[LitGate]) -> Result<(), AllocError> {
         for input in inputs.iter() {
             self.add(*input, 0)?;
         }
@@ -118,13 +118,13 @@ impl Parts {
     }
 
     // Adds a gate that isn't there.
-    fn add_gate(&mut self, gate: Gate) -> Result<(), AllocError> {
+    fn add_gate(&mut self, gate: LitGate) -> Result<(), AllocError> {
         if self.numbers.get(&gate.output.variable()).is_some() {
             return Ok(());
         }
         let (a, first) = self.operand(gate.first);
         let (b, second) = self.operand(gate.second);
-        self.gates.push(NetGate { a, b })?;
+        self.gates.push(Gate { a, b })?;
         self.add(gate.output, first.max(second).saturating_add(1))
     }
 

@@ -8,5 +8,5 @@ mod gates;
 mod joint;
 mod pairs;
 
-pub use gates::{Gate, gates_of, inputs_of};
-pub use pairs::{Pair, pairs_of};
+pub use gates::{LitGate, gates_of, inputs_of};
+pub use pairs::{GatePair, pairs_of};

@@ -1,7 +1,7 @@
 //! Pairs of literals that agree.
 
 use crate::classes::{Member, classes_of};
-use crate::gates::Gate;
+use crate::gates::LitGate;
 use crate::joint::{Joint, Signal};
 use cnf_core::SatLit;
 use indexmap::IndexMap;
@@ -9,7 +9,7 @@ use std::alloc::{AllocError, Global};
 
 /// Two literals that agree on all vectors that were tried. The first is no farther from the inputs.
 #[derive(Clone, Copy, Drop)]
-pub struct Pair {
+pub struct GatePair {
     pub one: SatLit,
     pub other: SatLit,
 }
@@ -29,7 +29,7 @@ struct Candidate {
 /// # Errors
 ///
 /// Only when out of memory.
-pub fn pairs_of(alloc: Global, gates: &[Gate], seed: u64) -> Result<Vec<Pair>, AllocError> {
+pub fn pairs_of(alloc: Global, gates: &[LitGate], seed: u64) -> Result<Vec<GatePair>, AllocError> {
     let Some(joint) = Joint::of(alloc, gates)? else {
         return Ok(Vec::new(alloc));
     };
@@ -67,7 +67,7 @@ fn candidate_of(signal: Signal, member: Member) -> Candidate {
 }
 
 // Each literal but the first of its class, with that one.
-fn paired(alloc: Global, candidates: &[Candidate]) -> Result<Vec<Pair>, AllocError> {
+fn paired(alloc: Global, candidates: &[Candidate]) -> Result<Vec<GatePair>, AllocError> {
     let mut firsts = IndexMap::new(alloc);
     let mut pairs = Vec::new(alloc);
     add_pairs(candidates, &mut firsts, &mut pairs)?;
@@ -78,12 +78,12 @@ fn paired(alloc: Global, candidates: &[Candidate]) -> Result<Vec<Pair>, AllocErr
 fn add_pairs(
     candidates: &[Candidate],
     firsts: &mut IndexMap<u64, SatLit>,
-    pairs: &mut Vec<Pair>,
+    pairs: &mut Vec<GatePair>,
 ) -> Result<(), AllocError> {
     for candidate in candidates.iter() {
         let first = firsts.get(&candidate.class).copied();
         match first {
-            Some(one) => pairs.push(Pair {
+            Some(one) => pairs.push(GatePair {
                 one,
                 other: candidate.literal,
             })?,

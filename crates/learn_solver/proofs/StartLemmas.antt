@@ -8,7 +8,7 @@ use Rattle.cnf_core.specs.declared.log.LogLine.{LogLine}
 use Rattle.cnf_core.specs.Clauses.{Formula, clause_at}
 use Rattle.cnf_core.specs.Derivations.{AreDerived, clauses_of, is_empty}
 use Rattle.trail_core.specs.Trails.{Trailing, literals}
-use Rattle.watch_lists.specs.declared.threads.Watch.{Watch}
+use Rattle.watch_lists.specs.declared.threads.ThreadedWatch.{ThreadedWatch}
 use Rattle.watch_lists.specs.Propagations.{AreKnown, IsConflict, IsGrown, IsSound}
 use Rattle.watch_lists.specs.Threads.{IsAttached, no_watch, partner}
 use Rattle.watch_lists.specs.Watched.{Fits, IsCovered, IsPresent, IsRewatched, Watching, loose_watch, with_clause}
@@ -65,7 +65,7 @@ loose_added watching clause even loose id low attached = elim (cases_lt (2 * id)
   | inr past ↦
       let ws = watching.watches ++ loose_watch clause ∷ loose_watch clause ∷ [] in
       let size = length-append watching.watches (loose_watch clause ∷ loose_watch clause ∷ []) in
-      attached (ap (λ (w : Watch). w.literal.0) (get_or_past ws (2 * id) no_watch (omega (arith, past, size)) ∙ sym (get_or_past ws (partner (2 * id)) no_watch (omega (arith, past, size)))))
+      attached (ap (λ (w : ThreadedWatch). w.literal.0) (get_or_past ws (2 * id) no_watch (omega (arith, past, size)) ∙ sym (get_or_past ws (partner (2 * id)) no_watch (omega (arith, past, size)))))
 ]
 
 -- the clauses of numbers are added

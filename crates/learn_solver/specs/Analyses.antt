@@ -9,7 +9,7 @@ use Rattle.cnf_core.specs.Derivations.{effect_of, hint_fault, is_empty, is_true,
 use Rattle.trail_core.specs.declared.assigned.Assigned.{Assigned}
 use Rattle.trail_core.specs.Trails.{Trailing, entry_at, literals}
 use Rattle.learn_solver.specs.declared.conflict.Analysis.{Analysis}
-use Rattle.learn_solver.specs.declared.conflict.Learned.{Learned}
+use Rattle.learn_solver.specs.declared.conflict.LearnedClause.{LearnedClause}
 use Rattle.watch_lists.specs.Propagations.{AreKnown, IsConflict, IsSound, before}
 
 -- whether a clause has all the literals of another
@@ -52,7 +52,7 @@ pub record IsLearnedAs (clauses : List (List SatLit)) (trail : Trailing) (clause
       → effect_of (before trail.entries k) clause ≡ Neither
   pub asserting : IsAsserting trail clause level
 
-abbrev pub IsLearned : List (List SatLit) → Trailing → Learned → Type 0
+abbrev pub IsLearned : List (List SatLit) → Trailing → LearnedClause → Type 0
 IsLearned clauses trail learned = IsLearnedAs clauses trail learned.clause learned.steps.items learned.level
 
 -- A clause all of whose literals are false, from which something can be learned: nothing is marked.

@@ -37,7 +37,7 @@ pub struct Agenda {
 
 /// Who has an agenda for a question. It is asked for once the question has taken some lines, so that an easy one costs
 /// nothing more.
-pub trait Guide {
+pub trait QuestionGuide {
     /// The agenda. No answer depends on it.
     ///
     /// # Errors
@@ -61,7 +61,7 @@ pub trait Guide {
 #[derive(Drop)]
 pub struct Unguided;
 
-impl Guide for Unguided {
+impl QuestionGuide for Unguided {
     fn agenda(&mut self, alloc: Global) -> Result<Agenda, AllocError> {
         Ok(Agenda {
             gates: Vec::new(alloc),

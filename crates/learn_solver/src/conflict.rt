@@ -15,7 +15,7 @@ use trail_core::Trail;
 /// What is learned from a conflict: a clause that follows, the numbers of the clauses that derive it in the order in which
 /// they are used, and the level to go back to, at which the clause leaves a single literal.
 #[derive(Drop)]
-pub(crate) struct Learned {
+pub(crate) struct LearnedClause {
     pub(crate) clause: Items<SatLit>,
     pub(crate) steps: Vec<u64>,
     pub(crate) level: u64,
@@ -43,7 +43,7 @@ pub(crate) fn analyse(
     trail: &Trail,
     marked: &mut [bool],
     conflict: u64,
-) -> Result<Learned, AllocError>
+) -> Result<LearnedClause, AllocError>
     requires { CanAnalyse clauses.now.clauses trail.now marked.old conflict }
     ensures learned { IfOk result (IsLearned clauses.now.clauses trail.now) }
     ensures clear { marked.new ≡ replicate trail.now.variables false }
@@ -60,7 +60,7 @@ fn resolved(
     trail: &Trail,
     marked: &mut [bool],
     conflict: u64,
-) -> Result<Learned, AllocError>
+) -> Result<LearnedClause, AllocError>
     requires { CanAnalyse clauses.now.clauses trail.now marked.old conflict }
     ensures learned { IfOk result (IsLearned clauses.now.clauses trail.now) }
     ensures size { length marked.new ≡ trail.now.variables }
@@ -211,7 +211,7 @@ impl Analysis {
         clauses: &ClauseStore,
         trail: &Trail,
         marked: &[bool],
-    ) -> Result<Learned, AllocError>
+    ) -> Result<LearnedClause, AllocError>
         requires trail { IsTrail trail.now }
         requires filled { All (λ clause. is_empty clause ≡ false) clauses.now.clauses }
         requires sound { IsSound clauses.now.clauses trail.now }
@@ -222,7 +222,7 @@ impl Analysis {
         let level = back_level(trail, marked, self.below);
         let mut steps = self.steps;
         steps.reverse();
-        Ok(Learned {
+        Ok(LearnedClause {
             clause,
             steps,
             level,

@@ -24,7 +24,7 @@ pub(crate) struct Focus {
     /// The last turn in which each variable was one of those from which the literals are computed.
     turns: Vec<u64>,
     turn: u64,
-    /// What is decided before all other variables.
+    /// What is decided before all other variables. All are gone over at each decision, since they are few.
     leading: Vec<SatLit>,
 }
 

@@ -37,7 +37,7 @@ impl Heap {
     pub(crate) fn new(alloc: Global, count: usize) -> Result<Heap, AllocError>
         ensures { IfOk result (λ heap. heap ≡ replicate count false) }
     {
-        let keys = zeros(alloc, count)?;
+        let keys = vec![in alloc; 0; count]?;
         let numbers = numbers_below(alloc, count)?;
         let places = numbers_below(alloc, count)?;
         Ok(Heap {
@@ -238,11 +238,4 @@ fn numbers_below(alloc: Global, count: usize) -> Result<Vec<usize>, AllocError>
     ensures { IfOk result (λ numbers. numbers.items ≡ range_with_len 0 count) }
 {
     (0..count).collect(alloc)
-}
-
-/// n zeros.
-pub(crate) fn zeros(alloc: Global, count: usize) -> Result<Vec<u64>, AllocError>
-    ensures { IfOk result (λ zeros. length zeros.items ≡ count) }
-{
-    vec![in alloc; 0; count]
 }

@@ -15,6 +15,6 @@ mod search;
 mod solver;
 mod verdict;
 
-pub use candidate::{Agenda, Candidate, Guide, Operands, Unguided};
+pub use candidate::{Agenda, Candidate, Operands, QuestionGuide, Unguided};
 pub use solver::{Solver, solve, solve_guided};
 pub use verdict::{Finding, Verdict};

@@ -8,21 +8,23 @@ ghost use Rattle.learn_solver.specs.Orders.{IsOrder};
 
 use crate::conflict::no_marks;
 use crate::focus::Focus;
-use crate::heap::{Heap, zeros};
+use crate::heap::Heap;
 use cnf_core::{ClauseStore, SatLit};
 use std::alloc::{AllocError, Global};
 use trail_core::Trail;
 
-/// A conflict counts more than the one before it by the weight of that one divided by this.
+/// A conflict counts more than the one before it by the weight of that one divided by this. With 8, 16 and 24 the multiplier of 7
+/// bits beside an array takes 64,065, 57,439 and 57,063 lines, and the checksum of 32 bits 147,542, 150,630 and 153,309.
 const GROWTH: u64 = 16;
 
-/// What the first conflict counts.
+/// What the first conflict counts: many times `GROWTH`, so that little is lost where a weight is divided by that.
 const LEAST: u64 = 1 << 16;
 
 /// What a conflict counts at most, so that sums of such weights stay within a word.
 const MOST: u64 = 1 << 56;
 
-/// By which power of two all is divided that was counted, once a conflict would count more.
+/// By which power of two all is divided that was counted, once a conflict would count more: it counts 2^24 then, and all is
+/// divided again some 370 conflicts later.
 const BITS: u32 = 32;
 
 /// The order in which variables are decided: first those that conflicts named most, of which later ones count more (variable
@@ -69,7 +71,7 @@ impl Order {
             heap: Heap::new(alloc, variables)?,
             phases: no_marks(alloc, variables)?,
             weight: LEAST,
-            named: zeros(alloc, variables)?,
+            named: vec![in alloc; 0; variables]?,
             conflicts: 0,
         };
         order.turn_to(occurring, focus);

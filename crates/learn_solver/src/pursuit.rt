@@ -4,7 +4,7 @@ ghost use Rattle.std.specs.Prelude.{IfOk, IfErr};
 ghost use Rattle.learn_solver.specs.Searches.{CanGo, HasEnded, HasGone};
 ghost use Rattle.learn_solver.specs.Solvers.{IsStopped};
 
-use crate::candidate::{Agenda, Candidate, Guide};
+use crate::candidate::{Agenda, Candidate, QuestionGuide};
 use crate::search::Search;
 use crate::solver::Solver;
 use crate::verdict::Finding;
@@ -21,7 +21,7 @@ const MOST: u64 = 500;
 
 impl<'a, B: Base> Solver<'a, B> {
     /// Searches for a while, then looks at each candidate. None: the question itself is left, from level 0 on.
-    pub(crate) fn prepare<G: Guide, L: Charge>(
+    pub(crate) fn prepare<G: QuestionGuide, L: Charge>(
         &mut self,
         alloc: Global,
         search: &mut Search,
@@ -49,7 +49,7 @@ impl<'a, B: Base> Solver<'a, B> {
     }
 
     // Looks for each candidate whether its literals can be true together, and tells the guide.
-    fn follow<G: Guide, L: Charge>(
+    fn follow<G: QuestionGuide, L: Charge>(
         &mut self,
         alloc: Global,
         search: &mut Search,
@@ -93,7 +93,7 @@ impl<'a, B: Base> Solver<'a, B> {
     }
 
     /// Searches until there is an answer, and tells the guide how many lines there are.
-    pub(crate) fn finish<G: Guide, L: Charge>(
+    pub(crate) fn finish<G: QuestionGuide, L: Charge>(
         &mut self,
         alloc: Global,
         search: &mut Search,

@@ -13,8 +13,8 @@ ghost use Rattle.learn_solver.specs.Solvers.{IsAsking, IsBounded, IsBoundedStop,
 ghost use Rattle.learn_solver.specs.Findings.{IsFinding};
 ghost use Rattle.learn_solver.specs.Starts.{IsBegun};
 
-use crate::candidate::{Guide, Unguided};
-use crate::conflict::{Learned, analyse};
+use crate::candidate::{QuestionGuide, Unguided};
+use crate::conflict::{LearnedClause, analyse};
 use crate::decision::values;
 use crate::order::bump_all;
 use crate::search::{Search, begun};
@@ -113,7 +113,7 @@ impl<'a, B: Base> Solver<'a, B> {
         ensures lesson { IfOk result (λ lesson. IsLesson self.now search.old.trail lesson.line lesson.level) }
         ensures same { IsSame search.old search.new }
     {
-        let Learned {
+        let LearnedClause {
             clause,
             steps,
             level,
@@ -311,7 +311,7 @@ pub fn solve<B: Base, L: Charge>(
 /// The same, where parts of the question are searched first (explicit learning: Lu, Wang, Cheng, Moon and Hanna, DATE 2003):
 /// for each candidate in order, whether its two literals can be true together. What is learned from that serves all that
 /// comes after. No answer depends on the candidates. A refutation is the solver's lines (`Solver::into_log`).
-pub fn solve_guided<B: Base, G: Guide, L: Charge>(
+pub fn solve_guided<B: Base, G: QuestionGuide, L: Charge>(
     alloc: Global,
     solver: &mut Solver<'_, B>,
     guide: &mut G,
@@ -334,7 +334,7 @@ pub fn solve_guided<B: Base, G: Guide, L: Charge>(
 }
 
 // What a search finds that hasn't begun.
-fn found_by<B: Base, G: Guide, L: Charge>(
+fn found_by<B: Base, G: QuestionGuide, L: Charge>(
     alloc: Global,
     solver: &mut Solver<'_, B>,
     search: &mut Search,

@@ -31,6 +31,15 @@ impl Drop for Lines {
 }
 
 impl Lines {
+    /// No lines.
+    pub fn new(alloc: Global) -> Lines
+        ensures { result ≡ [] }
+    {
+        Lines {
+            inside: Vec::new(alloc),
+        }
+    }
+
     /// These lines.
     ///
     /// # Errors

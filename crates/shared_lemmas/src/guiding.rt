@@ -1,7 +1,7 @@
 //! What the solver looks at first.
 
 use dense_solver::agenda_of;
-use learn_solver::{Agenda, Candidate, Guide};
+use learn_solver::{Agenda, Candidate, QuestionGuide};
 use query_core::QueryBase;
 use std::alloc::{AllocError, Global};
 use watch_core::{Stage, Watch};
@@ -18,12 +18,12 @@ pub(crate) struct QuestionPairs<'a, W: Watch> {
     pub(crate) base: &'a QueryBase<'a>,
     /// The numbers of the clauses that say what the gates are: after the first clause three for each.
     pub(crate) ids: &'a [u64],
-    pub(crate) progress: Progress<'a, W>,
+    pub(crate) reporter: Reporter<'a, W>,
 }
 
 /// What a watcher is told of a question.
 #[derive(Drop)]
-pub(crate) struct Progress<'a, W: Watch> {
+pub(crate) struct Reporter<'a, W: Watch> {
     pub(crate) watch: &'a W,
     pub(crate) budget: u64,
     /// How many lines were learned before the question.
@@ -34,7 +34,7 @@ pub(crate) struct Progress<'a, W: Watch> {
     pub(crate) next: u64,
 }
 
-impl<'a, W: Watch> Progress<'a, W> {
+impl<'a, W: Watch> Reporter<'a, W> {
     // Tells how many lines were learned, where the question has this many, unless few were learned since.
     fn tell_some(&mut self, lines: u64) {
         if lines >= self.next {
@@ -53,18 +53,18 @@ impl<'a, W: Watch> Progress<'a, W> {
     }
 }
 
-impl<'a, W: Watch> Guide for QuestionPairs<'a, W> {
+impl<'a, W: Watch> QuestionGuide for QuestionPairs<'a, W> {
     fn agenda(&mut self, alloc: Global) -> Result<Agenda, AllocError> {
         agenda_of(alloc, self.base, self.ids)
     }
 
     fn done_with(&mut self, candidate: Candidate, lines: u64) -> Result<(), AllocError> {
         let _ = candidate;
-        self.progress.tell(lines);
+        self.reporter.tell(lines);
         Ok(())
     }
 
     fn learned(&mut self, lines: u64) {
-        self.progress.tell_some(lines);
+        self.reporter.tell_some(lines);
     }
 }

@@ -8,7 +8,7 @@ ghost use Rattle.log_parts.specs.Parts.{MayGoOn};
 ghost use Rattle.shared_lemmas.specs.Shared.{AreShared, HoldUnder, IsAnswered, IsAskedBy, IsHalted, IsStoppedBy, IsUnder};
 
 use crate::feeds::have_same_feeds;
-use crate::guiding::{Progress, QuestionPairs};
+use crate::guiding::{QuestionPairs, Reporter};
 use crate::keeping::keep;
 use crate::lemmas::{Lemmas, lemmas_for};
 use crate::stock::Stock;
@@ -190,7 +190,7 @@ fn ask_by<W: Watch>(
     ensures answered { IfOk result (IsAnswered graphs.now query.now ledger.old ledger.new) }
     ensures halted { IfErr result (IsHalted graphs.now query.now ledger.old ledger.new) }
 {
-    let progress = Progress {
+    let reporter = Reporter {
         watch,
         budget: ledger.budget(),
         learned: ledger.learned(),
@@ -200,7 +200,7 @@ fn ask_by<W: Watch>(
     let guide = QuestionPairs {
         base,
         ids: cones.ids(),
-        progress,
+        reporter,
     };
     let lines = &lemmas.lines;
     let answer = ask_pairs(alloc, graphs, query, cones, lines, guide, ledger)?;

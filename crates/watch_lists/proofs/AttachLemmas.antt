@@ -8,7 +8,7 @@ use Rattle.cnf_core.specs.Clauses.{clause_at, opposite, variable_of}
 use Rattle.cnf_core.specs.Derivations.{is_empty, is_true}
 use Rattle.trail_core.specs.declared.assigned.Assigned.{Assigned}
 use Rattle.trail_core.specs.Trails.{Trailing, entry_at, nothing}
-use Rattle.watch_lists.specs.declared.threads.Watch.{Watch}
+use Rattle.watch_lists.specs.declared.threads.ThreadedWatch.{ThreadedWatch}
 use Rattle.watch_lists.specs.declared.threads.Head.{Head}
 use Rattle.watch_lists.specs.Feet.{ArePair, IsSettled}
 use Rattle.watch_lists.specs.Propagations.{AreKnown, IsGrown, IsSound}
@@ -46,15 +46,15 @@ kept_new variables heads is = subst (AreKept variables [] []) (sym is) (record {
 
 -- ---- one clause more
 
-links_longer : (ws more : List Watch) (count at : ℕ) → ((s : ℕ) → IsIn s (links ws count at) → s < length ws) → links (ws ++ more) count at ≡ links ws count at
+links_longer : (ws more : List ThreadedWatch) (count at : ℕ) → ((s : ℕ) → IsIn s (links ws count at) → s < length ws) → links (ws ++ more) count at ≡ links ws count at
 links_longer ws more zero at within = refl
 links_longer ws more (suc count) at within =
     let next = (watch_at ws at).next in
-    let same : (watch_at (ws ++ more) at).next ≡ next = ap (λ (w : Watch). w.next) (get_or_append_left ws more no_watch at (within at (inl refl))) in
+    let same : (watch_at (ws ++ more) at).next ≡ next = ap (λ (w : ThreadedWatch). w.next) (get_or_append_left ws more no_watch at (within at (inl refl))) in
     ap (λ n. at ∷ links (ws ++ more) count n) same ∙ ap (λ xs. at ∷ xs) (links_longer ws more count next (λ s here. within s (inr here)))
 
 -- the two new watches, of which each is the other's partner
-added_at : (ws : List Watch) (w : Watch) → (t : ℕ) → length ws ≤ t → t < length ws + 2 → watch_at (ws ++ w ∷ w ∷ []) t ≡ w
+added_at : (ws : List ThreadedWatch) (w : ThreadedWatch) → (t : ℕ) → length ws ≤ t → t < length ws + 2 → watch_at (ws ++ w ∷ w ∷ []) t ≡ w
 added_at ws w t late within = elim (cases_eq t (length ws)) [
   | inl here ↦ get_or_at ws w (w ∷ []) no_watch t (sym here)
   | inr other ↦
@@ -62,27 +62,27 @@ added_at ws w t late within = elim (cases_eq t (length ws)) [
       ap (watch_at (ws ++ w ∷ w ∷ [])) (sym is) ∙ get_or-append-add ws (w ∷ w ∷ []) 1 no_watch
 ]
 
-old_at : (ws more : List Watch) (t : ℕ) → t < length ws → watch_at (ws ++ more) t ≡ watch_at ws t
+old_at : (ws more : List ThreadedWatch) (t : ℕ) → t < length ws → watch_at (ws ++ more) t ≡ watch_at ws t
 old_at ws more t within = get_or_append_left ws more no_watch t within
 
-pub attached_added : (ws : List Watch) (w : Watch) → length ws % 2 ≡ 0 → (t : ℕ) → t < length ws + 2 → IsAttached (ws ++ w ∷ w ∷ []) t → (t < length ws) × IsAttached ws t
+pub attached_added : (ws : List ThreadedWatch) (w : ThreadedWatch) → length ws % 2 ≡ 0 → (t : ℕ) → t < length ws + 2 → IsAttached (ws ++ w ∷ w ∷ []) t → (t < length ws) × IsAttached ws t
 attached_added ws w even t within attached = elim (cases_lt t (length ws)) [
-  | inl old ↦ (old, λ e. attached (ap (λ (x : Watch). x.literal.0) (old_at ws (w ∷ w ∷ []) t old) ∙ (e ∙ sym (ap (λ (x : Watch). x.literal.0) (old_at ws (w ∷ w ∷ []) (partner t) (partner_within ws t even old))))))
+  | inl old ↦ (old, λ e. attached (ap (λ (x : ThreadedWatch). x.literal.0) (old_at ws (w ∷ w ∷ []) t old) ∙ (e ∙ sym (ap (λ (x : ThreadedWatch). x.literal.0) (old_at ws (w ∷ w ∷ []) (partner t) (partner_within ws t even old))))))
   | inr late ↦
       let own = added_at ws w t late within in
       let other = added_at ws w (partner t) (omega (arith, late, even)) (omega (arith, within, even)) in
-      absurd (attached (ap (λ (x : Watch). x.literal.0) own ∙ sym (ap (λ (x : Watch). x.literal.0) other)))
+      absurd (attached (ap (λ (x : ThreadedWatch). x.literal.0) own ∙ sym (ap (λ (x : ThreadedWatch). x.literal.0) other)))
 ]
 
-pub attached_longer : (ws : List Watch) (w : Watch) → length ws % 2 ≡ 0 → (t : ℕ) → t < length ws → IsAttached ws t → IsAttached (ws ++ w ∷ w ∷ []) t
+pub attached_longer : (ws : List ThreadedWatch) (w : ThreadedWatch) → length ws % 2 ≡ 0 → (t : ℕ) → t < length ws → IsAttached ws t → IsAttached (ws ++ w ∷ w ∷ []) t
 attached_longer ws w even t old attached e =
-    attached (sym (ap (λ (x : Watch). x.literal.0) (old_at ws (w ∷ w ∷ []) t old)) ∙ (e ∙ ap (λ (x : Watch). x.literal.0) (old_at ws (w ∷ w ∷ []) (partner t) (partner_within ws t even old))))
+    attached (sym (ap (λ (x : ThreadedWatch). x.literal.0) (old_at ws (w ∷ w ∷ []) t old)) ∙ (e ∙ ap (λ (x : ThreadedWatch). x.literal.0) (old_at ws (w ∷ w ∷ []) (partner t) (partner_within ws t even old))))
 
 first_known : (n : ℕ) (clause : List SatLit) → AreKnown n clause → is_empty clause ≡ false → variable_of (loose_watch clause).literal < n
 first_known n [] known e = absurd (false≢true (sym e))
 first_known n (l ∷ clause) known e = known 0 l (omega arith)
 
-pub kept_added : (variables : ℕ) (clauses put : List (List SatLit)) (ws new : List Watch) (heads : List Head) (clause : List SatLit) → AreKept variables clauses ws heads → AreKnown variables clause → is_empty clause ≡ false → put ≡ clauses ++ clause ∷ [] → new ≡ ws ++ loose_watch clause ∷ loose_watch clause ∷ [] → length new < 2 ^ 64 → AreKept variables put new heads
+pub kept_added : (variables : ℕ) (clauses put : List (List SatLit)) (ws new : List ThreadedWatch) (heads : List Head) (clause : List SatLit) → AreKept variables clauses ws heads → AreKnown variables clause → is_empty clause ≡ false → put ≡ clauses ++ clause ∷ [] → new ≡ ws ++ loose_watch clause ∷ loose_watch clause ∷ [] → length new < 2 ^ 64 → AreKept variables put new heads
 kept_added variables clauses put ws new heads clause is known filled put_is new_is few =
     subst (λ cs. AreKept variables cs new heads) (sym put_is) (subst (λ xs. AreKept variables (clauses ++ clause ∷ []) xs heads) (sym new_is) (record {
       heads_are = is.heads_are;
@@ -92,20 +92,20 @@ kept_added variables clauses put ws new heads clause is known filled put_is new_
         of = λ s within attached.
             let old = attached_added ws w even s (omega (arith, within, size)) attached in
             let there : s / 2 < length clauses = omega (arith, old.0, is.of_clauses.size) in
-            ap (λ c. is_true c (literal_at (ws ++ w ∷ w ∷ []) s)) (get_or_append_left clauses (clause ∷ []) [] (s / 2) there) ∙ (ap (λ (x : Watch). is_true (clause_at clauses (s / 2)) x.literal) (old_at ws (w ∷ w ∷ []) s old.0) ∙ is.of_clauses.of s old.0 old.1);
+            ap (λ c. is_true c (literal_at (ws ++ w ∷ w ∷ []) s)) (get_or_append_left clauses (clause ∷ []) [] (s / 2) there) ∙ (ap (λ (x : ThreadedWatch). is_true (clause_at clauses (s / 2)) x.literal) (old_at ws (w ∷ w ∷ []) s old.0) ∙ is.of_clauses.of s old.0 old.1);
       };
       threaded = record {
         even = omega (arith, even, size);
         few = omega (arith, few, ap length new_is);
         known = λ s within. elim (cases_lt s (length ws)) [
-          | inl old ↦ omega (arith, ap (λ (x : Watch). x.literal.0) (old_at ws (w ∷ w ∷ []) s old), is.threaded.known s old)
-          | inr late ↦ omega (arith, ap (λ (x : Watch). x.literal.0) (added_at ws w s late (omega (arith, within, size))), first_known variables clause known filled, is.heads_are)
+          | inl old ↦ omega (arith, ap (λ (x : ThreadedWatch). x.literal.0) (old_at ws (w ∷ w ∷ []) s old), is.threaded.known s old)
+          | inr late ↦ omega (arith, ap (λ (x : ThreadedWatch). x.literal.0) (added_at ws w s late (omega (arith, within, size))), first_known variables clause known filled, is.heads_are)
         ];
         own = λ c s low here.
             let old = is.threaded.own c s low (subst (IsIn s) (same c low) here) in
             record {
               within = omega (arith, old.within, size);
-              is = ap (λ (x : Watch). x.literal.0) (old_at ws (w ∷ w ∷ []) s old.within) ∙ old.is;
+              is = ap (λ (x : ThreadedWatch). x.literal.0) (old_at ws (w ∷ w ∷ []) s old.within) ∙ old.is;
               attached = attached_longer ws w even s old.within old.attached;
             };
         once = λ c low. subst IsOnce (sym (same c low)) (is.threaded.once c low);
@@ -113,7 +113,7 @@ kept_added variables clauses put ws new heads clause is known filled put_is new_
         out_nowhere = λ s none. absurd none;
         all = λ s within attached.
             let old = attached_added ws w even s (omega (arith, within, size)) attached in
-            let at : (literal_at (ws ++ w ∷ w ∷ []) s).0 ≡ (literal_at ws s).0 = ap (λ (x : Watch). x.literal.0) (old_at ws (w ∷ w ∷ []) s old.0) in
+            let at : (literal_at (ws ++ w ∷ w ∷ []) s).0 ≡ (literal_at ws s).0 = ap (λ (x : ThreadedWatch). x.literal.0) (old_at ws (w ∷ w ∷ []) s old.0) in
             elim (is.threaded.all s old.0 old.1) [
               | inl none ↦ inl none
               | inr here ↦ inr (subst (λ c. IsIn s (list_of (ws ++ w ∷ w ∷ []) heads c)) (sym at) (subst (IsIn s) (sym (same (literal_at ws s).0 (is.threaded.known s old.0))) here))
@@ -121,7 +121,7 @@ kept_added variables clauses put ws new heads clause is known filled put_is new_
       };
     }))
   where
-    w : Watch
+    w : ThreadedWatch
     w = loose_watch clause
 
     even : length ws % 2 ≡ 0
@@ -136,7 +136,7 @@ kept_added variables clauses put ws new heads clause is known filled put_is new_
 -- ---- a clause is attached
 
 -- the watches that a clause got are its own
-pub kept_attached : (variables : ℕ) (clauses : List (List SatLit)) (ws new : List Watch) (hs heads : List Head) (id s : ℕ) (a b : SatLit) (entries : List Assigned) → AreKept variables clauses ws hs → AreThreaded new heads [] → length heads ≡ length hs → s ≡ 2 * id → ArePut ws new s a b → ArePair entries (clause_at clauses id) a b → AreKept variables clauses new heads
+pub kept_attached : (variables : ℕ) (clauses : List (List SatLit)) (ws new : List ThreadedWatch) (hs heads : List Head) (id s : ℕ) (a b : SatLit) (entries : List Assigned) → AreKept variables clauses ws hs → AreThreaded new heads [] → length heads ≡ length hs → s ≡ 2 * id → ArePut ws new s a b → ArePair entries (clause_at clauses id) a b → AreKept variables clauses new heads
 kept_attached variables clauses ws new hs heads id s a b entries is threaded same_heads s_is put pair = record {
   heads_are = same_heads ∙ is.heads_are;
   known = is.known;
@@ -220,7 +220,7 @@ fits_added watching clause t even fits = record {
       let ws = watching.watches in
       let w = loose_watch clause in
       let old = attached_added ws w even s (omega (arith, within, length-append ws (w ∷ w ∷ []))) attached in
-      let own = ap (λ (x : Watch). x.literal) (old_at ws (w ∷ w ∷ []) s old.0) in
-      let other = ap (λ (x : Watch). x.literal) (old_at ws (w ∷ w ∷ []) (partner s) (partner_within ws s even old.0)) in
+      let own = ap (λ (x : ThreadedWatch). x.literal) (old_at ws (w ∷ w ∷ []) s old.0) in
+      let other = ap (λ (x : ThreadedWatch). x.literal) (old_at ws (w ∷ w ∷ []) (partner s) (partner_within ws s even old.0)) in
       subst (λ l. IsHeld t.entries l (entry_at t.entries j).level) (sym other) (fits.watched s old.0 old.1 j early inside (at ∙ ap (λ (l : SatLit). (opposite l).0) own));
 }

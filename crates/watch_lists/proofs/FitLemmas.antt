@@ -8,7 +8,7 @@ use Rattle.cnf_core.specs.Derivations.{is_false, is_true}
 use Rattle.trail_core.specs.declared.assigned.Assigned.{Assigned}
 use Rattle.trail_core.specs.Trails.{IsTrail, Trailing, entry_at, literals, nothing}
 use Rattle.trail_core.proofs.TrailLemmas.{place_of_true, same_place, true_at}
-use Rattle.watch_lists.specs.declared.threads.Watch.{Watch}
+use Rattle.watch_lists.specs.declared.threads.ThreadedWatch.{ThreadedWatch}
 use Rattle.watch_lists.specs.declared.threads.Head.{Head}
 use Rattle.watch_lists.specs.Looks.{IsBeside, IsHalfFalse, IsTarget}
 use Rattle.watch_lists.specs.Propagations.{AreKnown, IsReason, IsSound}
@@ -51,46 +51,46 @@ held_further es more l level held = record {
 -- ---- the step from one watch to the next
 
 -- what a watch and its place say
-literal_set_same : (ws : List Watch) (s : ℕ) (w : Watch) → s < length ws → literal_at (slice_set ws s w) s ≡ w.literal
-literal_set_same ws s w within = ap (λ (x : Watch). x.literal) (get_or-set_same ws s w no_watch within)
+literal_set_same : (ws : List ThreadedWatch) (s : ℕ) (w : ThreadedWatch) → s < length ws → literal_at (slice_set ws s w) s ≡ w.literal
+literal_set_same ws s w within = ap (λ (x : ThreadedWatch). x.literal) (get_or-set_same ws s w no_watch within)
 
-literal_set_other : (ws : List Watch) (s t : ℕ) (w : Watch) → t ≢ s → literal_at (slice_set ws s w) t ≡ literal_at ws t
-literal_set_other ws s t w other = ap (λ (x : Watch). x.literal) (get_or-set_other ws s t w no_watch other)
+literal_set_other : (ws : List ThreadedWatch) (s t : ℕ) (w : ThreadedWatch) → t ≢ s → literal_at (slice_set ws s w) t ≡ literal_at ws t
+literal_set_other ws s t w other = ap (λ (x : ThreadedWatch). x.literal) (get_or-set_other ws s t w no_watch other)
 
 -- a watch that keeps its literal changes none
-pub literals_kept : (ws : List Watch) (s : ℕ) (w : Watch) → s < length ws → w.literal ≡ literal_at ws s → (t : ℕ) → literal_at (slice_set ws s w) t ≡ literal_at ws t
+pub literals_kept : (ws : List ThreadedWatch) (s : ℕ) (w : ThreadedWatch) → s < length ws → w.literal ≡ literal_at ws s → (t : ℕ) → literal_at (slice_set ws s w) t ≡ literal_at ws t
 literals_kept ws s w within same t = elim (cases_eq t s) [
   | inl mine ↦ ap (literal_at (slice_set ws s w)) mine ∙ (literal_set_same ws s w within ∙ (same ∙ ap (literal_at ws) (sym mine)))
   | inr other ↦ literal_set_other ws s t w other
 ]
 
-pub alike_attached : (old new : List Watch) → AreAlike old new → (t : ℕ) → IsAttached new t → IsAttached old t
+pub alike_attached : (old new : List ThreadedWatch) → AreAlike old new → (t : ℕ) → IsAttached new t → IsAttached old t
 alike_attached old new alike t attached e =
     attached (ap (λ (l : SatLit). l.0) (alike.same t) ∙ (e ∙ ap (λ (l : SatLit). l.0) (sym (alike.same (partner t)))))
 
-pub alike_back : (old new : List Watch) → AreAlike old new → AreAlike new old
+pub alike_back : (old new : List ThreadedWatch) → AreAlike old new → AreAlike new old
 alike_back old new alike = record { size = sym alike.size; same = λ t. sym (alike.same t) }
 
-pub alike_of : (clauses : List (List SatLit)) (old new : List Watch) → AreAlike old new → AreOfClauses clauses old → AreOfClauses clauses new
+pub alike_of : (clauses : List (List SatLit)) (old new : List ThreadedWatch) → AreAlike old new → AreOfClauses clauses old → AreOfClauses clauses new
 alike_of clauses old new alike of = record {
   size = alike.size ∙ of.size;
   of = λ t within attached. ap (is_true (clause_at clauses (t / 2))) (alike.same t) ∙ of.of t (omega (arith, within, alike.size)) (alike_attached old new alike t attached);
 }
 
-alike_held : (old new : List Watch) → AreAlike old new → (es : List Assigned) (t level : ℕ) → IsHeld es (literal_at old (partner t)) level → IsHeld es (literal_at new (partner t)) level
+alike_held : (old new : List ThreadedWatch) → AreAlike old new → (es : List Assigned) (t level : ℕ) → IsHeld es (literal_at old (partner t)) level → IsHeld es (literal_at new (partner t)) level
 alike_held old new alike es t level held = subst (λ l. IsHeld es l level) (sym (alike.same (partner t))) held
 
-pub alike_watched : (old new : List Watch) → AreAlike old new → (es : List Assigned) (walked t : ℕ) → IsWatched old es walked t → IsWatched new es walked t
+pub alike_watched : (old new : List ThreadedWatch) → AreAlike old new → (es : List Assigned) (walked t : ℕ) → IsWatched old es walked t → IsWatched new es walked t
 alike_watched old new alike es walked t is j low within at =
     alike_held old new alike es t (entry_at es j).level (is j low within (at ∙ ap (λ (l : SatLit). (opposite l).0) (alike.same t)))
 
 -- the watch that is looked at watches the false literal, and its partner another
-pub partner_differs : (clauses : List (List SatLit)) (ws : List Watch) (hs : List Head) (t : Trailing) (f : SatLit) (s : ℕ) (out : List ℕ) → IsWalking clauses ws hs t f (s ∷ out) → f.0 ≢ (literal_at ws (partner s)).0
+pub partner_differs : (clauses : List (List SatLit)) (ws : List ThreadedWatch) (hs : List Head) (t : Trailing) (f : SatLit) (s : ℕ) (out : List ℕ) → IsWalking clauses ws hs t f (s ∷ out) → f.0 ≢ (literal_at ws (partner s)).0
 partner_differs clauses ws hs t f s out is e =
     (is.threaded.out_nowhere s (inl refl)).attached (ap (λ (l : SatLit). l.0) (is.left_watch s (inl refl)) ∙ e)
 
 -- a watch that stays, on a trail that may have grown
-stayed : (clauses : List (List SatLit)) (ws : List Watch) (hs : List Head) (old new : Trailing) (more : List Assigned) (f : SatLit) (s : ℕ) (out : List ℕ) → IsWalking clauses ws hs old f (s ∷ out) → new ≡ record old { entries = old.entries ++ more } → IsTrail new → IsSound clauses new → IsPresent new → f.0 < length hs → IsHeld new.entries (literal_at ws (partner s)) new.level → IsWalking clauses (slice_set ws s (record { literal = f; next = (head_at hs f.0).first })) (slice_set hs f.0 (record { first = s; count = (head_at hs f.0).count + 1 })) new f out
+stayed : (clauses : List (List SatLit)) (ws : List ThreadedWatch) (hs : List Head) (old new : Trailing) (more : List Assigned) (f : SatLit) (s : ℕ) (out : List ℕ) → IsWalking clauses ws hs old f (s ∷ out) → new ≡ record old { entries = old.entries ++ more } → IsTrail new → IsSound clauses new → IsPresent new → f.0 < length hs → IsHeld new.entries (literal_at ws (partner s)) new.level → IsWalking clauses (slice_set ws s (record { literal = f; next = (head_at hs f.0).first })) (slice_set hs f.0 (record { first = s; count = (head_at hs f.0).count + 1 })) new f out
 stayed clauses ws hs old new more f s out is new_is trail sound present low held = record {
   heads_are = length-set hs f.0 h ∙ (is.heads_are ∙ ap (λ n. 2 * n) (sym variables));
   known = subst (λ n. All (AreKnown n) clauses) (sym variables) is.known;
@@ -118,7 +118,7 @@ stayed clauses ws hs old new more f s out is new_is trail sound present low held
     h : Head
     h = record { first = s; count = (head_at hs f.0).count + 1 }
 
-    put : List Watch
+    put : List ThreadedWatch
     put = slice_set ws s (record { literal = f; next = (head_at hs f.0).first })
 
     variables : new.variables ≡ old.variables
@@ -149,7 +149,7 @@ stayed clauses ws hs old new more f s out is new_is trail sound present low held
     }
 
 -- a watch that moves to a literal that isn't false
-moved : (clauses : List (List SatLit)) (ws : List Watch) (hs : List Head) (t : Trailing) (f l : SatLit) (s : ℕ) (out : List ℕ) → IsWalking clauses ws hs t f (s ∷ out) → l.0 < length hs → IsBeside (literals t.entries) (clause_at clauses (s / 2)) (literal_at ws (partner s)) l → IsWalking clauses (slice_set ws s (record { literal = l; next = (head_at hs l.0).first })) (slice_set hs l.0 (record { first = s; count = (head_at hs l.0).count + 1 })) t f out
+moved : (clauses : List (List SatLit)) (ws : List ThreadedWatch) (hs : List Head) (t : Trailing) (f l : SatLit) (s : ℕ) (out : List ℕ) → IsWalking clauses ws hs t f (s ∷ out) → l.0 < length hs → IsBeside (literals t.entries) (clause_at clauses (s / 2)) (literal_at ws (partner s)) l → IsWalking clauses (slice_set ws s (record { literal = l; next = (head_at hs l.0).first })) (slice_set hs l.0 (record { first = s; count = (head_at hs l.0).count + 1 })) t f out
 moved clauses ws hs t f l s out is low beside = record {
   heads_are = length-set hs l.0 h ∙ is.heads_are;
   known = is.known;
@@ -192,7 +192,7 @@ moved clauses ws hs t f l s out is low beside = record {
   ];
 }
   where
-    w : Watch
+    w : ThreadedWatch
     w = record { literal = l; next = (head_at hs l.0).first }
 
     h : Head
@@ -220,12 +220,12 @@ moved clauses ws hs t f l s out is low beside = record {
     f_false = true_at t.entries t.walked (opposite f) is.there is.falsity
 
 -- the literal of the list is known
-pub f_known : (clauses : List (List SatLit)) (ws : List Watch) (hs : List Head) (t : Trailing) (f : SatLit) (s : ℕ) (out : List ℕ) → IsWalking clauses ws hs t f (s ∷ out) → f.0 < length hs
+pub f_known : (clauses : List (List SatLit)) (ws : List ThreadedWatch) (hs : List Head) (t : Trailing) (f : SatLit) (s : ℕ) (out : List ℕ) → IsWalking clauses ws hs t f (s ∷ out) → f.0 < length hs
 f_known clauses ws hs t f s out is =
     omega (arith, is.threaded.known s (is.threaded.out_nowhere s (inl refl)).within, ap (λ (x : SatLit). x.0) (is.left_watch s (inl refl)))
 
 -- what a look at a clause comes to
-pub looked : (clauses : List (List SatLit)) (ws : List Watch) (hs : List Head) (old new : Trailing) (f l : SatLit) (s : ℕ) (out : List ℕ) → IsWalking clauses ws hs old f (s ∷ out) → IsTrail new → IsTarget old new (clause_at clauses (s / 2)) (s / 2) (literal_at ws (partner s)) f l → IsWalking clauses (slice_set ws s (record { literal = l; next = (head_at hs l.0).first })) (slice_set hs l.0 (record { first = s; count = (head_at hs l.0).count + 1 })) new f out
+pub looked : (clauses : List (List SatLit)) (ws : List ThreadedWatch) (hs : List Head) (old new : Trailing) (f l : SatLit) (s : ℕ) (out : List ℕ) → IsWalking clauses ws hs old f (s ∷ out) → IsTrail new → IsTarget old new (clause_at clauses (s / 2)) (s / 2) (literal_at ws (partner s)) f l → IsWalking clauses (slice_set ws s (record { literal = l; next = (head_at hs l.0).first })) (slice_set hs l.0 (record { first = s; count = (head_at hs l.0).count + 1 })) new f out
 looked clauses ws hs old new f l s out is trail (inl held) =
     let low = f_known clauses ws hs old f s out is in
     let other = literal_at ws (partner s) in
@@ -256,20 +256,20 @@ looked clauses ws hs old new f l s out is trail (inr (inr goes)) =
     subst (λ t. IsWalking clauses (slice_set ws s (record { literal = l; next = (head_at hs l.0).first })) (slice_set hs l.0 (record { first = s; count = (head_at hs l.0).count + 1 })) t f out) (sym goes.same) (moved clauses ws hs old f l s out is low goes.beside)
 
 -- the literal to watch is known, and isn't the other one
-pub target_known : (clauses : List (List SatLit)) (ws : List Watch) (hs : List Head) (old new : Trailing) (f l : SatLit) (s : ℕ) (out : List ℕ) → IsWalking clauses ws hs old f (s ∷ out) → IsTarget old new (clause_at clauses (s / 2)) (s / 2) (literal_at ws (partner s)) f l → l.0 < length hs
+pub target_known : (clauses : List (List SatLit)) (ws : List ThreadedWatch) (hs : List Head) (old new : Trailing) (f l : SatLit) (s : ℕ) (out : List ℕ) → IsWalking clauses ws hs old f (s ∷ out) → IsTarget old new (clause_at clauses (s / 2)) (s / 2) (literal_at ws (partner s)) f l → l.0 < length hs
 target_known clauses ws hs old new f l s out is (inl held) = omega (arith, f_known clauses ws hs old f s out is, ap (λ (x : SatLit). x.0) held.stays)
 target_known clauses ws hs old new f l s out is (inr (inl made)) = omega (arith, f_known clauses ws hs old f s out is, ap (λ (x : SatLit). x.0) made.stays)
 target_known clauses ws hs old new f l s out is (inr (inr goes)) =
     let there : s / 2 < length clauses = omega (arith, (is.threaded.out_nowhere s (inl refl)).within, is.of_clauses.size) in
     omega (arith, known_at old.variables (clause_at clauses (s / 2)) l (is.known (s / 2) [] there) goes.beside.there, is.heads_are)
 
-pub target_differs : (clauses : List (List SatLit)) (ws : List Watch) (hs : List Head) (old new : Trailing) (f l : SatLit) (s : ℕ) (out : List ℕ) → IsWalking clauses ws hs old f (s ∷ out) → IsTarget old new (clause_at clauses (s / 2)) (s / 2) (literal_at ws (partner s)) f l → l.0 ≢ (literal_at ws (partner s)).0
+pub target_differs : (clauses : List (List SatLit)) (ws : List ThreadedWatch) (hs : List Head) (old new : Trailing) (f l : SatLit) (s : ℕ) (out : List ℕ) → IsWalking clauses ws hs old f (s ∷ out) → IsTarget old new (clause_at clauses (s / 2)) (s / 2) (literal_at ws (partner s)) f l → l.0 ≢ (literal_at ws (partner s)).0
 target_differs clauses ws hs old new f l s out is (inl held) e = partner_differs clauses ws hs old f s out is (ap (λ (x : SatLit). x.0) (sym held.stays) ∙ e)
 target_differs clauses ws hs old new f l s out is (inr (inl made)) e = partner_differs clauses ws hs old f s out is (ap (λ (x : SatLit). x.0) (sym made.stays) ∙ e)
 target_differs clauses ws hs old new f l s out is (inr (inr goes)) e = goes.beside.differs e
 
 -- the other watch's literal is in the clause
-pub other_there : (clauses : List (List SatLit)) (ws : List Watch) (hs : List Head) (t : Trailing) (f : SatLit) (s : ℕ) (out : List ℕ) → IsWalking clauses ws hs t f (s ∷ out) → is_true (clause_at clauses (s / 2)) (literal_at ws (partner s)) ≡ true
+pub other_there : (clauses : List (List SatLit)) (ws : List ThreadedWatch) (hs : List Head) (t : Trailing) (f : SatLit) (s : ℕ) (out : List ℕ) → IsWalking clauses ws hs t f (s ∷ out) → is_true (clause_at clauses (s / 2)) (literal_at ws (partner s)) ≡ true
 other_there clauses ws hs t f s out is =
     let front = is.threaded.out_nowhere s (inl refl) in
     let back : IsAttached ws (partner s) = λ e. front.attached (ap (λ k. (literal_at ws k).0) (sym (partner_twice s)) ∙ sym e) in
@@ -277,7 +277,7 @@ other_there clauses ws hs t f s out is =
     ap (λ k. is_true (clause_at clauses k) (literal_at ws (partner s))) (sym half) ∙ is.of_clauses.of (partner s) (partner_within ws s is.threaded.even front.within) back
 
 -- the clause that is looked at has the other watch's literal, and the false one
-pub half_false : (clauses : List (List SatLit)) (ws : List Watch) (hs : List Head) (t : Trailing) (f : SatLit) (s : ℕ) (out : List ℕ) → IsWalking clauses ws hs t f (s ∷ out) → IsHalfFalse (literals t.entries) (clause_at clauses (s / 2)) (literal_at ws (partner s))
+pub half_false : (clauses : List (List SatLit)) (ws : List ThreadedWatch) (hs : List Head) (t : Trailing) (f : SatLit) (s : ℕ) (out : List ℕ) → IsWalking clauses ws hs t f (s ∷ out) → IsHalfFalse (literals t.entries) (clause_at clauses (s / 2)) (literal_at ws (partner s))
 half_false clauses ws hs t f s out is =
     let front = is.threaded.out_nowhere s (inl refl) in
     record {

@@ -8,7 +8,7 @@ use Rattle.cnf_core.specs.Clauses.{clause_at, opposite}
 use Rattle.cnf_core.specs.Derivations.{effect_of, is_false, is_true}
 use Rattle.trail_core.specs.Trails.{IsTrail, Trailing, entry_at, literals}
 use Rattle.trail_core.proofs.TrailLemmas.{place_of_true}
-use Rattle.watch_lists.specs.declared.threads.Watch.{Watch}
+use Rattle.watch_lists.specs.declared.threads.ThreadedWatch.{ThreadedWatch}
 use Rattle.watch_lists.specs.declared.threads.Head.{Head}
 use Rattle.watch_lists.specs.declared.threads.Rest.{Rest}
 use Rattle.watch_lists.specs.Propagations.{IsGrown, IsSound}
@@ -22,11 +22,11 @@ use Rattle.watch_lists.proofs.BackLemmas.{rest_kept}
 use Rattle.watch_lists.proofs.ThreadLemmas.{attached_after, attached_itself, links_more, partner_twice, taken, taken_literal}
 
 -- the next watch that is left, and those after it
-pub front_of : (clauses : List (List SatLit)) (ws : List Watch) (hs : List Head) (t : Trailing) (f : SatLit) (rest : Rest) → IsWalking clauses ws hs t f (links ws rest.left rest.at) → 0 < rest.left → IsWalking clauses ws hs t f (rest.at ∷ links ws (rest.left - 1) (watch_at ws rest.at).next)
+pub front_of : (clauses : List (List SatLit)) (ws : List ThreadedWatch) (hs : List Head) (t : Trailing) (f : SatLit) (rest : Rest) → IsWalking clauses ws hs t f (links ws rest.left rest.at) → 0 < rest.left → IsWalking clauses ws hs t f (rest.at ∷ links ws (rest.left - 1) (watch_at ws rest.at).next)
 front_of clauses ws hs t f rest is some = subst (IsWalking clauses ws hs t f) (links_more ws rest.left rest.at some) is
 
 -- a list is walked: some of its watches are left
-pub record IsOnTheWay (clauses : List (List SatLit)) (old now : List Watch) (heads : List Head) (before trail : Trailing) (literal : SatLit) (rest : Rest) : Type 0 where
+pub record IsOnTheWay (clauses : List (List SatLit)) (old now : List ThreadedWatch) (heads : List Head) (before trail : Trailing) (literal : SatLit) (rest : Rest) : Type 0 where
   pub walking : IsWalking clauses now heads trail literal (links now rest.left rest.at)
   pub grown : IsGrown before trail
   pub walked : trail.walked ≡ before.walked
@@ -34,7 +34,7 @@ pub record IsOnTheWay (clauses : List (List SatLit)) (old now : List Watch) (hea
   pub size : length old ≡ 2 * length clauses
 
 -- literals are walked
-pub record IsUnderWay (clauses : List (List SatLit)) (old now : List Watch) (heads : List Head) (before trail : Trailing) : Type 0 where
+pub record IsUnderWay (clauses : List (List SatLit)) (old now : List ThreadedWatch) (heads : List Head) (before trail : Trailing) : Type 0 where
   pub ready : IsReady clauses now heads trail
   pub grown : IsGrown before trail
   pub attached : StayAttached old now
@@ -43,15 +43,15 @@ pub record IsUnderWay (clauses : List (List SatLit)) (old now : List Watch) (hea
 pub grown_none : (t : Trailing) → IsGrown t t
 grown_none t = record { variables = refl; level = refl; longer = omega arith; kept = take_all (length t.entries) t.entries (omega arith) }
 
-pub under_way_start : (clauses : List (List SatLit)) (ws : List Watch) (hs : List Head) (t : Trailing) → IsReady clauses ws hs t → IsUnderWay clauses ws ws hs t t
+pub under_way_start : (clauses : List (List SatLit)) (ws : List ThreadedWatch) (hs : List Head) (t : Trailing) → IsReady clauses ws hs t → IsUnderWay clauses ws ws hs t t
 under_way_start clauses ws hs t ready = record { ready = ready; grown = grown_none t; attached = λ s within attached. attached; size = ready.kept.of_clauses.size }
 
-pub stay_twice : (clauses : List (List SatLit)) (one two three : List Watch) → length one ≡ 2 * length clauses → length two ≡ 2 * length clauses → StayAttached one two → StayAttached two three → StayAttached one three
+pub stay_twice : (clauses : List (List SatLit)) (one two three : List ThreadedWatch) → length one ≡ 2 * length clauses → length two ≡ 2 * length clauses → StayAttached one two → StayAttached two three → StayAttached one three
 stay_twice clauses one two three first second before after s within attached =
     after s (omega (arith, within, first, second)) (before s within attached)
 
 -- a list is taken away
-pub way_start : (clauses : List (List SatLit)) (ws : List Watch) (hs heads : List Head) (t : Trailing) (literal : SatLit) (rest : Rest) → IsReady clauses ws hs t → t.walked < length t.entries → (entry_at t.entries t.walked).literal.0 ≡ (opposite literal).0 → literal.0 < length hs → rest ≡ record { at = (head_at hs literal.0).first; left = (head_at hs literal.0).count } → heads ≡ slice_set hs literal.0 (record (head_at hs literal.0) { count = 0 }) → IsOnTheWay clauses ws ws heads t t literal rest
+pub way_start : (clauses : List (List SatLit)) (ws : List ThreadedWatch) (hs heads : List Head) (t : Trailing) (literal : SatLit) (rest : Rest) → IsReady clauses ws hs t → t.walked < length t.entries → (entry_at t.entries t.walked).literal.0 ≡ (opposite literal).0 → literal.0 < length hs → rest ≡ record { at = (head_at hs literal.0).first; left = (head_at hs literal.0).count } → heads ≡ slice_set hs literal.0 (record (head_at hs literal.0) { count = 0 }) → IsOnTheWay clauses ws ws heads t t literal rest
 way_start clauses ws hs heads t literal rest ready there falsity low rest_is heads_is =
     subst (λ r. IsOnTheWay clauses ws ws heads t t literal r) (sym rest_is) (subst (λ h. IsOnTheWay clauses ws ws h t t literal whole) (sym heads_is) (record {
       walking = record {
@@ -83,7 +83,7 @@ way_start clauses ws hs heads t literal rest ready there falsity low rest_is hea
     whole : Rest
     whole = record { at = (head_at hs literal.0).first; left = (head_at hs literal.0).count }
 
-pub way_step : (clauses : List (List SatLit)) (old mid now : List Watch) (hs heads : List Head) (before between trail : Trailing) (literal : SatLit) (rest after : Rest) → IsOnTheWay clauses old mid hs before between literal rest → IsWalking clauses now heads trail literal (links now after.left after.at) → IsGrown between trail → trail.walked ≡ between.walked → StayAttached mid now → IsOnTheWay clauses old now heads before trail literal after
+pub way_step : (clauses : List (List SatLit)) (old mid now : List ThreadedWatch) (hs heads : List Head) (before between trail : Trailing) (literal : SatLit) (rest after : Rest) → IsOnTheWay clauses old mid hs before between literal rest → IsWalking clauses now heads trail literal (links now after.left after.at) → IsGrown between trail → trail.walked ≡ between.walked → StayAttached mid now → IsOnTheWay clauses old now heads before trail literal after
 way_step clauses old mid now hs heads before between trail literal rest after is walking grown walked attached = record {
   walking = walking;
   grown = grown_twice before between trail is.grown grown;
@@ -93,7 +93,7 @@ way_step clauses old mid now hs heads before between trail literal rest after is
 }
 
 -- all watches of the list were looked at
-pub way_end : (clauses : List (List SatLit)) (old now : List Watch) (heads : List Head) (before t : Trailing) (literal : SatLit) (rest : Rest) → IsOnTheWay clauses old now heads before t literal rest → rest.left ≡ 0 → IsReady clauses now heads (record t { walked = t.walked + 1 })
+pub way_end : (clauses : List (List SatLit)) (old now : List ThreadedWatch) (heads : List Head) (before t : Trailing) (literal : SatLit) (rest : Rest) → IsOnTheWay clauses old now heads before t literal rest → rest.left ≡ 0 → IsReady clauses now heads (record t { walked = t.walked + 1 })
 way_end clauses old now heads before t literal rest is none = record {
   kept = record { heads_are = w.heads_are; known = w.known; of_clauses = w.of_clauses; threaded = subst (AreThreaded now heads) emptied w.threaded };
   is_trail = record { known = w.is_trail.known; distinct = w.is_trail.distinct; levels = w.is_trail.levels; level = w.is_trail.level; walked = omega (arith, w.there) };
@@ -120,7 +120,7 @@ way_end clauses old now heads before t literal rest is none = record {
     same_number a b e = omega (arith, e)
 
 -- or a conflict was met: nothing had changed, and what is left was put back
-pub walk_stopped : (clauses : List (List SatLit)) (old now new : List Watch) (hs heads : List Head) (before t after : Trailing) (literal : SatLit) (rest : Rest) → IsOnTheWay clauses old now hs before t literal rest → after ≡ t → AreThreaded new heads [] → AreAlike now new → length heads ≡ length hs → IsReady clauses new heads after
+pub walk_stopped : (clauses : List (List SatLit)) (old now new : List ThreadedWatch) (hs heads : List Head) (before t after : Trailing) (literal : SatLit) (rest : Rest) → IsOnTheWay clauses old now hs before t literal rest → after ≡ t → AreThreaded new heads [] → AreAlike now new → length heads ≡ length hs → IsReady clauses new heads after
 walk_stopped clauses old now new hs heads before t after literal rest is same threaded alike size = subst (IsReady clauses new heads) (sym same) (record {
   kept = record { heads_are = size ∙ is.walking.heads_are; known = is.walking.known; of_clauses = alike_of clauses now new alike is.walking.of_clauses; threaded = threaded };
   is_trail = is.walking.is_trail;
@@ -129,12 +129,12 @@ walk_stopped clauses old now new hs heads before t after literal rest is same th
   watched = λ s within attached. alike_watched now new alike t.entries t.walked s (is.walking.watched s (omega (arith, within, alike.size)) (alike_attached now new alike s attached));
 })
 
-pub back_attached : (clauses : List (List SatLit)) (old now new : List Watch) (hs : List Head) (before t : Trailing) (literal : SatLit) (rest : Rest) → IsOnTheWay clauses old now hs before t literal rest → AreAlike now new → StayAttached old new
+pub back_attached : (clauses : List (List SatLit)) (old now new : List ThreadedWatch) (hs : List Head) (before t : Trailing) (literal : SatLit) (rest : Rest) → IsOnTheWay clauses old now hs before t literal rest → AreAlike now new → StayAttached old new
 back_attached clauses old now new hs before t literal rest is alike s within attached =
     alike_attached new now (alike_back now new alike) s (is.attached s within attached)
 
 -- one literal more was walked
-pub under_way_step : (clauses : List (List SatLit)) (old mid now : List Watch) (hs heads : List Head) (before between walked trail : Trailing) → IsUnderWay clauses old mid hs before between → IsReady clauses now heads trail → IsGrown between walked → trail ≡ record walked { walked = walked.walked + 1 } → StayAttached mid now → IsUnderWay clauses old now heads before trail
+pub under_way_step : (clauses : List (List SatLit)) (old mid now : List ThreadedWatch) (hs heads : List Head) (before between walked trail : Trailing) → IsUnderWay clauses old mid hs before between → IsReady clauses now heads trail → IsGrown between walked → trail ≡ record walked { walked = walked.walked + 1 } → StayAttached mid now → IsUnderWay clauses old now heads before trail
 under_way_step clauses old mid now hs heads before between walked trail is ready grown step attached =
     let further : IsGrown between trail = subst (IsGrown between) (sym step) (record { variables = grown.variables; level = grown.level; longer = grown.longer; kept = grown.kept }) in
     record {
@@ -145,7 +145,7 @@ under_way_step clauses old mid now hs heads before between walked trail is ready
     }
 
 -- where all is walked, no attached clause is a conflict or leaves a single literal
-pub quiet_end : (clauses : List (List SatLit)) (ws : List Watch) (hs : List Head) (t : Trailing) → IsReady clauses ws hs t → t.walked ≡ length t.entries → AreQuiet (record { variables = t.variables; clauses = clauses; watches = ws }) (literals t.entries)
+pub quiet_end : (clauses : List (List SatLit)) (ws : List ThreadedWatch) (hs : List Head) (t : Trailing) → IsReady clauses ws hs t → t.walked ≡ length t.entries → AreQuiet (record { variables = t.variables; clauses = clauses; watches = ws }) (literals t.entries)
 quiet_end clauses ws hs t ready all = record {
   quiet = λ id within attached.
       let s = 2 * id in
@@ -177,18 +177,18 @@ quiet_end clauses ws hs t ready all = record {
     holds id l there is_held = neither_true (literals t.entries) (clause_at clauses id) l is_held (true_not_false t ready.is_trail l is_held) there
 
 -- one watch was looked at
-pub visited : (clauses : List (List SatLit)) (ws put : List Watch) (hs heads : List Head) (old new : Trailing) (f l : SatLit) (rest after : Rest) → IsWalking clauses ws hs old f (links ws rest.left rest.at) → 0 < rest.left → IsTrail new → IsTarget old new (clause_at clauses (rest.at / 2)) (rest.at / 2) (literal_at ws (partner rest.at)) f l → after ≡ record { at = (watch_at ws rest.at).next; left = rest.left - 1 } → put ≡ slice_set ws rest.at (record { literal = l; next = (head_at hs l.0).first }) → heads ≡ slice_set hs l.0 (record { first = rest.at; count = (head_at hs l.0).count + 1 }) → IsWalking clauses put heads new f (links put after.left after.at)
+pub visited : (clauses : List (List SatLit)) (ws put : List ThreadedWatch) (hs heads : List Head) (old new : Trailing) (f l : SatLit) (rest after : Rest) → IsWalking clauses ws hs old f (links ws rest.left rest.at) → 0 < rest.left → IsTrail new → IsTarget old new (clause_at clauses (rest.at / 2)) (rest.at / 2) (literal_at ws (partner rest.at)) f l → after ≡ record { at = (watch_at ws rest.at).next; left = rest.left - 1 } → put ≡ slice_set ws rest.at (record { literal = l; next = (head_at hs l.0).first }) → heads ≡ slice_set hs l.0 (record { first = rest.at; count = (head_at hs l.0).count + 1 }) → IsWalking clauses put heads new f (links put after.left after.at)
 visited clauses ws put hs heads old new f l rest after is some trail target after_is put_is heads_is =
-    let w : Watch = record { literal = l; next = (head_at hs l.0).first } in
+    let w : ThreadedWatch = record { literal = l; next = (head_at hs l.0).first } in
     let out = links ws (rest.left - 1) (watch_at ws rest.at).next in
     let first = front_of clauses ws hs old f rest is some in
     let walked = looked clauses ws hs old new f l rest.at out first trail target in
     let kept = rest_kept ws hs rest w some is.threaded in
     subst (λ r. IsWalking clauses put heads new f (links put r.left r.at)) (sym after_is) (subst (λ x. IsWalking clauses x heads new f (links x (rest.left - 1) (watch_at ws rest.at).next)) (sym put_is) (subst (λ h. IsWalking clauses (slice_set ws rest.at w) h new f (links (slice_set ws rest.at w) (rest.left - 1) (watch_at ws rest.at).next)) (sym heads_is) (subst (IsWalking clauses (slice_set ws rest.at w) (slice_set hs l.0 (record { first = rest.at; count = (head_at hs l.0).count + 1 })) new f) (sym kept) walked)))
 
-pub visited_attached : (clauses : List (List SatLit)) (ws put : List Watch) (hs : List Head) (old new : Trailing) (f l : SatLit) (rest : Rest) → IsWalking clauses ws hs old f (links ws rest.left rest.at) → 0 < rest.left → IsTarget old new (clause_at clauses (rest.at / 2)) (rest.at / 2) (literal_at ws (partner rest.at)) f l → put ≡ slice_set ws rest.at (record { literal = l; next = (head_at hs l.0).first }) → StayAttached ws put
+pub visited_attached : (clauses : List (List SatLit)) (ws put : List ThreadedWatch) (hs : List Head) (old new : Trailing) (f l : SatLit) (rest : Rest) → IsWalking clauses ws hs old f (links ws rest.left rest.at) → 0 < rest.left → IsTarget old new (clause_at clauses (rest.at / 2)) (rest.at / 2) (literal_at ws (partner rest.at)) f l → put ≡ slice_set ws rest.at (record { literal = l; next = (head_at hs l.0).first }) → StayAttached ws put
 visited_attached clauses ws put hs old new f l rest is some target put_is =
-    let w : Watch = record { literal = l; next = (head_at hs l.0).first } in
+    let w : ThreadedWatch = record { literal = l; next = (head_at hs l.0).first } in
     let out = links ws (rest.left - 1) (watch_at ws rest.at).next in
     let first = front_of clauses ws hs old f rest is some in
     let inside = (first.threaded.out_nowhere rest.at (inl refl)).within in

@@ -7,7 +7,7 @@ use Rattle.std.proofs.lemmas.List.{get_or-set_same, get_or-set_other, length-set
 use Rattle.std.proofs.lemmas.Map.Keys.{IsDistinct-from_apart}
 use Rattle.std.proofs.lemmas.Map.Steps.{length-le_from_distinct_below}
 use Rattle.cnf_core.specs.declared.literal.SatLit.{SatLit}
-use Rattle.watch_lists.specs.declared.threads.Watch.{Watch}
+use Rattle.watch_lists.specs.declared.threads.ThreadedWatch.{ThreadedWatch}
 use Rattle.watch_lists.specs.declared.threads.Head.{Head}
 use Rattle.watch_lists.specs.Threads.{ArePut, AreThreaded, IsAttached, IsIn, IsOnce, head_at, links, list_of, literal_at, no_head, no_watch, partner, watch_at}
 
@@ -17,7 +17,7 @@ partner_twice s = omega arith
 pub partner_other : (s : ℕ) → partner s ≢ s
 partner_other s e = omega (arith, e)
 
-pub partner_within : (watches : List Watch) (s : ℕ) → length watches % 2 ≡ 0 → s < length watches → partner s < length watches
+pub partner_within : (watches : List ThreadedWatch) (s : ℕ) → length watches % 2 ≡ 0 → s < length watches → partner s < length watches
 partner_within watches s even within = omega (arith, even, within)
 
 -- a watch that isn't among these isn't the first, and isn't among the others
@@ -25,52 +25,52 @@ later : (s t : ℕ) (ts : List ℕ) → (IsIn s (t ∷ ts) → ⊥) → IsIn s t
 later s t ts out here = out (inr here)
 
 -- what is written outside of a list leaves it
-pub links_kept : (watches : List Watch) (s : ℕ) (w : Watch) (count at : ℕ) → (IsIn s (links watches count at) → ⊥) → links (slice_set watches s w) count at ≡ links watches count at
+pub links_kept : (watches : List ThreadedWatch) (s : ℕ) (w : ThreadedWatch) (count at : ℕ) → (IsIn s (links watches count at) → ⊥) → links (slice_set watches s w) count at ≡ links watches count at
 links_kept watches s w zero at out = refl
 links_kept watches s w (suc count) at out =
     let other : at ≢ s = λ e. out (inl (sym e)) in
     let next = (watch_at watches at).next in
-    let same : (watch_at (slice_set watches s w) at).next ≡ next = ap (λ (x : Watch). x.next) (get_or-set_other watches s at w no_watch other) in
+    let same : (watch_at (slice_set watches s w) at).next ≡ next = ap (λ (x : ThreadedWatch). x.next) (get_or-set_other watches s at w no_watch other) in
     ap (λ n. at ∷ links (slice_set watches s w) count n) same ∙ ap (λ xs. at ∷ xs) (links_kept watches s w count next (later s at (links watches count next) out))
 
-pub links_more : (watches : List Watch) (count at : ℕ) → 0 < count → links watches count at ≡ at ∷ links watches (count - 1) (watch_at watches at).next
+pub links_more : (watches : List ThreadedWatch) (count at : ℕ) → 0 < count → links watches count at ≡ at ∷ links watches (count - 1) (watch_at watches at).next
 links_more watches count at some = ap (λ n. links watches n at) (let e : count ≡ suc (count - 1) = omega (arith, some) in e)
 
 -- ---- what is written to one watch
 
-watch_same : (watches : List Watch) (s t : ℕ) (w : Watch) → t ≢ s → watch_at (slice_set watches s w) t ≡ watch_at watches t
+watch_same : (watches : List ThreadedWatch) (s t : ℕ) (w : ThreadedWatch) → t ≢ s → watch_at (slice_set watches s w) t ≡ watch_at watches t
 watch_same watches s t w other = get_or-set_other watches s t w no_watch other
 
-watch_new : (watches : List Watch) (s : ℕ) (w : Watch) → s < length watches → watch_at (slice_set watches s w) s ≡ w
+watch_new : (watches : List ThreadedWatch) (s : ℕ) (w : ThreadedWatch) → s < length watches → watch_at (slice_set watches s w) s ≡ w
 watch_new watches s w within = get_or-set_same watches s w no_watch within
 
 -- another watch is attached as before
-pub attached_before : (watches : List Watch) (s t : ℕ) (w : Watch) → s < length watches → t ≢ s → IsAttached watches s → IsAttached (slice_set watches s w) t → IsAttached watches t
+pub attached_before : (watches : List ThreadedWatch) (s t : ℕ) (w : ThreadedWatch) → s < length watches → t ≢ s → IsAttached watches s → IsAttached (slice_set watches s w) t → IsAttached watches t
 attached_before watches s t w within other attached is =
     let own = watch_same watches s t w other in
     elim (cases_eq (partner t) s) [
       | inl mine ↦ λ e. attached (ap (λ k. (literal_at watches k).0) (sym mine) ∙ (sym e ∙ ap (λ k. (literal_at watches k).0) (sym (partner_twice t) ∙ ap partner mine)))
-      | inr apart ↦ λ e. is (ap (λ (x : Watch). x.literal.0) own ∙ (e ∙ sym (ap (λ (x : Watch). x.literal.0) (watch_same watches s (partner t) w apart))))
+      | inr apart ↦ λ e. is (ap (λ (x : ThreadedWatch). x.literal.0) own ∙ (e ∙ sym (ap (λ (x : ThreadedWatch). x.literal.0) (watch_same watches s (partner t) w apart))))
     ]
 
-pub attached_after : (watches : List Watch) (s t : ℕ) (w : Watch) → s < length watches → t ≢ s → w.literal.0 ≢ (literal_at watches (partner s)).0 → IsAttached watches t → IsAttached (slice_set watches s w) t
+pub attached_after : (watches : List ThreadedWatch) (s t : ℕ) (w : ThreadedWatch) → s < length watches → t ≢ s → w.literal.0 ≢ (literal_at watches (partner s)).0 → IsAttached watches t → IsAttached (slice_set watches s w) t
 attached_after watches s t w within other differ attached =
     let own = watch_same watches s t w other in
     elim (cases_eq (partner t) s) [
       | inl mine ↦ λ e.
           let at_s : partner s ≡ t = ap partner (sym mine) ∙ partner_twice t in
-          let new : (literal_at (slice_set watches s w) (partner t)).0 ≡ w.literal.0 = ap (λ k. (literal_at (slice_set watches s w) k).0) mine ∙ ap (λ (x : Watch). x.literal.0) (watch_new watches s w within) in
-          differ (sym new ∙ (sym e ∙ (ap (λ (x : Watch). x.literal.0) own ∙ ap (λ k. (literal_at watches k).0) (sym at_s))))
-      | inr apart ↦ λ e. attached (sym (ap (λ (x : Watch). x.literal.0) own) ∙ (e ∙ ap (λ (x : Watch). x.literal.0) (watch_same watches s (partner t) w apart)))
+          let new : (literal_at (slice_set watches s w) (partner t)).0 ≡ w.literal.0 = ap (λ k. (literal_at (slice_set watches s w) k).0) mine ∙ ap (λ (x : ThreadedWatch). x.literal.0) (watch_new watches s w within) in
+          differ (sym new ∙ (sym e ∙ (ap (λ (x : ThreadedWatch). x.literal.0) own ∙ ap (λ k. (literal_at watches k).0) (sym at_s))))
+      | inr apart ↦ λ e. attached (sym (ap (λ (x : ThreadedWatch). x.literal.0) own) ∙ (e ∙ ap (λ (x : ThreadedWatch). x.literal.0) (watch_same watches s (partner t) w apart)))
     ]
 
-pub attached_itself : (watches : List Watch) (s : ℕ) (w : Watch) → s < length watches → w.literal.0 ≢ (literal_at watches (partner s)).0 → IsAttached (slice_set watches s w) s
+pub attached_itself : (watches : List ThreadedWatch) (s : ℕ) (w : ThreadedWatch) → s < length watches → w.literal.0 ≢ (literal_at watches (partner s)).0 → IsAttached (slice_set watches s w) s
 attached_itself watches s w within differ e =
-    differ (sym (ap (λ (x : Watch). x.literal.0) (watch_new watches s w within)) ∙ (e ∙ ap (λ (x : Watch). x.literal.0) (watch_same watches s (partner s) w (partner_other s))))
+    differ (sym (ap (λ (x : ThreadedWatch). x.literal.0) (watch_new watches s w within)) ∙ (e ∙ ap (λ (x : ThreadedWatch). x.literal.0) (watch_same watches s (partner s) w (partner_other s))))
 
 -- ---- a list is taken away
 
-pub taken : (watches : List Watch) (heads : List Head) (c first : ℕ) → AreThreaded watches heads [] → c < length heads → AreThreaded watches (slice_set heads c (record { first = first; count = 0 })) (list_of watches heads c)
+pub taken : (watches : List ThreadedWatch) (heads : List Head) (c first : ℕ) → AreThreaded watches heads [] → c < length heads → AreThreaded watches (slice_set heads c (record { first = first; count = 0 })) (list_of watches heads c)
 taken watches heads c first is within = record {
   even = is.even;
   few = is.few;
@@ -116,30 +116,30 @@ taken watches heads c first is within = record {
     same d other = ap (λ (h : Head). links watches h.count h.first) (get_or-set_other heads c d (record { first = first; count = 0 }) no_head other)
 
 -- the watches of a list that was taken away watch its literal
-pub taken_literal : (watches : List Watch) (heads : List Head) (literal : SatLit) → AreThreaded watches heads [] → literal.0 < length heads → (s : ℕ) → IsIn s (list_of watches heads literal.0) → literal_at watches s ≡ literal
+pub taken_literal : (watches : List ThreadedWatch) (heads : List Head) (literal : SatLit) → AreThreaded watches heads [] → literal.0 < length heads → (s : ℕ) → IsIn s (list_of watches heads literal.0) → literal_at watches s ≡ literal
 taken_literal watches heads literal is within s here = ap (λ n. record { 0 = n }) (is.own literal.0 s within here).is
 
 -- ---- a watch is put at the front of a list
 
-pub pushed : (watches : List Watch) (heads : List Head) (s : ℕ) (out : List ℕ) (literal : SatLit) → AreThreaded watches heads (s ∷ out) → literal.0 < length heads → literal.0 ≢ (literal_at watches (partner s)).0 → AreThreaded (slice_set watches s (record { literal = literal; next = (head_at heads literal.0).first })) (slice_set heads literal.0 (record { first = s; count = (head_at heads literal.0).count + 1 })) out
+pub pushed : (watches : List ThreadedWatch) (heads : List Head) (s : ℕ) (out : List ℕ) (literal : SatLit) → AreThreaded watches heads (s ∷ out) → literal.0 < length heads → literal.0 ≢ (literal_at watches (partner s)).0 → AreThreaded (slice_set watches s (record { literal = literal; next = (head_at heads literal.0).first })) (slice_set heads literal.0 (record { first = s; count = (head_at heads literal.0).count + 1 })) out
 pushed watches heads s out literal is there differ = record {
   even = ap (λ n. n % 2) watches_size ∙ is.even;
   few = omega (arith, is.few, watches_size);
   known = λ t inside. elim (cases_eq t s) [
-    | inl mine ↦ omega (arith, ap (λ k. (literal_at new k).0) mine, ap (λ (x : Watch). x.literal.0) (watch_new watches s w within), there, heads_size)
-    | inr other ↦ omega (arith, ap (λ (x : Watch). x.literal.0) (watch_same watches s t w other), is.known t (omega (arith, inside, watches_size)), heads_size)
+    | inl mine ↦ omega (arith, ap (λ k. (literal_at new k).0) mine, ap (λ (x : ThreadedWatch). x.literal.0) (watch_new watches s w within), there, heads_size)
+    | inr other ↦ omega (arith, ap (λ (x : ThreadedWatch). x.literal.0) (watch_same watches s t w other), is.known t (omega (arith, inside, watches_size)), heads_size)
   ];
   own = λ d t low here. elim (in_new d t (omega (arith, low, heads_size)) here) [
     | inl (mine, is_d) ↦ record {
       within = omega (arith, mine, within, watches_size);
-      is = ap (λ k. (literal_at new k).0) mine ∙ (ap (λ (x : Watch). x.literal.0) (watch_new watches s w within) ∙ sym is_d);
+      is = ap (λ k. (literal_at new k).0) mine ∙ (ap (λ (x : ThreadedWatch). x.literal.0) (watch_new watches s w within) ∙ sym is_d);
       attached = subst (IsAttached new) (sym mine) (attached_itself watches s w within differ);
     }
     | inr (other, old) ↦
         let own = is.own d t (omega (arith, low, heads_size)) old in
         record {
           within = omega (arith, own.within, watches_size);
-          is = ap (λ (x : Watch). x.literal.0) (watch_same watches s t w other) ∙ own.is;
+          is = ap (λ (x : ThreadedWatch). x.literal.0) (watch_same watches s t w other) ∙ own.is;
           attached = attached_after watches s t w within other differ own.attached;
         }
   ];
@@ -161,10 +161,10 @@ pushed watches heads s out literal is there differ = record {
       };
   all = λ t inside attached. elim (cases_eq t s) [
     | inl mine ↦
-        let at : (literal_at new t).0 ≡ literal.0 = ap (λ k. (literal_at new k).0) mine ∙ ap (λ (x : Watch). x.literal.0) (watch_new watches s w within) in
+        let at : (literal_at new t).0 ≡ literal.0 = ap (λ k. (literal_at new k).0) mine ∙ ap (λ (x : ThreadedWatch). x.literal.0) (watch_new watches s w within) in
         inr (subst (IsIn t) (sym (front (literal_at new t).0 at)) (inl mine))
     | inr other ↦
-        let at : (literal_at new t).0 ≡ (literal_at watches t).0 = ap (λ (x : Watch). x.literal.0) (watch_same watches s t w other) in
+        let at : (literal_at new t).0 ≡ (literal_at watches t).0 = ap (λ (x : ThreadedWatch). x.literal.0) (watch_same watches s t w other) in
         let low : t < length watches = omega (arith, inside, watches_size) in
         elim (is.all t low (attached_before watches s t w within other (is.out_nowhere s (inl refl)).attached attached)) [
           | inl (inl mine) ↦ absurd (other mine)
@@ -174,13 +174,13 @@ pushed watches heads s out literal is there differ = record {
   ];
 }
   where
-    w : Watch
+    w : ThreadedWatch
     w = record { literal = literal; next = (head_at heads literal.0).first }
 
     h : Head
     h = record { first = s; count = (head_at heads literal.0).count + 1 }
 
-    new : List Watch
+    new : List ThreadedWatch
     new = slice_set watches s w
 
     cut : List Head
@@ -206,7 +206,7 @@ pushed watches heads s out literal is there differ = record {
     front : (d : ℕ) → d ≡ literal.0 → list_of new cut d ≡ s ∷ list_of watches heads literal.0
     front d mine =
         let old = head_at heads literal.0 in
-        let next : (watch_at new s).next ≡ old.first = ap (λ (x : Watch). x.next) (watch_new watches s w within) in
+        let next : (watch_at new s).next ≡ old.first = ap (λ (x : ThreadedWatch). x.next) (watch_new watches s w within) in
         ap (λ k. list_of new cut k) mine
         ∙ (ap (λ (x : Head). links new x.count x.first) (get_or-set_same heads literal.0 h no_head there)
         ∙ (ap (λ n. links new n s) (let e : old.count + 1 ≡ suc old.count = omega arith in e)
@@ -250,12 +250,12 @@ apart (x ∷ xs) once zero (suc j) d order within = ne_eqb _ _ (λ same. once.0 
 apart (x ∷ xs) once (suc i) zero d order within = absurd (omega (arith, order))
 apart (x ∷ xs) once (suc i) (suc j) d order within = apart xs once.1 i j d (omega (arith, order)) (omega (arith, within))
 
-links_length : (watches : List Watch) (count at : ℕ) → length (links watches count at) ≡ count
+links_length : (watches : List ThreadedWatch) (count at : ℕ) → length (links watches count at) ≡ count
 links_length watches zero at = refl
 links_length watches (suc count) at = ap suc (links_length watches count (watch_at watches at).next)
 
 -- a list has no more watches than there are
-pub count_few : (watches : List Watch) (heads : List Head) (c : ℕ) (out : List ℕ) → AreThreaded watches heads out → c < length heads → (head_at heads c).count ≤ length watches
+pub count_few : (watches : List ThreadedWatch) (heads : List Head) (c : ℕ) (out : List ℕ) → AreThreaded watches heads out → c < length heads → (head_at heads c).count ≤ length watches
 count_few watches heads c out is low =
     let xs = list_of watches heads c in
     let few = length-le_from_distinct_below xs (length watches) (IsDistinct-from_apart eqb xs (apart xs (is.once c low))) (λ q e. (is.own c q low (is_in_found xs q e)).within) in
@@ -264,34 +264,34 @@ count_few watches heads c out is low =
 -- ---- the watches of a clause that isn't attached
 
 -- what two writes leave
-put_once : (ws : List Watch) (s : ℕ) (a b : Watch) → s + 1 < length ws → ArePut ws (slice_set (slice_set ws s a) (s + 1) b) s a.literal b.literal
+put_once : (ws : List ThreadedWatch) (s : ℕ) (a b : ThreadedWatch) → s + 1 < length ws → ArePut ws (slice_set (slice_set ws s a) (s + 1) b) s a.literal b.literal
 put_once ws s a b there = record {
   size = length-set (slice_set ws s a) (s + 1) b ∙ length-set ws s a;
-  first_is = ap (λ (w : Watch). w.literal) (watch_same (slice_set ws s a) (s + 1) s b (λ e. omega (arith, e)) ∙ watch_new ws s a (omega (arith, there)));
-  second_is = ap (λ (w : Watch). w.literal) (watch_new (slice_set ws s a) (s + 1) b (omega (arith, there, length-set ws s a)));
-  others = λ t not_s not_next. ap (λ (w : Watch). w.literal) (watch_same (slice_set ws s a) (s + 1) t b not_next ∙ watch_same ws s t a not_s);
+  first_is = ap (λ (w : ThreadedWatch). w.literal) (watch_same (slice_set ws s a) (s + 1) s b (λ e. omega (arith, e)) ∙ watch_new ws s a (omega (arith, there)));
+  second_is = ap (λ (w : ThreadedWatch). w.literal) (watch_new (slice_set ws s a) (s + 1) b (omega (arith, there, length-set ws s a)));
+  others = λ t not_s not_next. ap (λ (w : ThreadedWatch). w.literal) (watch_same (slice_set ws s a) (s + 1) t b not_next ∙ watch_same ws s t a not_s);
 }
 
-pub put_other : (old new : List Watch) (s : ℕ) (a b : SatLit) → s % 2 ≡ 0 → ArePut old new s a b → (t : ℕ) → t ≢ s → t ≢ s + 1 → (literal_at new t ≡ literal_at old t) × (literal_at new (partner t) ≡ literal_at old (partner t))
+pub put_other : (old new : List ThreadedWatch) (s : ℕ) (a b : SatLit) → s % 2 ≡ 0 → ArePut old new s a b → (t : ℕ) → t ≢ s → t ≢ s + 1 → (literal_at new t ≡ literal_at old t) × (literal_at new (partner t) ≡ literal_at old (partner t))
 put_other old new s a b even put t not_s not_next = (put.others t not_s not_next, put.others (partner t) (λ e. omega (arith, e, not_next, even)) (λ e. omega (arith, e, not_s, even)))
 
-pub put_attached : (old new : List Watch) (s : ℕ) (a b : SatLit) → s % 2 ≡ 0 → ArePut old new s a b → a.0 ≢ b.0 → IsAttached new s
+pub put_attached : (old new : List ThreadedWatch) (s : ℕ) (a b : SatLit) → s % 2 ≡ 0 → ArePut old new s a b → a.0 ≢ b.0 → IsAttached new s
 put_attached old new s a b even put differ e =
     let next : partner s ≡ s + 1 = omega (arith, even) in
     differ (sym (ap (λ (l : SatLit). l.0) put.first_is) ∙ (e ∙ (ap (λ k. (literal_at new k).0) next ∙ ap (λ (l : SatLit). l.0) put.second_is)))
 
-pub put_before : (old new : List Watch) (s : ℕ) (a b : SatLit) → s % 2 ≡ 0 → ArePut old new s a b → (t : ℕ) → t ≢ s → t ≢ s + 1 → IsAttached new t → IsAttached old t
+pub put_before : (old new : List ThreadedWatch) (s : ℕ) (a b : SatLit) → s % 2 ≡ 0 → ArePut old new s a b → (t : ℕ) → t ≢ s → t ≢ s + 1 → IsAttached new t → IsAttached old t
 put_before old new s a b even put t not_s not_next attached e =
     let p = put_other old new s a b even put t not_s not_next in
     attached (ap (λ (l : SatLit). l.0) p.0 ∙ (e ∙ ap (λ (l : SatLit). l.0) (sym p.1)))
 
-pub put_after : (old new : List Watch) (s : ℕ) (a b : SatLit) → s % 2 ≡ 0 → ArePut old new s a b → (t : ℕ) → t ≢ s → t ≢ s + 1 → IsAttached old t → IsAttached new t
+pub put_after : (old new : List ThreadedWatch) (s : ℕ) (a b : SatLit) → s % 2 ≡ 0 → ArePut old new s a b → (t : ℕ) → t ≢ s → t ≢ s + 1 → IsAttached old t → IsAttached new t
 put_after old new s a b even put t not_s not_next attached e =
     let p = put_other old new s a b even put t not_s not_next in
     attached (sym (ap (λ (l : SatLit). l.0) p.0) ∙ (e ∙ ap (λ (l : SatLit). l.0) p.1))
 
 -- with two literals they are in no list
-pub unthreaded : (ws : List Watch) (hs : List Head) (s : ℕ) (a b : Watch) → AreThreaded ws hs [] → s + 1 < length ws → s % 2 ≡ 0 → (IsAttached ws s → ⊥) → a.literal.0 < length hs → b.literal.0 < length hs → a.literal.0 ≢ b.literal.0 → AreThreaded (slice_set (slice_set ws s a) (s + 1) b) hs (s ∷ (s + 1) ∷ [])
+pub unthreaded : (ws : List ThreadedWatch) (hs : List Head) (s : ℕ) (a b : ThreadedWatch) → AreThreaded ws hs [] → s + 1 < length ws → s % 2 ≡ 0 → (IsAttached ws s → ⊥) → a.literal.0 < length hs → b.literal.0 < length hs → a.literal.0 ≢ b.literal.0 → AreThreaded (slice_set (slice_set ws s a) (s + 1) b) hs (s ∷ (s + 1) ∷ [])
 unthreaded ws hs s a b is there even loose low_a low_b differ = record {
   even = ap (λ n. n % 2) size ∙ is.even;
   few = omega (arith, is.few, size);
@@ -341,10 +341,10 @@ unthreaded ws hs s a b is there even loose low_a low_b differ = record {
   ];
 }
   where
-    mid : List Watch
+    mid : List ThreadedWatch
     mid = slice_set ws s a
 
-    new : List Watch
+    new : List ThreadedWatch
     new = slice_set mid (s + 1) b
 
     size : length new ≡ length ws
@@ -384,7 +384,7 @@ unthreaded ws hs s a b is there even loose low_a low_b differ = record {
     next_out_of c low here = (apart_from (s + 1) (is.own c (s + 1) low (subst (IsIn (s + 1)) (same c low) here)).attached).1 refl
 
 -- what four writes to two watches leave
-pub put_twice : (ws : List Watch) (s : ℕ) (a b c d : Watch) → s + 1 < length ws → ArePut ws (slice_set (slice_set (slice_set (slice_set ws s a) (s + 1) b) s c) (s + 1) d) s c.literal d.literal
+pub put_twice : (ws : List ThreadedWatch) (s : ℕ) (a b c d : ThreadedWatch) → s + 1 < length ws → ArePut ws (slice_set (slice_set (slice_set (slice_set ws s a) (s + 1) b) s c) (s + 1) d) s c.literal d.literal
 put_twice ws s a b c d there =
     let mid = slice_set (slice_set ws s a) (s + 1) b in
     let one = put_once ws s a b there in
@@ -397,27 +397,27 @@ put_twice ws s a b c d there =
     }
 
 -- the first of the two is put into its list
-pub one_pushed : (ws new : List Watch) (hs heads : List Head) (s : ℕ) (a b : SatLit) → AreThreaded ws hs [] → s + 1 < length ws → s % 2 ≡ 0 → (IsAttached ws s → ⊥) → a.0 < length hs → b.0 < length hs → a.0 ≢ b.0 → new ≡ slice_set (slice_set (slice_set ws s (record { literal = a; next = 0 })) (s + 1) (record { literal = b; next = 0 })) s (record { literal = a; next = (head_at hs a.0).first }) → heads ≡ slice_set hs a.0 (record { first = s; count = (head_at hs a.0).count + 1 }) → AreThreaded new heads ((s + 1) ∷ [])
+pub one_pushed : (ws new : List ThreadedWatch) (hs heads : List Head) (s : ℕ) (a b : SatLit) → AreThreaded ws hs [] → s + 1 < length ws → s % 2 ≡ 0 → (IsAttached ws s → ⊥) → a.0 < length hs → b.0 < length hs → a.0 ≢ b.0 → new ≡ slice_set (slice_set (slice_set ws s (record { literal = a; next = 0 })) (s + 1) (record { literal = b; next = 0 })) s (record { literal = a; next = (head_at hs a.0).first }) → heads ≡ slice_set hs a.0 (record { first = s; count = (head_at hs a.0).count + 1 }) → AreThreaded new heads ((s + 1) ∷ [])
 one_pushed ws new hs heads s a b is there even loose low_a low_b differ new_is heads_is =
-    let wa : Watch = record { literal = a; next = 0 } in
-    let wb : Watch = record { literal = b; next = 0 } in
+    let wa : ThreadedWatch = record { literal = a; next = 0 } in
+    let wb : ThreadedWatch = record { literal = b; next = 0 } in
     let mid = slice_set (slice_set ws s wa) (s + 1) wb in
     let out = unthreaded ws hs s wa wb is there even loose low_a low_b differ in
     let next : partner s ≡ s + 1 = omega (arith, even) in
-    let at_next : literal_at mid (partner s) ≡ b = ap (literal_at mid) next ∙ ap (λ (w : Watch). w.literal) (watch_new (slice_set ws s wa) (s + 1) wb (omega (arith, there, length-set ws s wa))) in
+    let at_next : literal_at mid (partner s) ≡ b = ap (literal_at mid) next ∙ ap (λ (w : ThreadedWatch). w.literal) (watch_new (slice_set ws s wa) (s + 1) wb (omega (arith, there, length-set ws s wa))) in
     subst (λ x. AreThreaded x heads ((s + 1) ∷ [])) (sym new_is) (subst (λ h. AreThreaded (slice_set mid s (record { literal = a; next = (head_at hs a.0).first })) h ((s + 1) ∷ [])) (sym heads_is) (pushed mid hs s ((s + 1) ∷ []) a out low_a (λ e. differ (e ∙ ap (λ (l : SatLit). l.0) at_next))))
 
 -- and the second
-pub both_pushed : (ws one new : List Watch) (hs heads_one heads : List Head) (s : ℕ) (a b : SatLit) → AreThreaded one heads_one ((s + 1) ∷ []) → s + 1 < length ws → s % 2 ≡ 0 → b.0 < length heads_one → a.0 ≢ b.0 → one ≡ slice_set (slice_set (slice_set ws s (record { literal = a; next = 0 })) (s + 1) (record { literal = b; next = 0 })) s (record { literal = a; next = (head_at hs a.0).first }) → new ≡ slice_set one (s + 1) (record { literal = b; next = (head_at heads_one b.0).first }) → heads ≡ slice_set heads_one b.0 (record { first = s + 1; count = (head_at heads_one b.0).count + 1 }) → AreThreaded new heads []
+pub both_pushed : (ws one new : List ThreadedWatch) (hs heads_one heads : List Head) (s : ℕ) (a b : SatLit) → AreThreaded one heads_one ((s + 1) ∷ []) → s + 1 < length ws → s % 2 ≡ 0 → b.0 < length heads_one → a.0 ≢ b.0 → one ≡ slice_set (slice_set (slice_set ws s (record { literal = a; next = 0 })) (s + 1) (record { literal = b; next = 0 })) s (record { literal = a; next = (head_at hs a.0).first }) → new ≡ slice_set one (s + 1) (record { literal = b; next = (head_at heads_one b.0).first }) → heads ≡ slice_set heads_one b.0 (record { first = s + 1; count = (head_at heads_one b.0).count + 1 }) → AreThreaded new heads []
 both_pushed ws one new hs heads_one heads s a b is there even low differ one_is new_is heads_is =
-    let wa : Watch = record { literal = a; next = 0 } in
-    let wb : Watch = record { literal = b; next = 0 } in
+    let wa : ThreadedWatch = record { literal = a; next = 0 } in
+    let wb : ThreadedWatch = record { literal = b; next = 0 } in
     let mid = slice_set (slice_set ws s wa) (s + 1) wb in
     let size : length mid ≡ length ws = length-set (slice_set ws s wa) (s + 1) wb ∙ length-set ws s wa in
     let back : partner (s + 1) ≡ s = omega (arith, even) in
-    let at_back : literal_at one (partner (s + 1)) ≡ a = ap (literal_at one) back ∙ (ap (λ x. literal_at x s) one_is ∙ ap (λ (w : Watch). w.literal) (watch_new mid s (record { literal = a; next = (head_at hs a.0).first }) (omega (arith, there, size)))) in
+    let at_back : literal_at one (partner (s + 1)) ≡ a = ap (literal_at one) back ∙ (ap (λ x. literal_at x s) one_is ∙ ap (λ (w : ThreadedWatch). w.literal) (watch_new mid s (record { literal = a; next = (head_at hs a.0).first }) (omega (arith, there, size)))) in
     subst (λ x. AreThreaded x heads []) (sym new_is) (subst (λ h. AreThreaded (slice_set one (s + 1) (record { literal = b; next = (head_at heads_one b.0).first })) h []) (sym heads_is) (pushed one heads_one (s + 1) [] b is low (λ e. differ (sym (e ∙ ap (λ (l : SatLit). l.0) at_back)))))
 
 -- a list has room for one more
-pub room : (ws : List Watch) (hs : List Head) (c : ℕ) (out : List ℕ) → AreThreaded ws hs out → c < length hs → (head_at hs c).count + 1 < 2 ^ 64
+pub room : (ws : List ThreadedWatch) (hs : List Head) (c : ℕ) (out : List ℕ) → AreThreaded ws hs out → c < length hs → (head_at hs c).count + 1 < 2 ^ 64
 room ws hs c out is low = omega (arith, count_few ws hs c out is low, is.few, is.even)

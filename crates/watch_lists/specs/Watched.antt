@@ -6,7 +6,7 @@ use Rattle.cnf_core.specs.Clauses.{clause_at, opposite}
 use Rattle.cnf_core.specs.Derivations.{effect_of, is_true}
 use Rattle.trail_core.specs.declared.assigned.Assigned.{Assigned}
 use Rattle.trail_core.specs.Trails.{IsTrail, Trailing, entry_at}
-use Rattle.watch_lists.specs.declared.threads.Watch.{Watch}
+use Rattle.watch_lists.specs.declared.threads.ThreadedWatch.{ThreadedWatch}
 use Rattle.watch_lists.specs.declared.threads.Head.{Head}
 use Rattle.watch_lists.specs.Propagations.{AreKnown, IsSound}
 use Rattle.watch_lists.specs.Threads.{AreThreaded, IsAttached, IsIn, literal_at, partner}
@@ -15,10 +15,10 @@ use Rattle.watch_lists.specs.Threads.{AreThreaded, IsAttached, IsIn, literal_at,
 pub record Watching : Type 0 where
   pub variables : ℕ
   pub clauses : List (List SatLit)
-  pub watches : List Watch
+  pub watches : List ThreadedWatch
 
 -- a watch of a clause that isn't attached
-abbrev pub loose_watch : List SatLit → Watch
+abbrev pub loose_watch : List SatLit → ThreadedWatch
 loose_watch clause = record { literal = slice_index_or clause 0 (record { 0 = 0 }); next = 0 }
 
 -- one clause more, which isn't attached
@@ -36,7 +36,7 @@ pub record IsHeld (entries : List Assigned) (literal : SatLit) (level : ℕ) : T
   pub low : (entry_at entries at).level ≤ level
 
 -- where a watched literal is false at a walked place, the other one of its clause is true at a level that isn't greater
-abbrev pub IsWatched : List Watch → List Assigned → ℕ → ℕ → Type 0
+abbrev pub IsWatched : List ThreadedWatch → List Assigned → ℕ → ℕ → Type 0
 IsWatched watches entries walked s = (j : ℕ)
     → j < walked
     → j < length entries
@@ -80,7 +80,7 @@ pub record IsRewatched (old new : Watching) : Type 0 where
   pub attached : (id : ℕ) → id < length old.clauses → IsAttached old.watches (2 * id) → IsAttached new.watches (2 * id)
 
 -- the watches of attached clauses are among their literals
-pub record AreOfClauses (clauses : List (List SatLit)) (watches : List Watch) : Type 0 where
+pub record AreOfClauses (clauses : List (List SatLit)) (watches : List ThreadedWatch) : Type 0 where
   pub size : length watches ≡ 2 * length clauses
   pub of : (s : ℕ)
       → s < length watches
@@ -88,14 +88,14 @@ pub record AreOfClauses (clauses : List (List SatLit)) (watches : List Watch) : 
       → is_true (clause_at clauses (s / 2)) (literal_at watches s) ≡ true
 
 -- What all watches keep.
-pub record AreKept (variables : ℕ) (clauses : List (List SatLit)) (watches : List Watch) (heads : List Head) : Type 0 where
+pub record AreKept (variables : ℕ) (clauses : List (List SatLit)) (watches : List ThreadedWatch) (heads : List Head) : Type 0 where
   pub heads_are : length heads ≡ 2 * variables
   pub known : All (AreKnown variables) clauses
   pub of_clauses : AreOfClauses clauses watches
   pub threaded : AreThreaded watches heads []
 
 -- The watches fit a sound trail.
-pub record IsReady (clauses : List (List SatLit)) (watches : List Watch) (heads : List Head) (trail : Trailing) : Type 0 where
+pub record IsReady (clauses : List (List SatLit)) (watches : List ThreadedWatch) (heads : List Head) (trail : Trailing) : Type 0 where
   pub kept : AreKept trail.variables clauses watches heads
   pub is_trail : IsTrail trail
   pub sound : IsSound clauses trail
@@ -106,7 +106,7 @@ pub record IsReady (clauses : List (List SatLit)) (watches : List Watch) (heads 
       → IsWatched watches trail.entries trail.walked s
 
 -- The list of a false literal is walked, which is the opposite of that at the next place; some watches are left.
-pub record IsWalking (clauses : List (List SatLit)) (watches : List Watch) (heads : List Head) (trail : Trailing)
+pub record IsWalking (clauses : List (List SatLit)) (watches : List ThreadedWatch) (heads : List Head) (trail : Trailing)
     (literal : SatLit) (left : List ℕ) : Type 0 where
   pub heads_are : length heads ≡ 2 * trail.variables
   pub known : All (AreKnown trail.variables) clauses
@@ -129,5 +129,5 @@ pub record IsWalking (clauses : List (List SatLit)) (watches : List Watch) (head
       → IsIn s left ⊎ IsHeld trail.entries (literal_at watches (partner s)) trail.level
 
 -- what is attached stays so
-abbrev pub StayAttached : List Watch → List Watch → Type 0
+abbrev pub StayAttached : List ThreadedWatch → List ThreadedWatch → Type 0
 StayAttached old new = (s : ℕ) → s < length old → IsAttached old s → IsAttached new s

@@ -9,7 +9,7 @@ use std::alloc::{AllocError, Global};
 /// One of the two watches of a clause: the literal that it watches, and the next watch in the list of that literal. The
 /// last one's next is of no use.
 #[derive(Clone, Copy)]
-pub(crate) struct Watch {
+pub(crate) struct ThreadedWatch {
     pub(crate) literal: SatLit,
     pub(crate) next: usize,
 }
@@ -31,7 +31,7 @@ pub(crate) struct Rest {
 /// The watches of all clauses, those of clause `id` at `2 * id` and after it, and the list of each literal.
 #[derive(Drop)]
 pub(crate) struct Threads {
-    pub(crate) watches: Vec<Watch>,
+    pub(crate) watches: Vec<ThreadedWatch>,
     pub(crate) heads: Vec<Head>,
 }
 
@@ -90,7 +90,7 @@ impl Threads {
             (record { first = watch; count = (head_at self.old.heads.items literal.0).count + 1 }) }
     {
         let head = self.heads[literal.0 as usize];
-        self.watches[watch] = Watch {
+        self.watches[watch] = ThreadedWatch {
             literal,
             next: head.first,
         };
@@ -146,11 +146,11 @@ impl Threads {
         ensures put { ArePut self.old.watches.items self.new.watches.items watch first second }
         ensures heads { length self.new.heads.items ≡ length self.old.heads.items }
     {
-        self.watches[watch] = Watch {
+        self.watches[watch] = ThreadedWatch {
             literal: first,
             next: 0,
         };
-        self.watches[watch + 1] = Watch {
+        self.watches[watch + 1] = ThreadedWatch {
             literal: second,
             next: 0,
         };
@@ -166,7 +166,7 @@ impl Threads {
         ensures few { length self.new.watches.items < 2 ^ 64 }
         ensures heads { self.new.heads ≡ self.old.heads }
     {
-        let watch = Watch { literal, next: 0 };
+        let watch = ThreadedWatch { literal, next: 0 };
         self.watches.push_reserved(watch);
         self.watches.push_reserved(watch);
         let _len = self.watches.len();

@@ -1,17 +1,30 @@
 -- The next watch of the list stays or moves.
-use Rattle.std.proofs.Common.{◌≡◌, ◌-◌, ◌/◌, ◌<◌, [], length, ap, sym, subst, ◌∙◌, arith}
+use Rattle.std.proofs.Common.{◌≡◌, ℕ, ◌/◌, ◌<◌, List, [], length, slice_index_or, ap, sym, subst, ◌∙◌, arith}
 use Rattle.std.proofs.lemmas.List.{get_or_default}
 use Rattle.cnf_core.specs.declared.literal.SatLit.{SatLit}
 use Rattle.cnf_core.specs.Clauses.{clause_at}
-use Rattle.trail_core.specs.Trails.{literals}
-use Rattle.watch_lists.specs.declared.threads.Watch.{Watch}
+use Rattle.trail_core.specs.Trails.{Trailing, literals}
+use Rattle.watch_lists.specs.declared.threads.Head.{Head}
+use Rattle.watch_lists.specs.declared.threads.Rest.{Rest}
+use Rattle.watch_lists.specs.declared.threads.ThreadedWatch.{ThreadedWatch}
 use Rattle.watch_lists.specs.Looks.{IsHalfFalse, IsTarget}
-use Rattle.watch_lists.specs.Threads.{links, literal_at, no_watch, partner, watch_at}
+use Rattle.watch_lists.specs.Threads.{links, literal_at, no_watch, partner}
+use Rattle.watch_lists.specs.Watched.{IsWalking}
 use Rattle.watch_lists.proofs.BackLemmas.{at_within}
 use Rattle.watch_lists.proofs.FitLemmas.{half_false, target_known}
 use Rattle.watch_lists.proofs.PassLemmas.{front_of, visited, visited_attached}
 use Rattle.watch_lists.proofs.ThreadLemmas.{partner_within, room}
 use Rattle.watch_lists.proofs.watches.visit.Goals as goal
+
+-- the other watched literal of the clause, which is read at the watch beside the next one
+other_is : {clauses : List (List SatLit)} {ws : List ThreadedWatch} {hs : List Head} {t : Trailing} {f : SatLit} {p : ℕ} {w : ThreadedWatch} (rest : Rest) → IsWalking clauses ws hs t f (links ws rest.left rest.at) → 0 < rest.left → p ≡ partner rest.at → w ≡ slice_index_or ws p w → w.literal ≡ literal_at ws (partner rest.at)
+other_is {ws = ws} {hs = hs} {p = p} {w = w} rest is some p_is w_is =
+    let within : p < length ws = omega (arith, partner_within ws rest.at is.threaded.even (at_within ws hs rest some is.threaded), p_is) in
+    ap (λ (x : ThreadedWatch). x.literal) (w_is ∙ get_or_default ws p w no_watch within) ∙ ap (literal_at ws) p_is
+
+target_is : {clauses : List (List SatLit)} {ws : List ThreadedWatch} {hs : List Head} {t new : Trailing} {f moved : SatLit} {p : ℕ} {w : ThreadedWatch} (rest : Rest) → IsWalking clauses ws hs t f (links ws rest.left rest.at) → 0 < rest.left → p ≡ partner rest.at → w ≡ slice_index_or ws p w → IsTarget t new (clause_at clauses (rest.at / 2)) (rest.at / 2) w.literal f moved → IsTarget t new (clause_at clauses (rest.at / 2)) (rest.at / 2) (literal_at ws (partner rest.at)) f moved
+target_is {clauses = clauses} {t = t} {new = new} {f = f} {moved = moved} rest is some p_is w_is target =
+    subst (λ (l : SatLit). IsTarget t new (clause_at clauses (rest.at / 2)) (rest.at / 2) l f moved) (other_is rest is some p_is w_is) target
 
 pub index-requires : goal.index-requires
 index-requires c =
@@ -32,16 +45,10 @@ target-requires-clause-known c =
 
 pub target-requires-clause-half : goal.target-requires-clause-half
 target-requires-clause-half c =
-    let ws = c.args.threads.now.watches.items in
-    let hs = c.args.threads.now.heads.items in
     let rest = c.args.rest.now in
-    let clauses = c.args.clauses.now.clauses in
-    let old = c.args.trail.now in
     let is = c.requires.walking in
-    let first = front_of clauses ws hs old c.args.literal rest is c.requires.left in
-    let within : c.partner.result < length ws = omega (arith, partner_within ws rest.at is.threaded.even (at_within ws hs rest c.requires.left is.threaded), c.partner.ensures) in
-    let other : c.index.result.now.literal ≡ literal_at ws (partner rest.at) = ap (λ (w : Watch). w.literal) (c.index.ensures ∙ get_or_default ws c.partner.result c.index.result.now no_watch within) ∙ ap (literal_at ws) c.partner.ensures in
-    subst (λ (l : SatLit). IsHalfFalse (literals old.entries) (clause_at clauses (rest.at / 2)) l) (sym other) (half_false clauses ws hs old c.args.literal rest.at (links ws (rest.left - 1) (watch_at ws rest.at).next) first)
+    let other = other_is rest is c.requires.left c.partner.ensures c.index.ensures in
+    subst (λ (l : SatLit). IsHalfFalse (literals c.args.trail.now.entries) (clause_at c.args.clauses.now.clauses (rest.at / 2)) l) (sym other) (half_false _ _ _ _ _ rest.at _ (front_of _ _ _ _ _ rest is c.requires.left))
 
 pub returns-in_default-clause-conflict : goal.returns-in_default-clause-conflict
 returns-in_default-clause-conflict c =
@@ -57,18 +64,10 @@ step-requires-clause-there c =
 
 pub step-requires-clause-known : goal.step-requires-clause-known
 step-requires-clause-known c =
-    let ws = c.args.threads.now.watches.items in
-    let hs = c.args.threads.now.heads.items in
     let rest = c.args.rest.now in
-    let clauses = c.args.clauses.now.clauses in
     let is = c.requires.walking in
-    let old = c.args.trail.now in
-    let new = c.target.new.trail in
-    let first = front_of clauses ws hs old c.args.literal rest is c.requires.left in
-    let within : c.partner.result < length ws = omega (arith, partner_within ws rest.at is.threaded.even (at_within ws hs rest c.requires.left is.threaded), c.partner.ensures) in
-    let other : c.index.result.now.literal ≡ literal_at ws (partner rest.at) = ap (λ (w : Watch). w.literal) (c.index.ensures ∙ get_or_default ws c.partner.result c.index.result.now no_watch within) ∙ ap (literal_at ws) c.partner.ensures in
-    let target = subst (λ (l : SatLit). IsTarget old new (clause_at clauses (rest.at / 2)) (rest.at / 2) l c.args.literal c.in-Some.moved) other c.in-Some.ensures.target in
-    target_known clauses ws hs old new c.args.literal c.in-Some.moved rest.at (links ws (rest.left - 1) (watch_at ws rest.at).next) first target
+    let target = target_is rest is c.requires.left c.partner.ensures c.index.ensures c.in-Some.ensures.target in
+    target_known _ _ _ _ _ _ _ rest.at _ (front_of _ _ _ _ _ rest is c.requires.left) target
 
 pub step-requires-clause-few : goal.step-requires-clause-few
 step-requires-clause-few c =
@@ -79,31 +78,17 @@ step-requires-clause-few c =
 
 pub returns-clause-walking : goal.returns-clause-walking
 returns-clause-walking c =
-    let ws = c.args.threads.now.watches.items in
-    let hs = c.args.threads.now.heads.items in
     let rest = c.args.rest.now in
-    let clauses = c.args.clauses.now.clauses in
     let is = c.requires.walking in
-    let old = c.args.trail.now in
-    let new = c.target.new.trail in
-    let within : c.partner.result < length ws = omega (arith, partner_within ws rest.at is.threaded.even (at_within ws hs rest c.requires.left is.threaded), c.partner.ensures) in
-    let other : c.index.result.now.literal ≡ literal_at ws (partner rest.at) = ap (λ (w : Watch). w.literal) (c.index.ensures ∙ get_or_default ws c.partner.result c.index.result.now no_watch within) ∙ ap (literal_at ws) c.partner.ensures in
-    let target = subst (λ (l : SatLit). IsTarget old new (clause_at clauses (rest.at / 2)) (rest.at / 2) l c.args.literal c.in-Some.moved) other c.in-Some.ensures.target in
-    visited clauses ws c.step.new.self.watches.items hs c.step.new.self.heads.items old new c.args.literal c.in-Some.moved rest c.step.new.rest is c.requires.left c.walked-walked.ensures.trail target c.step.ensures.rest c.step.ensures.watches c.step.ensures.heads
+    let target = target_is rest is c.requires.left c.partner.ensures c.index.ensures c.in-Some.ensures.target in
+    visited _ _ _ _ _ _ _ _ _ rest _ is c.requires.left c.walked-walked.ensures.trail target c.step.ensures.rest c.step.ensures.watches c.step.ensures.heads
 
 pub returns-clause-attached : goal.returns-clause-attached
 returns-clause-attached c =
-    let ws = c.args.threads.now.watches.items in
-    let hs = c.args.threads.now.heads.items in
     let rest = c.args.rest.now in
-    let clauses = c.args.clauses.now.clauses in
     let is = c.requires.walking in
-    let old = c.args.trail.now in
-    let new = c.target.new.trail in
-    let within : c.partner.result < length ws = omega (arith, partner_within ws rest.at is.threaded.even (at_within ws hs rest c.requires.left is.threaded), c.partner.ensures) in
-    let other : c.index.result.now.literal ≡ literal_at ws (partner rest.at) = ap (λ (w : Watch). w.literal) (c.index.ensures ∙ get_or_default ws c.partner.result c.index.result.now no_watch within) ∙ ap (literal_at ws) c.partner.ensures in
-    let target = subst (λ (l : SatLit). IsTarget old new (clause_at clauses (rest.at / 2)) (rest.at / 2) l c.args.literal c.in-Some.moved) other c.in-Some.ensures.target in
-    visited_attached clauses ws c.step.new.self.watches.items hs old new c.args.literal c.in-Some.moved rest is c.requires.left target c.step.ensures.watches
+    let target = target_is rest is c.requires.left c.partner.ensures c.index.ensures c.in-Some.ensures.target in
+    visited_attached _ _ _ _ _ _ _ _ rest is c.requires.left target c.step.ensures.watches
 
 pub partner-requires : goal.partner-requires
 partner-requires c =

@@ -2,7 +2,7 @@
 use Rattle.std.proofs.Common.{◌≡◌, Vec, length, sym, subst, arith}
 use Rattle.std.specs.declared.alloc.Global.{Global}
 use Rattle.watch_lists.specs.declared.threads.Threads.{Threads}
-use Rattle.watch_lists.specs.declared.threads.Watch.{Watch}
+use Rattle.watch_lists.specs.declared.threads.ThreadedWatch.{ThreadedWatch}
 use Rattle.watch_lists.specs.Threads.{AreAlike}
 use Rattle.watch_lists.proofs.PassLemmas.{IsOnTheWay, walk_stopped, way_end, way_start}
 use Rattle.watch_lists.proofs.watches.walk.Goals as goal
@@ -13,7 +13,7 @@ loop-rest-init c =
     let clauses = c.args.clauses.now.clauses in
     let trail = c.args.trail.now in
     let new = c.take-rest.new.self in
-    subst (λ (v : Vec Watch Global). IsOnTheWay clauses ws v.items new.heads.items trail trail c.args.literal c.take-rest.result) (sym c.take-rest.ensures.watches) (way_start clauses ws c.args.threads.now.heads.items new.heads.items trail c.args.literal c.take-rest.result c.requires.ready c.requires.there c.requires.falsity c.requires.known c.take-rest.ensures.rest c.take-rest.ensures.heads)
+    subst (λ (v : Vec ThreadedWatch Global). IsOnTheWay clauses ws v.items new.heads.items trail trail c.args.literal c.take-rest.result) (sym c.take-rest.ensures.watches) (way_start clauses ws c.args.threads.now.heads.items new.heads.items trail c.args.literal c.take-rest.result c.requires.ready c.requires.there c.requires.falsity c.requires.known c.take-rest.ensures.rest c.take-rest.ensures.heads)
 
 pub returns-clause-none : goal.returns-clause-none
 returns-clause-none c =
