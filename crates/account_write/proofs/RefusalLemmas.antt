@@ -18,7 +18,6 @@ use Rattle.account_core.specs.declared.conclusion.Conclusion.TheVariants as conc
 use Rattle.account_core.specs.declared.fact.Evidence.{Evidence}
 use Rattle.account_core.specs.declared.fact.Evidence.TheVariants as evidence
 use Rattle.account_core.specs.declared.fact.Fact.{Fact}
-use Rattle.account_core.specs.declared.fact.FactHead.TheVariants as head
 use Rattle.account_core.specs.declared.step.Ban.{Ban}
 use Rattle.account_core.specs.declared.step.Step.TheVariants.{Mismatch}
 use Rattle.account_core.specs.Given.{Decided, Given, decided_by, pairs_of, shown_by}

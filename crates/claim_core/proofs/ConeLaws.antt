@@ -1,5 +1,5 @@
 -- What meets the clauses of the cones alone has a vector that is asked for: each signal that an output reaches has its bit.
-use Rattle.std.proofs.Common.{[], ◌≡◌, ◌≢◌, ℕ, zero, suc, ◌+◌, ◌*◌, ◌-◌, ◌<◌, ◌&&◌, Bool, true, false, List, ◌∷◌, length, map, All, slice_index_or, inl, inr, refl, sym, ap, subst, ◌∙◌, replicate, arith}
+use Rattle.std.proofs.Common.{[], ◌≡◌, ℕ, zero, suc, ◌+◌, ◌*◌, ◌-◌, ◌<◌, ◌&&◌, Bool, true, false, List, ◌∷◌, length, map, All, slice_index_or, inl, inr, refl, sym, ap, subst, ◌∙◌, replicate, arith}
 use Rattle.std.proofs.lemmas.Bool.{cases_lt, false≢true}
 use Rattle.std.proofs.lemmas.List.{get_or-map, get_or-replicate, get_or_past, length-map, length-replicate}
 use Rattle.std.proofs.lemmas.List.FromFn.{length-range_with_len}

@@ -1,5 +1,5 @@
 -- Queries and claims are the same where the derived comparisons say so.
-use Rattle.std.proofs.Common.{◌≡◌, ◌&&◌, eqb, List, Bool, true, false, refl, ap, ◌∙◌}
+use Rattle.std.proofs.Common.{◌≡◌, ◌&&◌, eqb, List, true, refl, ap, ◌∙◌}
 use Rattle.std.specs.Bool.{Decides, beq}
 pub use Rattle.std.specs.Cmp.{booleans_Decides as bool_decides}
 use Rattle.std.proofs.lemmas.Bool.Decides.{Decides-eqb, Decides-and, Decides-like}

@@ -1,6 +1,5 @@
 -- What a search over names tells.
 use Rattle.std.proofs.Common.{◌≡◌, ℕ, ◌+◌, ◌<◌, false, List, [], ◌++◌, length, map, take, All, Result, Ok, Err, IfOk, IfErr, slice_index_or, refl, sym, ◌∙◌, ap, subst, arith}
-use Rattle.std.specs.List.{list_any}
 use Rattle.std.proofs.lemmas.List.{get_or-map, length-map}
 use Rattle.std.proofs.lemmas.List.FromFn.{fill_by_all, get_or-map-range_with_len, length-map-range_with_len}
 use Rattle.cnf_core.specs.declared.literal.SatLit.{SatLit}
@@ -8,7 +7,7 @@ use Rattle.cnf_core.specs.declared.stop.Stop.{Stop}
 use Rattle.cnf_core.specs.declared.stop.Stop.TheVariants.{Spent, Memory}
 use Rattle.cnf_core.specs.Clauses.{Formula, Meets, clause_at}
 use Rattle.cnf_core.specs.Charges.{Charging}
-use Rattle.cnf_core.specs.Derivations.{AreDerived, clauses_of, is_empty}
+use Rattle.cnf_core.specs.Derivations.{AreDerived, clauses_of}
 use Rattle.learn_solver.specs.Analyses.{has_all}
 use Rattle.learn_solver.specs.Solvers.{IsExtended, IsStopped, Solving, wanted}
 use Rattle.learn_solver.specs.Findings.{IsFinding}

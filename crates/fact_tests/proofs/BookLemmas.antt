@@ -1,8 +1,8 @@
 -- What a book knows, and what it knows once a claim was decided or a query answered.
 use Rattle.std.proofs.Common.{◌≡◌, ◌≢◌, ◌⊎◌, ℕ, ◌+◌, ◌-◌, ◌<◌, ◌≤◌, Bool, true, false, Result, Ok, Err, List, [], ◌∷◌, ◌++◌, length, map, All, slice_index_or, inl, inr, refl, sym, ap, subst, ◌∙◌, arith}
 use Rattle.std.specs.List.{Any}
-use Rattle.std.specs.Result.{IsErr, IsErrAnd}
-use Rattle.std.proofs.lemmas.Bool.{cases_eq, cases_lt, false≢true}
+use Rattle.std.specs.Result.{IsErrAnd}
+use Rattle.std.proofs.lemmas.Bool.{cases_eq, cases_lt}
 use Rattle.std.proofs.lemmas.List.{get_or_append_left, get_or-append-add, get_or-map, get_or-set_same, get_or-set_other, length-append, length-map, length-set, map_push, append-nil}
 use Rattle.std.proofs.lemmas.List.Elements.{All-push}
 use Rattle.std.proofs.lemmas.List.Quantifiers.{Any-push, all_pairs_push}
@@ -358,22 +358,17 @@ module _ (graphs : Graphs) (facts : List Fact) (kept : List Kept) (claim : Claim
         held = λ number number_is. not_held number number_is;
       }
 
-  pub claims_stopped : (before after : Ledgered) (stop : Stop) → Suits known before → IsHalted graphs (claim_query graphs claim) before after stop → Claims claim known (known_by graphs facts kept) before after (Err stop)
-  claims_stopped before after stop suits halted =
+  pub claims_stopped : (before after : Ledgered) (later : List Fact) (r : Result ℕ Stop) (stop : Stop) → later ≡ facts → IsErrAnd r (λ e. e ≡ stop) → Suits known before → IsHalted graphs (claim_query graphs claim) before after stop → Claims claim known (known_by graphs later kept) before after r
+  claims_stopped before after later (Ok number) stop same and suits halted = absurd and
+  claims_stopped before after later (Err other) stop same and suits halted =
       let suits_here = subst (λ (k : Known). Suits k before) (sym is) suits in
-      let serves = serves_halted (known_by graphs facts kept) (claim_query graphs claim) before after fresh_claim suits_here {X = ℕ} stop are halted in
-      record {
-        serves = subst (λ (k : Known). Serves {X = ℕ} k (known_by graphs facts kept) before after (Err stop)) is serves;
+      let halted_too = subst (IsHalted graphs (claim_query graphs claim) before after) (sym and) halted in
+      let serves = serves_halted (known_by graphs facts kept) (claim_query graphs claim) before after fresh_claim suits_here {X = ℕ} other are halted_too in
+      subst (λ (fs : List Fact). Claims claim known (known_by graphs fs kept) before after (Err other)) (sym same) (record {
+        serves = subst (λ (k : Known). Serves {X = ℕ} k (known_by graphs facts kept) before after (Err other)) is serves;
         number = tt;
         held = λ number number_is. not_held number number_is;
-      }
-
-  -- there is no memory to note the fact
-  pub claims_refused : (before after : Ledgered) (later : List Fact) (r : Result ℕ Stop) → later ≡ facts → IsErr r → IsErrAnd r (λ stop. stop ≡ Memory) → Suits known before → Claims claim known (known_by graphs later kept) before after r
-  claims_refused before after later (Ok number) same err and suits = absurd (false≢true err)
-  claims_refused before after later (Err stop) same err and suits =
-      let halted : IsHalted graphs (claim_query graphs claim) before after stop = subst (IsHalted graphs (claim_query graphs claim) before after) (sym and) tt in
-      subst (λ (fs : List Fact). Claims claim known (known_by graphs fs kept) before after (Err stop)) (sym same) (claims_stopped before after stop suits halted)
+      })
 
 -- ---- a query of a match is answered
 
@@ -414,8 +409,10 @@ module _ (graphs : Graphs) (facts : List Fact) (kept : List Kept) (query : Query
       let serves = serves_decided (known_by graphs facts kept) query before after fresh_match suits_here {X = X} (known_by graphs facts later) x grows answered decided unspent in
       subst (λ (k : Known). Serves {X = X} k (known_by graphs facts later) before after (Ok x)) is serves
 
-  pub answer_stopped : {X : Type 0} (before after : Ledgered) (stop : Stop) → Suits known before → IsHalted graphs query before after stop → Serves {X = X} known known before after (Err stop)
-  answer_stopped {X} before after stop suits halted =
+  pub answer_stopped : {X : Type 0} (before after : Ledgered) (r : Result X Stop) (stop : Stop) → IsErrAnd r (λ e. e ≡ stop) → Suits known before → IsHalted graphs query before after stop → Serves {X = X} known known before after r
+  answer_stopped {X} before after (Ok x) stop and suits halted = absurd and
+  answer_stopped {X} before after (Err other) stop and suits halted =
       let suits_here = subst (λ (k : Known). Suits k before) (sym is) suits in
-      let serves = serves_halted (known_by graphs facts kept) query before after fresh_match suits_here {X = X} stop are halted in
-      subst (λ (k : Known). Serves {X = X} k k before after (Err stop)) is serves
+      let halted_too = subst (IsHalted graphs query before after) (sym and) halted in
+      let serves = serves_halted (known_by graphs facts kept) query before after fresh_match suits_here {X = X} other are halted_too in
+      subst (λ (k : Known). Serves {X = X} k k before after (Err other)) is serves

@@ -82,13 +82,9 @@ impl<D: Decide> Book<D> {
         self.decider.at(Stage::Deciding {
             claims: self.facts.as_slice().len() as u64,
         });
-        match self.decider.evidence(alloc, &claim, ledger) {
-            Ok(evidence) => {
-                let number = self.facts.add(Fact { claim, evidence })?;
-                Ok(number)
-            }
-            Err(stop) => Err(stop),
-        }
+        let evidence = self.decider.evidence(alloc, &claim, ledger)?;
+        let number = self.facts.add(Fact { claim, evidence })?;
+        Ok(number)
     }
 
     /// The answer of the query of a matching's output for a value.
@@ -148,14 +144,10 @@ impl<D: Decide> Book<D> {
         ensures serves { Serves self.old self.new ledger.old ledger.new result }
         ensures answer { IfOk result (IsAnswer self.old.graphs query) }
     {
-        match self.decider.answer_to(alloc, &query, ledger) {
-            Ok(answer) => {
-                let copy = copied(alloc, &answer)?;
-                self.kept.add(query, answer)?;
-                Ok(copy)
-            }
-            Err(stop) => Err(stop),
-        }
+        let answer = self.decider.answer_to(alloc, &query, ledger)?;
+        let copy = copied(alloc, &answer)?;
+        self.kept.add(query, answer)?;
+        Ok(copy)
     }
 }
 

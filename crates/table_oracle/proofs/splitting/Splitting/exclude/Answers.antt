@@ -13,36 +13,22 @@ returns-then-is_some-clause-excluded c =
     let found = subst (λ (ls : List LogLine). IfSome c.covering.result (IsCovering (clauses_in base ls) c.deref-2.result.now)) c.deref.ensures.value c.covering.ensures.found in
     covered_some (clauses_in base c.args.lines.now.items) c.args.bits.now c.deref-2.result.now c.covering.result (c.deref-2.ensures.value ∙ c.in_ok-clause.ensures) (sym c.is_some.ensures ∙ c.if-is_some.true) found
 
-pub returns-clause-extended : goal.returns-clause-extended
-returns-clause-extended c =
+pub returns : goal.returns
+returns c =
     let base = c.args.self.now.base in
     let lines = c.args.lines.now.items in
     let new = c.push.new.self.items in
+    let before = charging_of c.args.ledger.now in
+    let after = charging_of c.charge_last.new.ledger in
     let line : LogLine = record { clause = c.in_ok-clause.clause; hints = c.in_ok-hints.hints } in
+    let pushed = c.in_ok-push.ensures.items in
     let none = sym c.is_some.ensures ∙ c.if-is_some.false in
     let added = may_be_added c.args.self.now lines c.deref.result.now c.deref-3.result.now c.args.bits.now line c.deref-2.result.now c.covering.result c.requires.splitting c.requires.beginning.within c.in_ok-clause.ensures c.deref.ensures.value c.deref-3.ensures.value c.deref-2.ensures.value none c.covering.ensures.none c.in_ok-hints.ensures in
-    let charged = subst (λ (ls : List LogLine). OnOk c.charge_last.result (IsCharged (charging_of c.args.ledger.now) (last_line ls) (charging_of c.charge_last.new.ledger))) c.deref-4.ensures.value c.charge_last.ensures.charged in
-    line_charged base lines new line (charging_of c.args.ledger.now) (charging_of c.charge_last.new.ledger) c.charge_last.result c.requires.asking c.in_ok-push.ensures.items added charged
-
-pub returns-clause-excluded : goal.returns-clause-excluded
-returns-clause-excluded c =
-    let base = c.args.self.now.base in
-    let lines = c.args.lines.now.items in
-    let line : LogLine = record { clause = c.in_ok-clause.clause; hints = c.in_ok-hints.hints } in
-    on_ok c.charge_last.result (subst (λ (ls : List LogLine). IsExcluded (clauses_in base ls) c.args.bits.now) (sym c.in_ok-push.ensures.items) (excluded_by base lines line c.args.bits.now c.in_ok-clause.ensures))
-
-pub returns-clause-stop : goal.returns-clause-stop
-returns-clause-stop c =
-    let base = c.args.self.now.base in
-    let lines = c.args.lines.now.items in
-    let new = c.push.new.self.items in
-    let line : LogLine = record { clause = c.in_ok-clause.clause; hints = c.in_ok-hints.hints } in
-    let none = sym c.is_some.ensures ∙ c.if-is_some.false in
-    let added = may_be_added c.args.self.now lines c.deref.result.now c.deref-3.result.now c.args.bits.now line c.deref-2.result.now c.covering.result c.requires.splitting c.requires.beginning.within c.in_ok-clause.ensures c.deref.ensures.value c.deref-3.ensures.value c.deref-2.ensures.value none c.covering.ensures.none c.in_ok-hints.ensures in
-    let refused = subst (λ (ls : List LogLine). IfErr c.charge_last.result (IsRefused (charging_of c.args.ledger.now) (last_line ls) (charging_of c.charge_last.new.ledger))) c.deref-4.ensures.value c.charge_last.ensures.refused in
-    line_stopped base lines new line (charging_of c.args.ledger.now) (charging_of c.charge_last.new.ledger) c.charge_last.result c.requires.asking c.in_ok-push.ensures.items added refused
-
-pub returns-clause-asking : goal.returns-clause-asking
-returns-clause-asking c =
-    let charged = subst (λ (ls : List LogLine). OnOk c.charge_last.result (IsCharged (charging_of c.args.ledger.now) (last_line ls) (charging_of c.charge_last.new.ledger))) c.deref-4.ensures.value c.charge_last.ensures.charged in
-    line_asked c.args.self.now.base c.args.lines.now.items c.push.new.self.items _ (charging_of c.args.ledger.now) (charging_of c.charge_last.new.ledger) c.charge_last.result c.requires.asking c.in_ok-push.ensures.items charged
+    let charged = subst (λ (ls : List LogLine). OnOk c.charge_last.result (IsCharged before (last_line ls) after)) c.deref-4.ensures.value c.charge_last.ensures.charged in
+    let refused = subst (λ (ls : List LogLine). IfErr c.charge_last.result (IsRefused before (last_line ls) after)) c.deref-4.ensures.value c.charge_last.ensures.refused in
+    record {
+      extended = line_charged base lines new line before after c.charge_last.result c.requires.asking pushed added charged;
+      asking = line_asked base lines new line before after c.charge_last.result c.requires.asking pushed charged;
+      excluded = on_ok c.charge_last.result (subst (λ (ls : List LogLine). IsExcluded (clauses_in base ls) c.args.bits.now) (sym pushed) (excluded_by base lines line c.args.bits.now c.in_ok-clause.ensures));
+      stop = line_stopped base lines new line before after c.charge_last.result c.requires.asking pushed added refused;
+    }
