@@ -13,7 +13,7 @@ use Rattle.account_core.specs.Tallies.{port_on}
 use Rattle.class_refine.specs.declared.entry.Entry.{Entry}
 use Rattle.class_refine.specs.declared.entry.Fate.TheVariants.{Held, Deleted}
 use Rattle.class_refine.specs.declared.entry.Cause.{Cause}
-use Rattle.class_refine.specs.Trails.{IsDeleted, IsOpen, gone_in, held_in, is_at, is_held}
+use Rattle.class_refine.specs.Trails.{IsDeleted, gone_in, held_in, is_at, is_held}
 
 -- what a list without its last element is
 pub All-front : {X : Type 0} (P : X → Type 0) (xs : List X) (x : X) → All P (xs ++ x ∷ []) → All P xs
@@ -119,12 +119,6 @@ one_entry es e f distinct one other same = elim (cases_eq one.0 other.0) [
       | inl before ↦ distinct one.0 other.0 e before other.1 (ap (λ (x : Entry). x.pair) one.2 ∙ (same ∙ ap (λ (x : Entry). x.pair) (sym (get_or_default es other.0 e f other.1 ∙ other.2))))
       | inr after ↦ distinct other.0 one.0 e (omega (arith, after, apart)) one.1 (ap (λ (x : Entry). x.pair) (get_or_default es other.0 e f other.1 ∙ other.2) ∙ (sym same ∙ ap (λ (x : Entry). x.pair) (sym one.2)))
     ]
-
-pub open_undeleted : (es : List Entry) (p : Pair) → IsOpen es p → IsDeleted es p → ⊥
-open_undeleted es p none deleted =
-    let e : Entry = record { pair = p; fate = Deleted deleted.0 } in
-    let there = deleted.1 in
-    none there.0 e there.1 (ap (λ (x : Entry). x.pair) there.2)
 
 held_is_not_deleted : (c : Cause) (e f : Entry) → e.fate ≡ Held c → e ≡ f → is_held f.fate ≡ true
 held_is_not_deleted c e f is same = ap (λ (x : Entry). is_held x.fate) (sym same) ∙ ap is_held is

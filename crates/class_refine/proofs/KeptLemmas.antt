@@ -1,7 +1,7 @@
 -- What is kept, with one entry more and one less.
-use Rattle.std.proofs.Common.{◌≡◌, ◌≢◌, ℕ, ◌+◌, ◌-◌, ◌*◌, ◌^◌, ◌<◌, ◌≤◌, ◌&&◌, not, true, false, take, drop, List, [], ◌∷◌, ◌++◌, length, get_or, set, replicate, All, AllPairs, Contains, Option, Some, None, refl, sym, ap, subst, ◌∙◌, inl, inr, arith}
+use Rattle.std.proofs.Common.{◌≡◌, ◌≢◌, ℕ, ◌+◌, ◌-◌, ◌*◌, ◌^◌, ◌<◌, ◌≤◌, ◌&&◌, not, true, false, take, drop, List, [], ◌∷◌, ◌++◌, length, get_or, set, All, AllPairs, Contains, Option, Some, None, refl, sym, ap, subst, ◌∙◌, inl, inr, arith}
 use Rattle.std.proofs.lemmas.Bool.{cases_Bool, cases_eq, false≢true}
-use Rattle.std.proofs.lemmas.List.{get_or_append_left, get_or_at, get_or-replicate, get_or-set_other, get_or-set_same, length-replicate, length-set, length_push, take_at, take-take}
+use Rattle.std.proofs.lemmas.List.{get_or_append_left, get_or_at, get_or-set_other, get_or-set_same, length-set, length_push, take_at, take-take}
 use Rattle.std.proofs.lemmas.List.Elements.{All-push, Contains-append_left, Contains-push, Contains-push_cases}
 use Rattle.std.proofs.lemmas.List.Quantifiers.{all_pairs_push}
 use Rattle.std.proofs.lemmas.List.Sums.{count_by-le-length}
@@ -12,10 +12,10 @@ use Rattle.net_core.specs.declared.graphs.Side.TheVariants.{First, Second}
 use Rattle.account_core.specs.Tallies.{port_on}
 use Rattle.port_sides.specs.Held.{AreApart}
 use Rattle.class_refine.specs.declared.entry.Entry.{Entry}
-use Rattle.class_refine.specs.Numbers.{at_ports, pair_number, pairs_of_ports, port_number}
+use Rattle.class_refine.specs.Numbers.{at_ports, pair_number, port_number}
 use Rattle.class_refine.specs.Trails.{Domained, AreEntries, IsFreePort, IsOpen, IsPairOf, held_in, is_at, is_held, ports_of}
 use Rattle.class_refine.specs.Kept.{AreCounts, AreHolders, ArePlaces, IsKept, TellsHeld, TellsPlace}
-use Rattle.class_refine.proofs.NumberLemmas.{pair_number_below, pair_number_same, port_number_below}
+use Rattle.class_refine.proofs.NumberLemmas.{pair_number_below, pair_number_same}
 use Rattle.class_refine.proofs.EntryLemmas.{All-front, All-last, AllPairs-front, AllPairs-last, at_of, gone_deleted, gone_held, held_more, held_same, none_of_false, of_at, one_of_true}
 use Rattle.class_refine.proofs.TableLemmas.{both, both_at, both_other, both_size, counted_at, counted_other, counted_size}
 
@@ -238,25 +238,6 @@ counts_fewer n m es e gs known is are = record {
   ];
 }
 
--- all of it
-pub kept_none : (n m : ℕ) (ws : List Pair) (ps : List (Option ℕ)) (hs : List (Option Pair)) (gs : List ℕ) → ws ≡ [] → ps ≡ replicate (pairs_of_ports n m) None → hs ≡ replicate (2 * n + 2 * m) None → gs ≡ replicate (2 * n + 2 * m) 0 → IsKept n m [] ws ps hs gs
-kept_none n m ws ps hs gs pairs places held gone = record {
-  entries_are = record { known = λ k d below. absurd (omega (arith, below)); distinct = λ i j d order below. absurd (omega (arith, below)); apart = λ i j d order below. absurd (omega (arith, below)) };
-  pairs_are = pairs;
-  places_are = record {
-    size = ap length places ∙ length-replicate (pairs_of_ports n m) None;
-    tells = λ pair known. subst (TellsPlace [] pair) (sym (ap (λ l. get_or l (pair_number n m pair) None) places ∙ get_or-replicate (pairs_of_ports n m) (pair_number n m pair) None None (pair_number_below n m pair known))) (record { found = tt; none = λ k d below. absurd (omega (arith, below)) });
-  };
-  holders_are = record {
-    size = ap length held ∙ length-replicate (2 * n + 2 * m) None;
-    tells = λ side kind port below. subst (TellsHeld [] side kind port) (sym (ap (λ l. get_or l (port_number n m side kind port) None) held ∙ get_or-replicate (2 * n + 2 * m) (port_number n m side kind port) None None (port_number_below n m side kind port below))) (record { found = tt; none = λ k d within. absurd (omega (arith, within)) });
-  };
-  gone_are = record {
-    size = ap length gone ∙ length-replicate (2 * n + 2 * m) 0;
-    tells = λ side kind port below. ap (λ l. get_or l (port_number n m side kind port) 0) gone ∙ get_or-replicate (2 * n + 2 * m) (port_number n m side kind port) 0 0 (port_number_below n m side kind port below);
-  };
-}
-
 pub kept_held : (n m : ℕ) (es : List Entry) (e : Entry) (ws : List Pair) (ps : List (Option ℕ)) (hs : List (Option Pair)) (gs : List ℕ) (k : ℕ) → IsKept n m es ws ps hs gs → is_held e.fate ≡ true → IsPairOf n m e.pair → IsOpen es e.pair → IsFreePort es First e.pair.kind e.pair.from → IsFreePort es Second e.pair.kind e.pair.to → k ≡ length es → IsKept n m (es ++ e ∷ []) (ws ++ e.pair ∷ []) (set ps (pair_number n m e.pair) (Some k)) (both n m e.pair (Some e.pair) hs) gs
 kept_held n m es e ws ps hs gs k are is known free from to last = record {
   entries_are = entries_held n m es e are.entries_are is known free from to;
@@ -329,10 +310,3 @@ goes_back was now next count is more inputs outputs one front = record {
 
 abbrev made : ℕ → ℕ → List Entry → Domained
 made inputs outputs entries = record { inputs = inputs; outputs = outputs; entries = entries }
-
-pub gone_back : (was now : Domained) (count : ℕ) → IsGoingBack was now count → length now.entries ≤ count → now ≡ record was { entries = take count was.entries }
-gone_back was now count is few =
-    let same : length now.entries ≡ count = omega (arith, few, is.enough) in
-    ap (λ i. made i now.outputs now.entries) is.inputs
-    ∙ (ap (λ o. made was.inputs o now.entries) is.outputs
-    ∙ ap (made was.inputs was.outputs) (is.front ∙ ap (λ k. take k was.entries) same))

@@ -1,7 +1,7 @@
 -- Conflicts that are resolved on, one held pair after the other.
 use Rattle.std.proofs.Common.{◌≡◌, ◌≢◌, ◌⊎◌, ℕ, ◌+◌, ◌-◌, ◌<◌, ◌≤◌, List, [], ◌∷◌, length, get_or, take, All, Contains, refl, sym, subst, ◌∙◌, inl, inr, arith}
 use Rattle.std.proofs.lemmas.Bool.{cases_lt, cases_eq}
-use Rattle.std.proofs.lemmas.List.{get_or_default, get_or-take, length-take-le, take_all, take_more}
+use Rattle.std.proofs.lemmas.List.{get_or_default, get_or-take, length-take-le, take_more}
 use Rattle.std.proofs.lemmas.List.Elements.{All-contains, Contains-push_cases}
 use Rattle.circuits.specs.declared.port.Pair.{Pair}
 use Rattle.net_core.specs.Sides.{Graphs}
@@ -11,15 +11,12 @@ use Rattle.class_refine.specs.Trails.{held_in}
 use Rattle.conflict_core.specs.declared.conflict.Conflict.{Conflict}
 use Rattle.conflict_core.specs.Conflicts.{IsConflict, IsLastOf}
 use Rattle.conflict_core.specs.Grounded.{LearnsMore}
-use Rattle.conflict_core.proofs.GroundedLemmas.{learns_none, learns_twice}
+use Rattle.conflict_core.proofs.GroundedLemmas.{learns_twice}
 
 -- none of the held pairs from a place on, of the first ones, is one of some
 pub record ArePassed (held pairs : List Pair) (left limit : ℕ) : Type 0 where
   pub order : left ≤ limit
   pub none : (k : ℕ) (d : Pair) → left ≤ k → k < limit → Contains pairs (get_or held k d) → ⊥
-
-pub passed_none : (held pairs : List Pair) (limit : ℕ) → ArePassed held pairs limit limit
-passed_none held pairs limit = record { order = omega arith; none = λ k d from below. absurd (omega (arith, from, below)) }
 
 pub passed_more : (held pairs : List Pair) (left limit : ℕ) → 0 < left → ArePassed held pairs left limit → ((d : Pair) → Contains pairs (get_or held (left - 1) d) → ⊥) → ArePassed held pairs (left - 1) limit
 passed_more held pairs left limit some are here = record { order = omega (arith, are.order); none = λ k d from below. by_place k d from below (cases_eq k (left - 1)) }
@@ -45,13 +42,6 @@ pub record IsResolving (graphs : Graphs) (entries : List Entry) (before now : Li
   pub within : limit ≤ length (held_in entries)
   pub conflict_is : IsConflict now (take limit (held_in entries)) conflict
   pub more : LearnsMore graphs entries before now
-
-pub resolving_start : (graphs : Graphs) (entries : List Entry) (bans : List Ban) (conflict : Conflict) (limit : ℕ) → limit ≡ length (held_in entries) → IsConflict bans (held_in entries) conflict → IsResolving graphs entries bans bans conflict limit
-resolving_start graphs entries bans conflict limit all is = record {
-  within = omega (arith, all);
-  conflict_is = subst (λ (l : List Pair). IsConflict bans l conflict) (sym (take_all limit (held_in entries) (omega (arith, all)))) is;
-  more = learns_none graphs entries bans;
-}
 
 -- what is among the first held pairs, and none of the later ones, is among those up to the last
 pub up_to_last : (held pairs : List Pair) (limit last : ℕ) (pair : Pair) → limit ≤ length held → IsLastOf held limit pairs last → Contains pairs pair → Contains (take limit held) pair → Contains (take (last + 1) held) pair

@@ -1,5 +1,5 @@
 -- Clauses that are collected, their variables that are listed, and the places of these.
-use Rattle.std.proofs.Common.{◌≡◌, ◌≢◌, if◌then◌else◌, ℕ, ◌+◌, ◌-◌, ◌<◌, ◌≤◌, ◌^◌, not, eqb, ne_eqb, Bool, true, false, List, [], ◌∷◌, ◌++◌, length, map, take, replicate, All, Contains, slice_index_or, slice_set, inl, inr, refl, sym, ◌∙◌, ap, subst, arith}
+use Rattle.std.proofs.Common.{◌≡◌, ◌≢◌, if◌then◌else◌, ℕ, ◌+◌, ◌-◌, ◌<◌, ◌≤◌, ◌^◌, eqb, ne_eqb, Bool, true, false, List, [], ◌∷◌, ◌++◌, length, map, take, replicate, All, Contains, slice_index_or, slice_set, inl, inr, refl, sym, ◌∙◌, ap, subst, arith}
 use Rattle.std.specs.List.{IsDistinct, list_any, range_with_len}
 use Rattle.std.specs.List.Sorted.{IsPermutation}
 use Rattle.std.proofs.lemmas.Bool.{cases_eq, cases_lt, eq-eqb, false≢true}
@@ -8,21 +8,19 @@ use Rattle.std.proofs.lemmas.Cmp.{nat_eq_equiv}
 use Rattle.std.proofs.lemmas.List.{append_assoc, get_or_append_left, get_or_at, get_or_default, get_or-append_right, get_or-map, get_or-set_same, get_or-set_other, length-append, length-map, length-replicate, length-set, map-append, take_more}
 use Rattle.std.proofs.lemmas.List.FromFn.{fill_by_all, get_or-map-range_with_len, length-map-range_with_len, map-range_with_len_more}
 use Rattle.std.proofs.lemmas.List.Folds.{list_any_none}
-use Rattle.std.proofs.lemmas.List.Elements.{All-map, All-push, All-set, Contains-append_left, Contains-push}
+use Rattle.std.proofs.lemmas.List.Elements.{All-map, All-push, Contains-append_left, Contains-push}
 use Rattle.std.proofs.lemmas.List.Sorted.{All-permutation, Contains-permutation}
 use Rattle.std.proofs.lemmas.Map.Keys.{IsDistinct-push, IsDistinct-IsPermutation, apart_from_distinct}
 use Rattle.circuits.specs.Literals.{bit}
 use Rattle.cnf_core.specs.declared.literal.SatLit.{SatLit}
 use Rattle.cnf_core.specs.declared.clause.Clause3.{Clause3}
 use Rattle.cnf_core.specs.declared.log.LogLine.{LogLine}
-use Rattle.cnf_core.specs.Clauses.{Formula, clause_at, is_negated, literal_of, literals_of, variable_of}
+use Rattle.cnf_core.specs.Clauses.{Formula, clause_at, literals_of, variable_of}
 use Rattle.cnf_core.specs.Derivations.{clauses_of}
 use Rattle.watch_lists.specs.Propagations.{AreKnown}
 use Rattle.dense_solver.specs.Renamings.{AreListed, AreMarks, AreNames, AreOver, ArePlaces, AreTurned, IsNamed, IsOver, IsRenaming, numbers_of, renamed}
 use Rattle.number_marks.proofs.MarkLemmas.{marked_where}
 use Rattle.learn_solver.proofs.AnalysisLemmas.{unmarked_bit}
-use Rattle.cnf_core.proofs.LiteralLemmas.{itself, variable_of-literal}
-use Rattle.dense_solver.proofs.LineLemmas.{is_negated-literal, turned_twice}
 
 -- the first names have their places
 pub record IsPlacing (variables : ℕ) (names places : List ℕ) (count : ℕ) : Type 0 where
@@ -72,14 +70,6 @@ place_at variables names places v are (k, within, is) =
     let place : slice_index_or places v 0 ≡ k = ap (λ w. slice_index_or places w 0) (sym at_k) ∙ are.each k within in
     (omega (arith, place, within), ap (λ j. slice_index_or names j 0) place ∙ at_k)
 
--- over its place and back
-pub back_again : (names : List ℕ) (place : ℕ) (l m : SatLit) → place < length names → slice_index_or names place 0 ≡ variable_of l → m ≡ literal_of place (not (is_negated l)) → (renamed names m ≡ l) × (variable_of m < length names)
-back_again names place l m there at m_is =
-    let s = not (is_negated l) in
-    let variable : variable_of m ≡ place = ap variable_of m_is ∙ variable_of-literal place s in
-    let sign : not (is_negated m) ≡ s = ap not (ap is_negated m_is ∙ is_negated-literal place s) ∙ turned_twice s in
-    (ap (λ v. literal_of (slice_index_or names v 0) (not (is_negated m))) variable ∙ (ap (λ b. literal_of (slice_index_or names place 0) b) sign ∙ (ap (λ v. literal_of v s) at ∙ itself l)), omega (arith, variable, there))
-
 -- one clause more over the places
 pub turned_more : (names : List ℕ) (clauses : List Clause3) (i : ℕ) (dense new : List Clause3) (t : Clause3) (clause : List SatLit) (d : Clause3) → AreTurned names clauses dense i → i < length clauses → clause ≡ literals_of (slice_index_or clauses i d) → 1 ≤ length clause → map (renamed names) (literals_of t) ≡ clause → AreKnown (length names) (literals_of t) → 1 ≤ t.len → t.len ≤ 3 → new ≡ dense ++ t ∷ [] → AreTurned names clauses new (i + 1)
 turned_more names clauses i dense new t clause d is within clause_is filled back known some short new_is = subst (λ ts. AreTurned names clauses ts (i + 1)) (sym new_is) (record {
@@ -97,22 +87,6 @@ turned_more names clauses i dense new t clause d is within clause_is filled back
         ap (λ (x : Clause3). map (renamed names) (literals_of x)) (get_or_at dense t [] c k (is.size ∙ sym last)) ∙ (back ∙ (clause_is ∙ (ap literals_of (get_or_default clauses i d e within) ∙ ap (λ j. literals_of (slice_index_or clauses j e)) (sym last))))
   ];
 })
-
--- one place more
-pub placing_more : (variables : ℕ) (names places new : List ℕ) (i v : ℕ) → AreNames variables names → IsPlacing variables names places i → i < length names → v ≡ slice_index_or names i v → i < 2 ^ 63 → new ≡ slice_set places v i → IsPlacing variables names new (i + 1)
-placing_more variables names places new i v are is within v_is small new_is =
-    let v_at : v ≡ slice_index_or names i 0 = v_is ∙ get_or_default names i v 0 within in
-    let low : v < length places = omega (arith, v_at, are.known i 0 within, is.size) in
-    subst (λ ps. IsPlacing variables names ps (i + 1)) (sym new_is) (record {
-      size = length-set places v i ∙ is.size;
-      few = All-set (λ place. place < 2 ^ 63) places v i small is.few;
-      each = λ k below. elim (cases_lt k i) [
-        | inl before ↦ get_or-set_other places v (slice_index_or names k 0) i 0 (λ e. omega (arith, are.apart k i (omega (arith, before, within)) within (e ∙ v_at), before)) ∙ is.each k before
-        | inr late ↦
-            let last : k ≡ i = omega (arith, late, below) in
-            ap (λ w. slice_index_or (slice_set places v i) w 0) (ap (λ j. slice_index_or names j 0) last ∙ sym v_at) ∙ (get_or-set_same places v i 0 low ∙ sym last)
-      ];
-    })
 
 -- what isn't marked isn't listed
 not_among : (marked : List Bool) (v : ℕ) (names : List ℕ) → bit marked v ≡ false → All (λ w. bit marked w ≡ true) names → list_any (eqb v) names ≡ false
@@ -269,14 +243,6 @@ whole_made n wanted names told dense over turned =
     sym (get_or-map (map (renamed names)) (map literals_of dense) k [] [] (omega (arith, low, turned.size, dense_size))
     ∙ (ap (map (renamed names)) (get_or-map literals_of dense k none [] (omega (arith, low, turned.size)))
     ∙ (turned.back k none none low ∙ sym (get_or-map literals_of told k none [] low)))))
-
--- no name has a bit at first
-pub spreading_none : (variables : ℕ) (names : List ℕ) (values full : List Bool) → full ≡ replicate variables false → IsSpreading variables names values full 0
-spreading_none variables names values full is = subst (λ bs. IsSpreading variables names values bs 0) (sym is) (record {
-  size = length-replicate variables false;
-  each = λ k below. absurd (omega (arith, below));
-  rest = λ v apart. unmarked_bit variables v;
-})
 
 -- one bit more
 pub spreading_more : (variables : ℕ) (names : List ℕ) (values full new : List Bool) (i v : ℕ) (b : Bool) → AreNames variables names → IsSpreading variables names values full i → i < length names → v ≡ slice_index_or names i v → b ≡ bit values i → new ≡ (if b then slice_set full v true else full) → IsSpreading variables names values new (i + 1)

@@ -1,5 +1,5 @@
 -- The numbers of the cones' clauses, one after the other, and what is known once one more was gone over.
-use Rattle.std.proofs.Common.{◌≡◌, ◌↔◌, ◌==◌, ℕ, zero, suc, ◌+◌, ◌%◌, ◌<◌, ◌≤◌, false, List, [], length, nat_lt, All, AllPairs, Contains, None, Some, slice_index_or, inl, inr, sym, ◌∙◌, ap, subst, arith, lt-ltb, eq-eqb}
+use Rattle.std.proofs.Common.{◌≡◌, ◌↔◌, ◌==◌, ℕ, zero, suc, ◌+◌, ◌%◌, ◌<◌, ◌≤◌, false, List, [], length, nat_lt, All, AllPairs, Contains, slice_index_or, inl, inr, sym, ◌∙◌, ap, subst, arith, lt-ltb, eq-eqb}
 use Rattle.std.proofs.lemmas.Bool.{and_from, cases_lt, cases_eq, false≢true}
 use Rattle.std.proofs.lemmas.List.{get_or_default}
 use Rattle.cnf_core.specs.declared.literal.SatLit.{SatLit}
@@ -8,14 +8,13 @@ use Rattle.net_core.specs.Sides.{Graphs}
 use Rattle.net_core.specs.Graph.{IsGraph}
 use Rattle.claim_core.specs.declared.query.Query.{Query}
 use Rattle.claim_core.specs.Queries.{IsQuery}
-use Rattle.claim_core.specs.Formulas.{formula_of, query_clauses}
+use Rattle.claim_core.specs.Formulas.{query_clauses}
 use Rattle.claim_core.specs.ConeClauses.{IsConeId}
 use Rattle.joint_hash.specs.declared.gates.ConeGate.{ConeGate}
 use Rattle.joint_hash.specs.declared.twins.Twin.{Twin}
 use Rattle.joint_hash.specs.Trees.{AreJoined, IsGateOf}
 use Rattle.joint_hash.specs.Classes.{IsUnderWay, IsVisited, first_with, is_last, twin_of}
 use Rattle.joint_hash.proofs.GateLemmas.{gate_cone, gate_there, gate_third, nested}
-use Rattle.joint_hash.proofs.LineLemmas.{no_lemmas}
 use Rattle.joint_hash.proofs.TreeLemmas.{joined_all}
 
 -- ---- nothing is between two limits
@@ -103,19 +102,6 @@ module _ (graphs : Graphs) (query : Query) (ids : List ℕ) (ascending : AllPair
       last (suc k) within = omega (arith, there k 0 (omega (arith, within)))
 
 -- ---- at the start and at the end
-
-pub under_way_first : (graphs : Graphs) (query : Query) (lines : List LogLine) (firsts : List ((SatLit × SatLit) × ConeGate)) (twins : List (ℕ × Twin)) → lines ≡ [] → firsts ≡ [] → twins ≡ [] → IsUnderWay graphs query 0 lines firsts twins
-under_way_first graphs query lines firsts twins no_lines no_firsts no_twins =
-    subst (λ (fs : List ((SatLit × SatLit) × ConeGate)). IsUnderWay graphs query 0 lines fs twins) (sym no_firsts) (subst (λ (ts : List (ℕ × Twin)). IsUnderWay graphs query 0 lines [] ts) (sym no_twins) (record {
-      lemmas = no_lemmas (formula_of graphs query) lines no_lines;
-      merged = record {
-        are_twins = λ v twin is. absurd (let e : None ≡ Some twin = is in cc);
-        have_gates = λ v twin is. absurd (let e : None ≡ Some twin = is in cc);
-        kept = λ p gate is. absurd (let e : None ≡ Some gate = is in cc);
-        found = λ gate visited. absurd (omega (arith, visited.early));
-        sound = λ same is l. is.reflexive l;
-      };
-    }))
 
 pub all_joined : (graphs : Graphs) (query : Query) (lines : List LogLine) (firsts : List ((SatLit × SatLit) × ConeGate)) (twins : List (ℕ × Twin)) → IsGraph graphs.first → IsGraph graphs.second → IsQuery graphs query → IsUnderWay graphs query (length (query_clauses graphs query)) lines firsts twins → AreJoined graphs query lines
 all_joined graphs query lines firsts twins first second fits way gate is =

@@ -24,11 +24,6 @@ pub unrefuted_more : (lines : List LogLine) (line : LogLine) → list_any is_emp
 unrefuted_more lines line unrefuted filled =
     ap (list_any is_empty) (clauses_more lines line) ∙ (list_any-append is_empty (clauses_of lines) (line.clause ∷ []) ∙ or_from (list_any is_empty (clauses_of lines)) (is_empty line.clause || false) unrefuted (or_from (is_empty line.clause) false filled refl))
 
--- less is left to do after a decision, and after a learned line
-pub less_decided : {O : Type 0} (charging : Charging O) (old new : Trailing) → new.variables ≡ old.variables → length old.entries < length new.entries → length new.entries ≤ new.variables → remaining charging new < remaining charging old
-less_decided {O} charging old new variables longer most =
-    omega (arith, ap (λ v. (v + 1) * (charging.budget + 1 - charging.made)) variables, variables, longer, most)
-
 pub less_learned : {O : Type 0} (line : LogLine) (first after : Charging O) (old new : Trailing) → new.variables ≡ old.variables → IsCharged first line after → remaining after new < remaining first old
 less_learned {O} line first after old new variables charged =
     let n = old.variables + 1 in

@@ -1,16 +1,15 @@
 -- Marks of variables on the trail, and how they are taken away along it.
-use Rattle.std.proofs.Common.{◌≡◌, ℕ, suc, ◌+◌, ◌<◌, Bool, false, List, [], ◌∷◌, length, replicate, slice_set, refl, sym, ◌∙◌, ap, inl, inr, arith}
+use Rattle.std.proofs.Common.{◌≡◌, ℕ, suc, ◌+◌, ◌<◌, Bool, false, List, [], ◌∷◌, length, replicate, slice_set, refl, sym, ◌∙◌, ap, inl, inr}
 use Rattle.std.proofs.lemmas.Bool.{both_ways, cases_eq, false≢true, false_from_ne_true}
-use Rattle.std.proofs.lemmas.List.{get_or-set_same, get_or-set_other, length-set}
+use Rattle.std.proofs.lemmas.List.{get_or-set_same, get_or-set_other}
 use Rattle.circuits.specs.Literals.{bit}
 use Rattle.cnf_core.specs.declared.literal.SatLit.{SatLit}
 use Rattle.cnf_core.specs.Clauses.{variable_of}
 use Rattle.trail_core.specs.declared.assigned.Assigned.{Assigned}
-use Rattle.trail_core.specs.Trails.{IsTrail, Trailing, entry_at}
+use Rattle.trail_core.specs.Trails.{Trailing, entry_at}
 use Rattle.learn_solver.specs.declared.conflict.Analysis.{Analysis}
 use Rattle.learn_solver.specs.Analyses.{AreOnTrail, IsAnalysis}
 use Rattle.learn_solver.proofs.AnalysisLemmas.{unmarked_bit}
-use Rattle.learn_solver.proofs.MarkLemmas.{still}
 
 -- An analysis is under way, with marks of variables that are on the trail.
 pub record IsResolving (clauses : List (List SatLit)) (trail : Trailing) (marked : List Bool) (analysis : Analysis) : Type 0 where
@@ -31,19 +30,6 @@ unset_on_trail es marked v known before w was = elim (cases_eq w v) [
   | inl same ↦ absurd (false≢true (sym (ap (bit (slice_set marked v false)) same ∙ get_or-set_same marked v false false known) ∙ was))
   | inr other ↦ before w (sym (get_or-set_other marked v w false false other) ∙ was)
 ]
-
--- the mark of one literal more is taken away
-pub clearing_more : (t : Trailing) → IsTrail t → (marked : List Bool) (count v : ℕ) → IsClearing t marked count → count < length t.entries → v ≡ variable_of (entry_at t.entries count).literal → IsClearing t (slice_set marked v false) (count + 1)
-clearing_more t trail marked count v is within at =
-    let known : v < length marked = omega (arith, at, trail.known count within, is.size) in
-    record {
-      size = length-set marked v false ∙ is.size;
-      on_trail = unset_on_trail t.entries marked v known is.on_trail;
-      cleared = λ j below. elim (cases_eq j count) [
-        | inl same ↦ ap (λ k. bit (slice_set marked v false) (variable_of (entry_at t.entries k).literal)) same ∙ (ap (bit (slice_set marked v false)) (sym at) ∙ get_or-set_same marked v false false known)
-        | inr other ↦ still marked v (variable_of (entry_at t.entries j).literal) false known (is.cleared j (omega (arith, below, other)))
-      ];
-    }
 
 all_unset : (marked : List Bool) → ((v : ℕ) → bit marked v ≡ false) → marked ≡ replicate (length marked) false
 all_unset [] none = refl

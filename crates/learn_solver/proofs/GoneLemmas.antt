@@ -15,9 +15,8 @@ use Rattle.trail_core.specs.Trails.{IsTrail, Trailing, entry_at, literals, nothi
 use Rattle.trail_core.proofs.TrailLemmas.{place_of_true, same_place}
 use Rattle.watch_lists.specs.Feet.{IsReached}
 use Rattle.watch_lists.specs.Propagations.{IsGrown, IsJustified, IsSound, before}
-use Rattle.watch_lists.specs.Threads.{IsAttached}
 use Rattle.watch_lists.specs.Watched.{Fits, IsCovered, IsPresent, IsRewatched, IsRooted, Watching, loose_watch, with_clause}
-use Rattle.watch_lists.proofs.AttachLemmas.{attached_added, attached_longer}
+use Rattle.watch_lists.proofs.AttachLemmas.{attached_longer}
 use Rattle.watch_lists.proofs.EffectLemmas.{conflict_says, same_literal}
 use Rattle.learn_solver.specs.Analyses.{IsAsserting}
 use Rattle.learn_solver.specs.Starts.{IsBack, IsFitting}
@@ -151,11 +150,6 @@ freed old back level clause trail is asserting above conflict =
 -- the clause that was added
 pub added_at : (w : Watching) (clause : List SatLit) → clause_at (w.clauses ++ clause ∷ []) (length w.clauses) ≡ clause
 added_at w clause = get_or_at w.clauses clause [] [] (length w.clauses) refl
-
-pub added_loose : (w : Watching) (clause : List SatLit) → length w.watches ≡ 2 * length w.clauses → IsAttached (with_clause clause w).watches (2 * length w.clauses) → ⊥
-added_loose w clause size attached =
-    let old = attached_added w.watches (loose_watch clause) (omega (arith, size)) (2 * length w.clauses) (omega (arith, size)) attached in
-    omega (arith, old.0, size)
 
 -- what was covered before is covered after going back with one clause more
 pub back_covered : (w : Watching) (clause : List SatLit) (old back : Trailing) (level id : ℕ) → length w.watches ≡ 2 * length w.clauses → IsBack old back level → id < length w.clauses → IsCovered w old.entries id → IsCovered (with_clause clause w) back.entries id

@@ -12,7 +12,7 @@ use Rattle.watch_lists.specs.Propagations.{IsReason, before}
 use Rattle.learn_solver.specs.Analyses.{AreMarked, AreOnTrail, IsAnalysed, IsReduced, IsReducing, StayFrom, StayMarked, here_in, is_marked, kept_here}
 use Rattle.learn_solver.proofs.DeriveLemmas.{IsAway, derive_away}
 use Rattle.learn_solver.proofs.MarkLemmas.{apart, same_count}
-use Rattle.learn_solver.proofs.PlaceLemmas.{ascend, is_counted, no_literal, stands, true_further, variable_of-opposite}
+use Rattle.learn_solver.proofs.PlaceLemmas.{ascend, is_counted, no_literal, stands, variable_of-opposite}
 
 -- at the analysis' end nothing is minimized yet
 pub reduced_start : (clauses : List (List SatLit)) (t : Trailing) (marked : List Bool) (below here : ℕ) (steps : List ℕ) → IsAnalysed clauses t marked below here steps → here ≤ kept_here t.level → IsReduced clauses t marked below here steps below
@@ -24,24 +24,6 @@ reduced_start clauses t marked below here steps is few = record {
   present = is.present;
   few = few;
   derives = is.derives;
-}
-
--- a literal stays as it is
-pub reduced_down : (clauses : List (List SatLit)) (t : Trailing) (marked : List Bool) (below here place : ℕ) (steps : List ℕ) → IsReduced clauses t marked below here steps (place + 1) → IsReduced clauses t marked below here steps place
-reduced_down clauses t marked below here place steps is = record {
-  size = is.size;
-  within = is.within;
-  low = omega (arith, is.low);
-  count = is.count;
-  present = is.present;
-  few = is.few;
-  derives = λ made left. is.derives made (record {
-    needed = left.needed;
-    within = λ l holds. elim (left.within l holds) [
-      | inl early ↦ inl (true_further t.entries place (place + 1) l (omega arith) early)
-      | inr kept ↦ inr kept
-    ];
-  });
 }
 
 -- marking a reason's variables and taking the mark of its literal away does that

@@ -1,19 +1,15 @@
 -- A search that goes on from one part of the question to the next.
-use Rattle.std.proofs.Common.{◌≡◌, ◌<◌, All, Option, None, Some, Result, IfErr, sym, subst}
+use Rattle.std.proofs.Common.{◌≡◌, ◌<◌, Option, None, Some, Result, IfErr, subst}
 use Rattle.std.specs.Result.{IsErrAnd}
 use Rattle.cnf_core.specs.declared.stop.Stop.{Stop}
 use Rattle.cnf_core.specs.Charges.{Charging}
 use Rattle.learn_solver.specs.declared.search.Search.{Search}
 use Rattle.learn_solver.specs.declared.verdict.Finding.{Finding}
-use Rattle.learn_solver.specs.Searches.{CanGo, HasEnded, HasGone, HasTurned, IsRunning}
+use Rattle.learn_solver.specs.Searches.{CanGo, HasEnded, HasGone, HasTurned}
 use Rattle.learn_solver.specs.Solvers.{IsStopped, Solving}
 use Rattle.learn_solver.proofs.AdvanceLemmas.{extended_none, extended_twice, stopped_after}
 use Rattle.learn_solver.proofs.RunLemmas.{running_again}
 use Rattle.learn_solver.proofs.StepLemmas.{passed_on}
-
--- the variables that are decided are those of the trail
-pub decided_known : (s : Solving) (search : Search) → IsRunning s search.trail search.watches search.tools → All (λ v. v < search.trail.variables) search.tools.occurring.items
-decided_known s search is = subst (λ n. All (λ v. v < n) search.tools.occurring.items) (sym is.learning.searching.variables) is.learning.tools_are.variables.known
 
 -- ---- a search that went on, without an answer so far
 

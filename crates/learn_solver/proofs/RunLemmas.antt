@@ -23,7 +23,7 @@ use Rattle.learn_solver.specs.declared.search.Search.{Search}
 use Rattle.learn_solver.specs.declared.search.Tools.{Tools}
 use Rattle.learn_solver.specs.Orders.{IsOrder}
 use Rattle.learn_solver.specs.Searches.{CanReturn, CanTurn, HasReturned, HasTurned, IsDecided, IsLesson, IsRunning, IsSame, IsSearching}
-use Rattle.learn_solver.specs.Solvers.{HaveVariables, IsSolver, Solving, active, wanted}
+use Rattle.learn_solver.specs.Solvers.{IsSolver, Solving, active}
 use Rattle.learn_solver.specs.Starts.{IsFitting, IsSoundBack, StayTools}
 use Rattle.learn_solver.proofs.AdvanceLemmas.{running_from, unrefuted_more}
 use Rattle.learn_solver.proofs.GoneLemmas.{covered_grown, front_at, front_within, justified_back, low_at}
@@ -116,14 +116,6 @@ decided_on s old new w tools tools_new l is stay quiet walked new_is room = subs
 
     fits : Fits w (record old { entries = old.entries ++ e ∷ [] })
     fits = fits_grown w old (record old { entries = old.entries ++ e ∷ [] }) e is.fitting.fits (omega (arith, walked)) refl
-
--- what is kept of the variables, with another order
-pub stay_from : (n : ℕ) (old new : Tools) → new.occurring.items ≡ old.occurring.items → new.marks.items ≡ old.marks.items → IsOrder n old.order → IsOrder n new.order → StayTools old new
-stay_from n old new occurring marks before after formula ids are = record {
-  variables = subst (HaveVariables formula.variables (wanted formula ids)) (sym occurring) are.variables;
-  unmarked = marks ∙ are.unmarked;
-  order = subst (λ k. IsOrder k new.order) (sym before.heap ∙ are.order.heap) after;
-}
 
 -- ---- going back with a learned line
 

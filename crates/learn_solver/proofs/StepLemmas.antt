@@ -4,7 +4,6 @@ use Rattle.std.specs.Result.{IsErrAnd}
 use Rattle.std.specs.List.{list_any, list_all}
 use Rattle.std.proofs.lemmas.Bool.{both_ways, false_from_ne_true, lt-ltb}
 use Rattle.std.proofs.lemmas.List.{get_or_at, length-append, take_at}
-use Rattle.std.proofs.lemmas.List.Elements.{All-append}
 use Rattle.std.proofs.lemmas.Simd.{map-map}
 use Rattle.std.proofs.lemmas.List.Folds.{list_any_at}
 use Rattle.std.proofs.lemmas.List.Recursion.{and_from_places}
@@ -12,12 +11,12 @@ use Rattle.cnf_core.specs.declared.literal.SatLit.{SatLit}
 use Rattle.cnf_core.specs.declared.log.LogLine.{LogLine}
 use Rattle.cnf_core.specs.declared.stop.Stop.{Stop}
 use Rattle.cnf_core.specs.declared.stop.Stop.TheVariants.{Spent, Memory}
-use Rattle.cnf_core.specs.Clauses.{Formula, clause_at, opposite, variable_of}
+use Rattle.cnf_core.specs.Clauses.{clause_at, opposite, variable_of}
 use Rattle.cnf_core.specs.Derivations.{clauses_of, hint_fault, is_empty}
 use Rattle.trail_core.specs.Trails.{Trailing}
 use Rattle.cnf_core.specs.Charges.{Charging, IsCharged, IsRefused}
 use Rattle.learn_solver.specs.Analyses.{IsLearnedAs, has_all}
-use Rattle.learn_solver.specs.Solvers.{IsAdded, IsAsking, IsExtended, IsSolver, IsStopped, Solving, id_at, wanted}
+use Rattle.learn_solver.specs.Solvers.{IsAdded, IsAsking, IsExtended, IsSolver, IsStopped, Solving, id_at}
 use Rattle.learn_solver.specs.Searches.{IsLesson, IsSearching, last_line, no_line}
 use Rattle.learn_solver.proofs.PlaceLemmas.{no_literal}
 use Rattle.learn_solver.proofs.SolverLemmas.{at_number, hints_carried, line_from}
@@ -26,10 +25,6 @@ use Rattle.learn_solver.proofs.SolverLemmas.{at_number, hints_carried, line_from
 none_empty : (cs : List (List SatLit)) → list_any is_empty cs ≡ false → All (λ c. is_empty c ≡ false) cs
 none_empty cs e k d within =
     false_from_ne_true (is_empty (slice_index_or cs k d)) (λ empty. both_ways (list_any is_empty cs) e (list_any_at is_empty cs k d within empty))
-
-pub all_filled : (formula : Formula) (ids : List ℕ) (lines : List LogLine) (clauses : List (List SatLit)) → IsSolver formula ids lines clauses → list_any is_empty (clauses_of lines) ≡ false → All (λ c. is_empty c ≡ false) clauses
-all_filled formula ids lines clauses is unrefuted =
-    subst (λ (cs : List (List SatLit)). All (λ c. is_empty c ≡ false) cs) (sym is.stored) (All-append (λ c. is_empty c ≡ false) (wanted formula ids) (clauses_of lines) is.filled (none_empty (clauses_of lines) unrefuted))
 
 -- what was learned is a lesson
 pub lesson_from : (s : Solving) (t : Trailing) (clauses : List (List SatLit)) (line : LogLine) (steps : List ℕ) (level : ℕ) → IsSolver s.formula s.ids s.lines clauses → IsSearching s t → IsLearnedAs clauses t line.clause steps level → line.hints ≡ map (id_at s.formula s.ids) steps → IsLesson s t line level

@@ -1,5 +1,5 @@
 -- Lines that are written into another log have their numbers there.
-use Rattle.std.proofs.Common.{◌≡◌, ℕ, zero, suc, ◌+◌, ◌-◌, ◌<◌, List, [], ◌∷◌, ◌++◌, length, Option, None, Some, slice_index_or, slice_set, replicate, inl, inr, refl, sym, ◌∙◌, ap, subst, arith}
+use Rattle.std.proofs.Common.{◌≡◌, ℕ, ◌+◌, ◌-◌, ◌<◌, List, [], ◌∷◌, ◌++◌, length, Option, None, Some, slice_index_or, slice_set, inl, inr, sym, ◌∙◌, ap, subst, arith}
 use Rattle.std.proofs.lemmas.Bool.{cases_eq}
 use Rattle.std.proofs.lemmas.List.{get_or_append_left, get_or-append-add, get_or-map, get_or-set_same, get_or-set_other, length-append, length-map}
 use Rattle.cnf_core.specs.declared.log.LogLine.{LogLine}
@@ -45,12 +45,3 @@ listed count source target numbers place number placed low is p n at =
 pub written_more : (count : ℕ) (source target : List LogLine) (numbers : List (Option ℕ)) (own d : LogLine) (place : ℕ) → ArePlaced count source target numbers → place < length source → place < length numbers → own.clause ≡ (slice_index_or source place d).clause → ArePlaced count source (target ++ own ∷ []) (slice_set numbers place (Some (count + length target)))
 written_more count source target numbers own d place placed within low same =
     listed count source (target ++ own ∷ []) numbers place (count + length target) (λ p n at. still_there count source target own p n (placed p n at)) low (written count source target own place (same ∙ sym (get_or-map (λ (l : LogLine). l.clause) source place d [] within)))
-
-none_at : (lines place : ℕ) → slice_index_or {A = Option ℕ} (replicate lines None) place None ≡ None
-none_at zero place = refl
-none_at (suc lines) zero = refl
-none_at (suc lines) (suc place) = none_at lines place
-
--- no line is listed at first
-pub nothing_placed : (count lines : ℕ) (source target : List LogLine) → ArePlaced count source target (replicate lines None)
-nothing_placed count lines source target place n at = absurd (let x : None ≡ Some n = sym (none_at lines place) ∙ at in cc)

@@ -21,11 +21,6 @@ use Rattle.match_search.specs.States.{AreSameLoans, GoesOn, Lent, MayGoOn, MaySt
 use Rattle.match_search.proofs.AskLemmas.{IsUnderWay, held_learned, shown_adds, shown_follows, shown_stays}
 use Rattle.fact_bans.proofs.ServeLemmas.{served_one, serves_err, serves_last}
 
--- what holds is so where there is an answer, and where there is none nothing is asked
-pub on_any : {X : Type 0} (P : Type 0) (result : Result X Stop) → P → OnOk result P
-on_any P (Ok x) p = p
-on_any P (Err e) p = tt
-
 never_ok : {X : Type 0} (P : Type 0) (result : Result X Stop) (stop : Stop) → IsErrAnd result (λ e. e ≡ stop) → OnOk result P
 never_ok P (Ok x) stop is = absurd is
 never_ok P (Err e) stop is = tt

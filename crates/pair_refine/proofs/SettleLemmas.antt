@@ -92,12 +92,6 @@ pub record IsUnderWay (g : Grounds) (bans more : List Ban) (before after : Domai
   pub refines : Refines g.graphs.now (decided g) bans more before after
   pub settled : Settled g bans more before after these
 
-pub way_none : (g : Grounds) (bans : List Ban) (d : Domained) (these : Pair → Type 0) → HaveNoBan bans (held_in d.entries) → ((pair : Pair) → these pair → ⊥) → IsUnderWay g bans bans d d these
-way_none g bans d these no_ban none = record {
-  refines = refines_none g.graphs.now (decided g) bans d;
-  settled = record { no_ban = no_ban; kept = λ pair is. is; settled = λ pair is. absurd (none pair is) };
-}
-
 pub under_way : {E : Type 0} (g : Grounds) (bans more : List Ban) (before after : Domained) (these : Pair → Type 0) → Settles {E = E} g bans more before after these (Ok None) → IsUnderWay g bans more before after these
 under_way g bans more before after these step = record { refines = step.refines; settled = step.settled }
 

@@ -1,7 +1,7 @@
 -- Which signals reach an input whose feeds differ: all of them, and those of one cone.
-use Rattle.std.proofs.Common.{not, replicate, take, ◌≢◌, if◌then◌else◌, ◌≡◌, ℕ, zero, suc, ◌+◌, ◌-◌, ◌<◌, ◌≤◌, ◌||◌, Bool, true, false, List, [], ◌∷◌, ◌++◌, length, set, All, slice_index_or, inl, inr, refl, sym, ap, subst, ◌∙◌, arith}
+use Rattle.std.proofs.Common.{not, take, ◌≢◌, if◌then◌else◌, ◌≡◌, ℕ, zero, suc, ◌+◌, ◌-◌, ◌<◌, ◌≤◌, ◌||◌, Bool, true, false, List, [], ◌∷◌, ◌++◌, length, set, All, slice_index_or, inl, inr, refl, sym, ap, subst, ◌∙◌, arith}
 use Rattle.std.proofs.lemmas.Bool.{cases_lt}
-use Rattle.std.proofs.lemmas.List.{ext_get_or, get_or-replicate, get_or-set_same, get_or-set_other, get_or-take, get_or_append_left, get_or_default, get_or_past, get_or_push, length-replicate, length-set, length-take-le, length_push}
+use Rattle.std.proofs.lemmas.List.{ext_get_or, get_or-set_same, get_or-set_other, get_or-take, get_or_append_left, get_or_default, get_or_push, length-set, length-take-le, length_push}
 use Rattle.circuits.specs.declared.netlist.Gate.{Gate}
 use Rattle.circuits.specs.Literals.{bit, signal_of}
 use Rattle.circuits.specs.Netlists.{Net}
@@ -65,25 +65,6 @@ pub record AreDiffering (left right : List Feed) (signals count : ℕ) (marked :
   pub size : length marked ≡ signals
   pub before : (s : ℕ) → s < count + 1 → bit marked s ≡ bit (false ∷ feeds_differ left right) s
   pub rest : (s : ℕ) → count < s → bit marked s ≡ false
-
--- nothing is marked at first
-pub differing_none : (left right : List Feed) (signals : ℕ) → AreDiffering left right signals 0 (replicate signals false)
-differing_none left right signals = record {
-  size = length-replicate signals false;
-  before = λ s below. first s below;
-  rest = λ s above. unmarked s;
-}
-  where
-    unmarked : (s : ℕ) → bit (replicate signals false) s ≡ false
-    unmarked s =
-        elim (cases_lt s signals) [
-          | inl early ↦ get_or-replicate signals s false false early
-          | inr late ↦ get_or_past (replicate signals false) s false (omega (arith, late, length-replicate signals false))
-        ]
-
-    first : (s : ℕ) → s < 1 → bit (replicate signals false) s ≡ bit (false ∷ feeds_differ left right) s
-    first zero below = unmarked zero
-    first (suc s) below = absurd (omega (arith, below))
 
 -- one input more
 pub differing_more : (left right : List Feed) (signals i : ℕ) (is_so : Bool) (marked new : List Bool) → length left < signals → i < length left → is_so ≡ bit (feeds_differ left right) i → new ≡ (if is_so then set marked (i + 1) true else marked) → AreDiffering left right signals i marked → AreDiffering left right signals (i + 1) new

@@ -7,14 +7,9 @@ use Rattle.cnf_core.specs.Derivations.{AreDerived}
 use Rattle.net_core.specs.Sides.{Graphs}
 use Rattle.claim_core.specs.declared.query.Query.{Query}
 use Rattle.claim_core.specs.Formulas.{formula_of, query_clauses}
-use Rattle.log_parts.specs.Parts.{GoesOn, HaveCommon, MayGoOn}
-use Rattle.log_parts.proofs.PartLemmas.{nothing_goes_on}
+use Rattle.log_parts.specs.Parts.{GoesOn, HaveCommon}
 use Rattle.shared_lemmas.specs.Shared.{AreShared, HaveSameFeeds, HoldUnder, IsUnder}
 use Rattle.shared_lemmas.proofs.FormulaLemmas.{feeds_common}
-
--- no lines hold under any feeds
-pub none_hold : (graphs : Graphs) (query : Query) (lines : List LogLine) → lines ≡ [] → HoldUnder graphs query lines
-none_hold graphs query lines none other same = subst (MayGoOn (formula_of graphs other)) (sym none) (nothing_goes_on (formula_of graphs other))
 
 -- a query has its own feeds
 pub own_feeds : (query : Query) → HaveSameFeeds query query

@@ -16,11 +16,6 @@ use Rattle.sim_signature.specs.Signatures.{AreColumns, HasAllVectors, IsColumn, 
 use Rattle.sim_signature.proofs.Ends.{changed-twice, ends}
 use Rattle.sim_signature.proofs.Inverting.{length-changed}
 
--- a change's place among the columns
-pub place-below : (n : ℕ) (change : Change) → IsChange n change → place_of change < 1 + n
-place-below n Nothing there = omega arith
-place-below n (Inverted i) there = omega (arith, there)
-
 -- one input more
 pub AreColumns-more : (s : Signed) (done : ℕ) (columns : List (List (List ℕ))) (column : List (List ℕ)) → AreColumns s done columns → IsColumn s (Inverted done) column → AreColumns s (done + 1) (columns ++ column ∷ [])
 AreColumns-more s done columns column are is = record {

@@ -1,7 +1,7 @@
 -- Clauses that are added and attached.
-use Rattle.std.proofs.Common.{◌≡◌, ℕ, zero, suc, ◌+◌, ◌*◌, ◌/◌, ◌%◌, ◌^◌, ◌<◌, ◌≤◌, false, List, [], ◌∷◌, ◌++◌, length, take, Some, replicate, inl, inr, refl, sym, ◌∙◌, ap, subst, arith}
+use Rattle.std.proofs.Common.{◌≡◌, ℕ, zero, suc, ◌+◌, ◌*◌, ◌/◌, ◌%◌, ◌^◌, ◌<◌, ◌≤◌, false, List, [], ◌∷◌, ◌++◌, length, Some, replicate, inl, inr, refl, sym, ◌∙◌, ap, subst, arith}
 use Rattle.std.proofs.lemmas.Bool.{cases_eq, cases_lt, false≢true}
-use Rattle.std.proofs.lemmas.List.{get_or_append_left, get_or_at, get_or_past, get_or-append-add, get_or-replicate, length-append, length-replicate, take_at}
+use Rattle.std.proofs.lemmas.List.{get_or_append_left, get_or_at, get_or_past, get_or-append-add, get_or-replicate, length-append, length-replicate}
 use Rattle.std.proofs.lemmas.List.Elements.{All-push}
 use Rattle.cnf_core.specs.declared.literal.SatLit.{SatLit}
 use Rattle.cnf_core.specs.Clauses.{clause_at, opposite, variable_of}
@@ -11,12 +11,11 @@ use Rattle.trail_core.specs.Trails.{Trailing, entry_at, nothing}
 use Rattle.watch_lists.specs.declared.threads.ThreadedWatch.{ThreadedWatch}
 use Rattle.watch_lists.specs.declared.threads.Head.{Head}
 use Rattle.watch_lists.specs.Feet.{ArePair, IsSettled}
-use Rattle.watch_lists.specs.Propagations.{AreKnown, IsGrown, IsSound}
+use Rattle.watch_lists.specs.Propagations.{AreKnown, IsSound}
 use Rattle.watch_lists.specs.Threads.{ArePut, AreThreaded, IsAttached, IsIn, IsOnce, head_at, links, list_of, literal_at, no_head, no_watch, partner, watch_at}
 use Rattle.watch_lists.specs.Watched.{AreKept, Fits, IsHeld, IsPresent, Watching, loose_watch, with_clause}
 use Rattle.watch_lists.proofs.FitLemmas.{held_further}
 use Rattle.watch_lists.proofs.GrowLemmas.{present_more, sound_more}
-use Rattle.watch_lists.proofs.PassLemmas.{grown_none}
 use Rattle.watch_lists.proofs.ThreadLemmas.{partner_within, put_before, put_other}
 
 -- ---- no clause
@@ -26,23 +25,6 @@ emptied n c = elim (cases_lt c n) [
   | inl low ↦ ap (λ (h : Head). links [] h.count h.first) (get_or-replicate n c no_head no_head low)
   | inr high ↦ ap (λ (h : Head). links [] h.count h.first) (get_or_past (replicate n no_head) c no_head (omega (arith, high, length-replicate n no_head)))
 ]
-
-pub kept_new : (variables : ℕ) (heads : List Head) → heads ≡ replicate (2 * variables) no_head → AreKept variables [] [] heads
-kept_new variables heads is = subst (AreKept variables [] []) (sym is) (record {
-  heads_are = length-replicate (2 * variables) no_head;
-  known = λ k d within. absurd (omega (arith, within));
-  of_clauses = record { size = refl; of = λ s within. absurd (omega (arith, within)) };
-  threaded = record {
-    even = refl;
-    few = omega arith;
-    known = λ s within. absurd (omega (arith, within));
-    own = λ c s low here. absurd (subst (IsIn s) (emptied (2 * variables) c) here);
-    once = λ c low. subst IsOnce (sym (emptied (2 * variables) c)) tt;
-    out_once = tt;
-    out_nowhere = λ s none. absurd none;
-    all = λ s within. absurd (omega (arith, within));
-  };
-})
 
 -- ---- one clause more
 
@@ -173,18 +155,6 @@ fits_attached old new t id s a b fits variables s_is put pair = record {
 }
 
 -- ---- a trail that may have got what a clause leaves
-
-pub settled_grown : (old new : Trailing) (clause : List SatLit) (id : ℕ) → IsSettled old new clause id → IsGrown old new
-settled_grown old new clause id (inl same) = subst (IsGrown old) (sym same) (grown_none old)
-settled_grown old new clause id (inr (l, makes, is)) =
-    let e : Assigned = record { literal = l; level = old.level; reason = Some id } in
-    let entries : new.entries ≡ old.entries ++ e ∷ [] = ap (λ (t : Trailing). t.entries) is in
-    record {
-      variables = ap (λ (t : Trailing). t.variables) is;
-      level = ap (λ (t : Trailing). t.level) is;
-      longer = omega (arith, ap length entries, length-append old.entries (e ∷ []));
-      kept = ap (take (length old.entries)) entries ∙ take_at old.entries (e ∷ []) (length old.entries) refl;
-    }
 
 pub settled_sound : (clauses : List (List SatLit)) (old new : Trailing) (id : ℕ) → id < length clauses → IsSound clauses old → IsSettled old new (clause_at clauses id) id → IsSound clauses new
 settled_sound clauses old new id there sound (inl same) = subst (IsSound clauses) (sym same) sound

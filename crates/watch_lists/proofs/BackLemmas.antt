@@ -17,9 +17,6 @@ pub record IsGivenBack (old now : List ThreadedWatch) (heads_old heads : List He
   pub alike : AreAlike old now
   pub size : length heads ≡ length heads_old
 
-pub given_start : (ws : List ThreadedWatch) (hs : List Head) (literal : SatLit) (rest : Rest) → AreThreaded ws hs (links ws rest.left rest.at) → ((s : ℕ) → IsIn s (links ws rest.left rest.at) → literal_at ws s ≡ literal) → literal.0 < length hs → IsGivenBack ws ws hs hs literal rest
-given_start ws hs literal rest threaded of known = record { threaded = threaded; of = of; known = known; alike = record { size = refl; same = λ t. refl }; size = refl }
-
 -- the next of what is left
 pub next_out : (ws : List ThreadedWatch) (hs : List Head) (rest : Rest) → 0 < rest.left → AreThreaded ws hs (links ws rest.left rest.at) → AreThreaded ws hs (rest.at ∷ links ws (rest.left - 1) (watch_at ws rest.at).next)
 next_out ws hs rest some is = subst (AreThreaded ws hs) (links_more ws rest.left rest.at some) is

@@ -16,7 +16,7 @@ use Rattle.watch_lists.specs.Looks.{IsTarget}
 use Rattle.watch_lists.specs.Threads.{AreAlike, AreThreaded, IsAttached, IsIn, head_at, links, list_of, literal_at, partner, watch_at}
 use Rattle.watch_lists.specs.Watched.{AreKept, AreQuiet, Fits, IsHeld, IsPresent, IsReady, IsWalking, StayAttached, Watching}
 use Rattle.watch_lists.proofs.EffectLemmas.{neither_true, neither_two}
-use Rattle.watch_lists.proofs.FitLemmas.{alike_attached, alike_back, alike_of, alike_watched, held_true, looked, target_differs, true_not_false}
+use Rattle.watch_lists.proofs.FitLemmas.{alike_attached, alike_of, alike_watched, held_true, looked, target_differs, true_not_false}
 use Rattle.watch_lists.proofs.GrowLemmas.{grown_twice}
 use Rattle.watch_lists.proofs.BackLemmas.{rest_kept}
 use Rattle.watch_lists.proofs.ThreadLemmas.{attached_after, attached_itself, links_more, partner_twice, taken, taken_literal}
@@ -42,9 +42,6 @@ pub record IsUnderWay (clauses : List (List SatLit)) (old now : List ThreadedWat
 
 pub grown_none : (t : Trailing) → IsGrown t t
 grown_none t = record { variables = refl; level = refl; longer = omega arith; kept = take_all (length t.entries) t.entries (omega arith) }
-
-pub under_way_start : (clauses : List (List SatLit)) (ws : List ThreadedWatch) (hs : List Head) (t : Trailing) → IsReady clauses ws hs t → IsUnderWay clauses ws ws hs t t
-under_way_start clauses ws hs t ready = record { ready = ready; grown = grown_none t; attached = λ s within attached. attached; size = ready.kept.of_clauses.size }
 
 pub stay_twice : (clauses : List (List SatLit)) (one two three : List ThreadedWatch) → length one ≡ 2 * length clauses → length two ≡ 2 * length clauses → StayAttached one two → StayAttached two three → StayAttached one three
 stay_twice clauses one two three first second before after s within attached =
@@ -83,15 +80,6 @@ way_start clauses ws hs heads t literal rest ready there falsity low rest_is hea
     whole : Rest
     whole = record { at = (head_at hs literal.0).first; left = (head_at hs literal.0).count }
 
-pub way_step : (clauses : List (List SatLit)) (old mid now : List ThreadedWatch) (hs heads : List Head) (before between trail : Trailing) (literal : SatLit) (rest after : Rest) → IsOnTheWay clauses old mid hs before between literal rest → IsWalking clauses now heads trail literal (links now after.left after.at) → IsGrown between trail → trail.walked ≡ between.walked → StayAttached mid now → IsOnTheWay clauses old now heads before trail literal after
-way_step clauses old mid now hs heads before between trail literal rest after is walking grown walked attached = record {
-  walking = walking;
-  grown = grown_twice before between trail is.grown grown;
-  walked = walked ∙ is.walked;
-  attached = stay_twice clauses old mid now is.size is.walking.of_clauses.size is.attached attached;
-  size = is.size;
-}
-
 -- all watches of the list were looked at
 pub way_end : (clauses : List (List SatLit)) (old now : List ThreadedWatch) (heads : List Head) (before t : Trailing) (literal : SatLit) (rest : Rest) → IsOnTheWay clauses old now heads before t literal rest → rest.left ≡ 0 → IsReady clauses now heads (record t { walked = t.walked + 1 })
 way_end clauses old now heads before t literal rest is none = record {
@@ -128,10 +116,6 @@ walk_stopped clauses old now new hs heads before t after literal rest is same th
   present = is.walking.present;
   watched = λ s within attached. alike_watched now new alike t.entries t.walked s (is.walking.watched s (omega (arith, within, alike.size)) (alike_attached now new alike s attached));
 })
-
-pub back_attached : (clauses : List (List SatLit)) (old now new : List ThreadedWatch) (hs : List Head) (before t : Trailing) (literal : SatLit) (rest : Rest) → IsOnTheWay clauses old now hs before t literal rest → AreAlike now new → StayAttached old new
-back_attached clauses old now new hs before t literal rest is alike s within attached =
-    alike_attached new now (alike_back now new alike) s (is.attached s within attached)
 
 -- one literal more was walked
 pub under_way_step : (clauses : List (List SatLit)) (old mid now : List ThreadedWatch) (hs heads : List Head) (before between walked trail : Trailing) → IsUnderWay clauses old mid hs before between → IsReady clauses now heads trail → IsGrown between walked → trail ≡ record walked { walked = walked.walked + 1 } → StayAttached mid now → IsUnderWay clauses old now heads before trail

@@ -383,19 +383,6 @@ unthreaded ws hs s a b is there even loose low_a low_b differ = record {
     next_out_of : (c : ℕ) → c < length hs → IsIn (s + 1) (list_of (slice_set (slice_set ws s a) (s + 1) b) hs c) → ⊥
     next_out_of c low here = (apart_from (s + 1) (is.own c (s + 1) low (subst (IsIn (s + 1)) (same c low) here)).attached).1 refl
 
--- what four writes to two watches leave
-pub put_twice : (ws : List ThreadedWatch) (s : ℕ) (a b c d : ThreadedWatch) → s + 1 < length ws → ArePut ws (slice_set (slice_set (slice_set (slice_set ws s a) (s + 1) b) s c) (s + 1) d) s c.literal d.literal
-put_twice ws s a b c d there =
-    let mid = slice_set (slice_set ws s a) (s + 1) b in
-    let one = put_once ws s a b there in
-    let two = put_once mid s c d (omega (arith, there, one.size)) in
-    record {
-      size = two.size ∙ one.size;
-      first_is = two.first_is;
-      second_is = two.second_is;
-      others = λ t not_s not_next. two.others t not_s not_next ∙ one.others t not_s not_next;
-    }
-
 -- the first of the two is put into its list
 pub one_pushed : (ws new : List ThreadedWatch) (hs heads : List Head) (s : ℕ) (a b : SatLit) → AreThreaded ws hs [] → s + 1 < length ws → s % 2 ≡ 0 → (IsAttached ws s → ⊥) → a.0 < length hs → b.0 < length hs → a.0 ≢ b.0 → new ≡ slice_set (slice_set (slice_set ws s (record { literal = a; next = 0 })) (s + 1) (record { literal = b; next = 0 })) s (record { literal = a; next = (head_at hs a.0).first }) → heads ≡ slice_set hs a.0 (record { first = s; count = (head_at hs a.0).count + 1 }) → AreThreaded new heads ((s + 1) ∷ [])
 one_pushed ws new hs heads s a b is there even loose low_a low_b differ new_is heads_is =
