@@ -15,6 +15,7 @@ use Rattle.account_file.specs.Order.{place_after, place_after_one, next_place}
 use Rattle.account_file.proofs.OrderLemmas.{none_stays}
 use Rattle.account_check.specs.Logs.{OpenFact}
 use Rattle.account_check.specs.Accounts.{Account, AreValid, HasFault, account_after, after, rest_after_line, empty_account}
+use Rattle.std.proofs.lemmas.Option.{same_Some, none-some}
 
 -- one record more
 pub account_after-push : (graphs : Graphs) (records : List Record) (entry : Record) → account_after graphs (records ++ entry ∷ []) ≡ after (account_after graphs records) entry
@@ -52,20 +53,14 @@ graphs_stay account (entry ∷ records) = graphs_stay (after account entry) reco
 pub account_graphs : (graphs : Graphs) (records : List Record) → (account_after graphs records).graphs ≡ graphs
 account_graphs graphs records = graphs_stay (empty_account graphs) records
 
-pub some_place : (p q : Place) → Some p ≡ Some q → p ≡ q
-some_place p q e = cc
-
-pub no_place : (p : Place) → None ≡ Some p → ⊥
-no_place p e = cc
-
 places_follow : (account : Account) (records : List Record) (place : Place) → fold place_after_one (Some account.place) records ≡ Some place → (fold after account records).place ≡ place
-places_follow account [] place e = some_place account.place place e
+places_follow account [] place e = same_Some account.place place e
 places_follow account (entry ∷ records) place e =
     by (next_place account.place entry) refl (places_follow (after account entry) records place)
   where
     by : (o : Option Place) → next_place account.place entry ≡ o → (fold place_after_one (Some (after account entry).place) records ≡ Some place → (fold after account (entry ∷ records)).place ≡ place) → (fold after account (entry ∷ records)).place ≡ place
     by None is go =
-        absurd (no_place place (sym (none_stays records) ∙ (ap (λ o. fold place_after_one o records) (sym is) ∙ e)))
+        absurd (none-some place (sym (none_stays records) ∙ (ap (λ o. fold place_after_one o records) (sym is) ∙ e)))
     by (Some p) is go =
         let there : (after account entry).place ≡ p = ap (λ o. unwrap_or o account.place) is in
         go (ap (λ q. fold place_after_one (Some q) records) there ∙ (ap (λ o. fold place_after_one o records) (sym is) ∙ e))

@@ -27,12 +27,13 @@ use Rattle.account_check.specs.Conclusions.{AreWhole, ConclusionTests, matching_
 use Rattle.account_check.specs.Logs.{OpenFact, Proof, line_reject, log_count, with_fact, log_query, match_reject, unproved, with_line}
 use Rattle.account_check.specs.Proofs.{AreRefuted, IsLogSoFar}
 use Rattle.account_check.specs.Verdicts.{IsAccepted}
-use Rattle.account_check.proofs.AccountLemmas.{account_after-push, account_graphs, some_place, no_place, valid_records}
+use Rattle.account_check.proofs.AccountLemmas.{account_after-push, account_graphs, valid_records}
 use Rattle.account_check.proofs.LogLemmas.{log_begun, log_more, proved, refuted_by, refuted_more}
 use Rattle.account_check.proofs.PairLemmas.{outputs_counted}
 use Rattle.account_check.proofs.RefusalLemmas.{concluded_so}
 use Rattle.account_check.proofs.RightLemmas.{last_empty, no_reject}
 use Rattle.account_check.proofs.TestLemmas.{through}
+use Rattle.std.proofs.lemmas.Option.{same_Some, none-some}
 
 -- The logs of a match, of which this many are left: those that are closed refute, and the lines of the open one are derived.
 record AreLogsSoFar (graphs : Graphs) (proof : Proof) (left : ℕ) : Type 0 where
@@ -180,7 +181,7 @@ above zero e = cc
 above (suc left) e = omega arith
 
 known_there : (p q : Place) (account : Account) → Some p ≡ Some q → IsKnownAt p account → IsKnownAt q account
-known_there p q account e known = subst (λ (r : Place). IsKnownAt r account) (some_place p q e) known
+known_there p q account e known = subst (λ (r : Place). IsKnownAt r account) (same_Some p q e) known
 
 known_after : (at : Place) (account : Account) (entry : Record) (next : Place) → IsKnownAt at account → HasFault account entry None → next_place at entry ≡ Some next → IsKnownAt next (with_record account entry)
 known_after place.Start account entry_of.Header next known fine e = known_there place.Headed next account e known
@@ -195,7 +196,7 @@ known_after (place.Logs left) account (entry_of.Line line) next known fine e =
     by (left == 0) refl e
   where
     by : (b : Bool) → (left == 0) ≡ b → (if b then None else Some (place.Logs (logs_after left line.clause))) ≡ Some next → IsKnownAt next (rest_after_line account account.fact line)
-    by true zero_left e = absurd (no_place next e)
+    by true zero_left e = absurd (none-some next e)
     by false some_left e =
         known_there (place.Logs (logs_after left line.clause)) next (rest_after_line account account.fact line) e (line_taken account account.fact line left (above left some_left) known.0 known.0 known.1 fine)
 known_after (place.Logs left) account entry_of.End next known fine e =
@@ -204,8 +205,8 @@ known_after (place.Logs left) account entry_of.End next known fine e =
     by : (b : Bool) → (left == 0) ≡ b → (if b then Some place.Ended else None) ≡ Some next → IsKnownAt next account
     by true zero_left e =
         known_there place.Ended next account e (subst (λ n. IsMatchSoFar account n) (eqb-true left 0 zero_left) known.1)
-    by false some_left e = absurd (no_place next e)
-known_after at account entry next known fine e = absurd (no_place next e)
+    by false some_left e = absurd (none-some next e)
+known_after at account entry next known fine e = absurd (none-some next e)
 
 -- what is known stays so wherever the account is put
 placed : (at : Place) (account : Account) (place : Place) → IsKnownAt at account → IsKnownAt at (record account { place = place })
@@ -227,7 +228,7 @@ known_more graphs before entry known fine at e = by (place_after before) refl
     leads = sym (fold_push place_after_one (Some place.Start) before entry) ∙ e
 
     by : (found : Option Place) → place_after before ≡ found → IsKnownAt at (account_after graphs (before ++ entry ∷ []))
-    by None is = absurd (no_place at (subst (λ o. place_after_one o entry ≡ Some at) is leads))
+    by None is = absurd (none-some at (subst (λ o. place_after_one o entry ≡ Some at) is leads))
     by (Some here) is =
         let now = known_after here account entry at (known here is) fine (subst (λ o. place_after_one o entry ≡ Some at) is leads) in
         subst (IsKnownAt at) (sym (account_after-push graphs before entry)) (placed at (with_record account entry) _ now)

@@ -10,9 +10,7 @@ use Rattle.account_core.specs.Given.{Given}
 use Rattle.account_core.specs.Tallies.{shapes_of, AreBothOfEach, AreOfEach}
 use Rattle.ban_check.specs.Counted.{one_input, twin_input, AscendFrom, GoOverInputs, GoOverTwice, IsNext}
 use Rattle.ban_check.proofs.AscentLemmas.{ascend_more, ascend_rest, none_ascend}
-
-some_is : (i j : ℕ) → Some i ≡ Some j → i ≡ j
-some_is i j e = cc
+use Rattle.std.proofs.lemmas.Option.{same_Some}
 
 -- What is read from the front has an input, from `least` on, and the rest goes on after it.
 pub record HasFront (least : ℕ) (input : Option ℕ) (Rest : ℕ → Type 0) : Type 0 where
@@ -31,7 +29,7 @@ module _ {least : ℕ} {input : Option ℕ} {Left : Type 0} {Rest : ℕ → Type
   pub front_step : (next : ℕ) → IsNext least input next → Rest next ↔ P
   front_step next (i, is, within, next_is) = (
     (λ rest. so_far.0 (front.more (record { i = i; is = is; within = within; rest = subst Rest next_is rest }))),
-    (λ p. let parts = front.split (so_far.1 p) in subst Rest (ap (λ n. n + 1) (some_is parts.i i (sym parts.is ∙ is)) ∙ sym next_is) parts.rest),
+    (λ p. let parts = front.split (so_far.1 p) in subst Rest (ap (λ n. n + 1) (same_Some parts.i i (sym parts.is ∙ is)) ∙ sym next_is) parts.rest),
   )
 
   pub front_stop : ((i : ℕ) → input ≡ Some i → least ≤ i → ⊥) → P → ⊥
@@ -40,8 +38,8 @@ module _ {least : ℕ} {input : Option ℕ} {Left : Type 0} {Rest : ℕ → Type
 -- shapes of one input each
 
 of_one : (i : ℕ) (shape : Shape) → one_input shape ≡ Some i → (shape ≡ Up i) ⊎ (shape ≡ Down i)
-of_one i (Up j) e = inl (ap Up (some_is j i e))
-of_one i (Down j) e = inr (ap Down (some_is j i e))
+of_one i (Up j) e = inl (ap Up (same_Some j i e))
+of_one i (Down j) e = inr (ap Down (same_Some j i e))
 of_one i (Swap j k a b) e = cc
 
 to_one : (i : ℕ) (shape : Shape) → (shape ≡ Up i) ⊎ (shape ≡ Down i) → one_input shape ≡ Some i
@@ -80,7 +78,7 @@ of_two i (Up j) (Down k) e =
     by : (b : Bool) → (j == k) ≡ b → (if b then Some j else None) ≡ Some i → (Up j ≡ Up i) × (Down k ≡ Down i)
     by true t e =
         let same : j ≡ k = grind (arith, nat_tests) in
-        (ap Up (some_is j i e), ap Down (sym same ∙ some_is j i e))
+        (ap Up (same_Some j i e), ap Down (sym same ∙ same_Some j i e))
     by false t e = cc
 of_two i one other e = cc
 

@@ -1,6 +1,6 @@
 -- One entry more at the end of a list, and one less.
 use Rattle.std.proofs.Common.{◌≡◌, ◌≢◌, ℕ, ◌+◌, ◌<◌, ◌&&◌, Bool, true, false, not, cond, eqb, List, [], ◌∷◌, ◌++◌, length, map, filter, get_or, All, AllPairs, Contains, refl, sym, ap, subst, ◌∙◌, inl, inr, arith}
-use Rattle.std.proofs.lemmas.Bool.{and_parts, cases_eq, cases_lt, eq-eqb, eqb-true, false≢true}
+use Rattle.std.proofs.lemmas.Bool.{and_parts, cases_eq, cases_lt, eq-eqb, eqb-true, false≢true, and_from}
 use Rattle.std.proofs.lemmas.List.{append-nil, get_or_append_left, get_or_default, get_or_at, length_push, map-append}
 use Rattle.std.proofs.lemmas.List.Elements.{filter-append}
 use Rattle.std.proofs.lemmas.List.Sums.{sum_by_push}
@@ -47,13 +47,8 @@ kind_is Input Output e = absurd (false≢true e)
 kind_is Output Input e = absurd (false≢true e)
 kind_is Output Output e = refl
 
-and_of : (a b : Bool) → a ≡ true → b ≡ true → (a && b) ≡ true
-and_of true true one other = refl
-and_of true false one other = other
-and_of false b one other = one
-
 pub at_of : (side : Side) (kind : PortKind) (port : ℕ) (pair : Pair) → pair.kind ≡ kind → port_on side pair ≡ port → is_at side kind port pair ≡ true
-at_of side kind port pair k p = and_of (same_kind pair.kind kind) (eqb (port_on side pair) port) (kind_same pair.kind kind k) (eq-eqb (port_on side pair) port p)
+at_of side kind port pair k p = and_from (same_kind pair.kind kind) (eqb (port_on side pair) port) (kind_same pair.kind kind k) (eq-eqb (port_on side pair) port p)
 
 pub of_at : (side : Side) (kind : PortKind) (port : ℕ) (pair : Pair) → is_at side kind port pair ≡ true → (pair.kind ≡ kind) × (port_on side pair ≡ port)
 of_at side kind port pair e =

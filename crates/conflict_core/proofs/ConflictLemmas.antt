@@ -1,7 +1,7 @@
 -- Conflicts, and the covers that they are resolved to.
 use Rattle.std.proofs.Common.{◌≡◌, ◌≢◌, ℕ, ◌+◌, ◌<◌, List, ◌∷◌, length, get_or, take, All, Contains, Option, None, Some, IfSome, OnOk, Result, Ok, Err, sym, ap, subst, ◌∙◌, inl, inr, arith}
 use Rattle.std.proofs.lemmas.List.{get_or_default, take_more}
-use Rattle.std.proofs.lemmas.Option.{same_Some}
+use Rattle.std.proofs.lemmas.Option.{same_Some, none-some}
 use Rattle.std.proofs.lemmas.List.Elements.{All-contains, All-push, All-weaker}
 use Rattle.circuits.specs.declared.port.Pair.{Pair}
 use Rattle.circuits.specs.declared.port.PortKind.{PortKind}
@@ -26,12 +26,9 @@ covers_among bans way few more number stays is = record {
   within = λ d. record { among = λ k e below. cons_more way few more _ stays ((is.within d).among k e below) };
 }
 
-none_is_some : (way : Pair) → None ≡ Some way → ⊥
-none_is_some way e = cc
-
 -- a way that isn't the one that is resolved on isn't left out
 pub not_resolved : (resolved : Option Resolved) (way : Pair) → IfSome resolved (λ it. it.way ≢ way) → left_out resolved ≡ Some way → ⊥
-not_resolved None way apart same = none_is_some way same
+not_resolved None way apart same = none-some way same
 not_resolved (Some it) way apart same = apart (same_Some it.way way same)
 
 pub not_left_out : (skipped : Option Pair) (way : Pair) (P : Type 0) → (skipped ≡ Some way → ⊥) → IsLeftOutOr skipped way P → P

@@ -181,9 +181,6 @@ forced_at es lent place d p side same below is forced =
     entry : Entry
     entry = record { pair = p; fate = Held (LastWay side) }
 
-pub same_get : (held : List Pair) (k : ℕ) (d e : Pair) → k < length held → get_or held k d ≡ get_or held k e
-same_get held k d e below = get_or_default held k d e below
-
 -- what a conflict is resolved to where a choice stands between its latest pair and the others
 pub back_is : (n m : ℕ) (bans : List Ban) (es : List Entry) (pairs lent : List Pair) (last place ban : ℕ) (result : LearnedBan) → AreEntries n m es → last < length (held_in es) → lent ≡ pairs → ((d : Pair) → IsSplit es lent (get_or (held_in es) last d) place) → Covers bans pairs ban → ((d : Pair) → result ≡ learned.Back (record { place = place; pair = get_or (held_in es) last d; ban = ban })) → IsLearned n m bans es result
 back_is n m bans es pairs lent last place ban result are below same split covers is =

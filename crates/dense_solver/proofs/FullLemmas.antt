@@ -25,7 +25,8 @@ use Rattle.dense_solver.specs.Renamings.{AreShort, IsRenaming, IsSpread, renamed
 use Rattle.dense_solver.specs.Solved.{AreCharged, AreLearned, AreRefused, IsDenseVerdict, IsFound, IsSettled, IsTold, IsUnsettled, start_of, with_lines_of}
 use Rattle.dense_solver.proofs.RenameLemmas.{has_all_renamed, met_renamed}
 use Rattle.cnf_core.proofs.LiteralLemmas.{variable_of-literal}
-use Rattle.dense_solver.proofs.LineLemmas.{clauses_after, empties_renamed, is_negated-literal, line_translated, names_rename, turned_twice}
+use Rattle.dense_solver.proofs.LineLemmas.{clauses_after, empties_renamed, is_negated-literal, line_translated, names_rename}
+use Rattle.std.proofs.Math.Bool.{not-not}
 
 no_line : LogLine
 no_line = record { clause = []; hints = [] }
@@ -151,7 +152,7 @@ module _ (small : Formula) (names numbers : List ℕ) (full : Formula) (ids : Li
       let s = not (is_negated l) in
       ap (λ n. differ (bit bits n) (is_negated (renamed names l))) (variable_of-literal v s)
       ∙ (ap (λ b. differ b (is_negated (renamed names l))) (spread.each (variable_of l) below)
-      ∙ ap (differ (bit values (variable_of l))) (is_negated-literal v s ∙ turned_twice (is_negated l)))
+      ∙ ap (differ (bit values (variable_of l))) (is_negated-literal v s ∙ not-not (is_negated l)))
 
   verdict_of : {O : Type 0} (lines : List LogLine) (before after : Charging O) (own : Finding) (answer : DenseVerdict) → AreLearned small lines → before.lines ≡ lemmas → AreCharged before (map t lines) after → IsFound small lines own → IsTold names full.variables (lemmas ++ map t lines) own answer → IsDenseVerdict (with_lines_of (start_of full ids lemmas) after) answer
   verdict_of {O} lines before after (Model values) (Full bits) learned first charged found told =

@@ -15,6 +15,7 @@ use Rattle.learn_solver.proofs.SolverLemmas.{line_from, line_known, line_says}
 use Rattle.watch_lists.specs.Propagations.{AreKnown}
 use Rattle.dense_solver.specs.Renamings.{AreNames, IsRenaming, renamed, renumbered, translated}
 use Rattle.dense_solver.proofs.RenameLemmas.{Renames, hints_renamed, once_renamed, opposites_known, opposites_renamed}
+use Rattle.std.proofs.Math.Bool.{not-not}
 
 pub is_negated-literal : (v : ℕ) (b : Bool) → is_negated (literal_of v b) ≡ not b
 is_negated-literal v true = elim (eqb_tells (2 * v % 2) 1) [ inl (odd, e) ↦ absurd (omega (arith, e)) | inr (even, e) ↦ even ]
@@ -31,10 +32,6 @@ tests_agree a b c d there back =
       | inl (yes_, e) ↦ yes_ ∙ sym (eq-eqb c d (there e))
       | inr (no_, e) ↦ elim (eqb_tells c d) [ inl (is, f) ↦ absurd (e (back f)) | inr (is, f) ↦ no_ ∙ sym is ]
     ]
-
-pub turned_twice : (b : Bool) → not (not b) ≡ b
-turned_twice true = refl
-turned_twice false = refl
 
 -- names that are apart rename literals apart
 pub names_rename : (variables : ℕ) (names : List ℕ) → AreNames variables names → Renames (length names) (renamed names)
@@ -56,7 +53,7 @@ names_rename variables names are = record {
         let variables_are : name l ≡ name m = sym (variable_of-literal (name l) (not (is_negated l))) ∙ (ap variable_of e ∙ variable_of-literal (name m) (not (is_negated m))) in
         let v = are.apart (variable_of l) (variable_of m) below there variables_are in
         let signs : not (not (is_negated l)) ≡ not (not (is_negated m)) = sym (is_negated-literal (name l) (not (is_negated l))) ∙ (ap is_negated e ∙ is_negated-literal (name m) (not (is_negated m))) in
-        let s = sym (turned_twice (not (is_negated l))) ∙ (ap not signs ∙ turned_twice (not (is_negated m))) in
+        let s = sym (not-not (not (is_negated l))) ∙ (ap not signs ∙ not-not (not (is_negated m))) in
         ap (λ (x : SatLit). x.0) (sym (itself l) ∙ (ap (λ w. literal_of w (not (is_negated l))) v ∙ (ap (literal_of (variable_of m)) s ∙ itself m)))
 
 -- a renamed clause is over the formula's variables

@@ -8,6 +8,7 @@ use Rattle.circuits.specs.Literals.{bit, differ, signal_of, is_negated, literal_
 use Rattle.circuits.specs.Netlists.{gate_bit}
 use Rattle.circuits.specs.Bijections.{Moves, place_of, sign_of}
 use Rattle.gen_pair.specs.Moved.{input_literal, moved_literal, moved_gate}
+use Rattle.std.proofs.Math.Bool.{and_comm}
 
 pub moved_constant : (p : List (ℕ × Bool)) (lit : Lit) → signal_of lit ≡ 0 → moved_literal p lit ≡ lit
 moved_constant p lit h = rw (eq-eqb (signal_of lit) 0 h) refl
@@ -93,18 +94,12 @@ alike_inputs p x y entries places moves = record {
       ];
 }
 
-and_either : (x y : Bool) → (x && y) ≡ (y && x)
-and_either true true = refl
-and_either true false = refl
-and_either false true = refl
-and_either false false = refl
-
 -- then a gate has the bit of the one that it becomes
 pub alike_gate : (p : List (ℕ × Bool)) (v w : List Bool) (gate : Gate) → AreAlike p v w → signal_of gate.a < length v → signal_of gate.b < length v → gate_bit w (moved_gate p gate) ≡ gate_bit v gate
 alike_gate p v w gate alike a b =
     ap (λ one. one && literal_bit w (moved_literal p gate.a)) (alike.each gate.b b)
     ∙ ap (λ other. literal_bit v gate.b && other) (alike.each gate.a a)
-    ∙ and_either (literal_bit v gate.b) (literal_bit v gate.a)
+    ∙ and_comm (literal_bit v gate.b) (literal_bit v gate.a)
 
 before : (v : List Bool) (value : Bool) (lit : Lit) → signal_of lit < length v → literal_bit (v ++ value ∷ []) lit ≡ literal_bit v lit
 before v value lit h = ap (λ b. differ b (is_negated lit)) (get_or_append_left v (value ∷ []) false (signal_of lit) h)

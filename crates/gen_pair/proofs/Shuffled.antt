@@ -49,8 +49,3 @@ pub written : (new old : List ℕ) (n : ℕ) → length new ≡ length old → n
 written new old n same long =
     ap (λ rest. take n (new ++ rest)) (drop_all (length new) old (omega (arith, same)))
     ∙ take_at new [] n (omega (arith, same, long))
-
--- what holds of a value by another fact of it
-pub if_ok : {T E : Type 0} (r : Result T E) (P Q : T → Type 0) → ((x : T) → P x → Q x) → IfOk r P → IfOk r Q
-if_ok (Ok x) P Q follows h = follows x h
-if_ok (Err e) P Q follows h = h

@@ -11,6 +11,7 @@ use Rattle.joint_hash.specs.Trees.{IsCongruence}
 use Rattle.joint_hash.specs.Classes.{AreMerged, HasGate, IsFound, IsKept, IsTwin, IsVisited, in_order, operands_of, representative, same_operands, twin_literal}
 use Rattle.joint_hash.proofs.ChainLemmas.{twin_later}
 use Rattle.joint_hash.proofs.LiteralLemmas.{in_order_same, operands_from, operands_same, plain_is, negated_is}
+use Rattle.std.proofs.lemmas.Option.{same_Some}
 
 -- Gates whose operands come first, each once under its number, and with the same operands where two have one variable.
 pub record AreNested (IsGate : ConeGate → Type 0) : Type 0 where
@@ -20,9 +21,6 @@ pub record AreNested (IsGate : ConeGate → Type 0) : Type 0 where
   pub same_second : (g h : ConeGate) → IsGate g → IsGate h → variable_of g.output ≡ variable_of h.output → g.second ≡ h.second
   pub first_early : (g h : ConeGate) → IsGate g → IsGate h → variable_of g.first ≡ variable_of h.output → HasGate IsGate (g.id + 2) (variable_of h.output)
   pub second_early : (g h : ConeGate) → IsGate g → IsGate h → variable_of g.second ≡ variable_of h.output → HasGate IsGate (g.id + 2) (variable_of h.output)
-
-pub some_is : {X : Type 0} (a b : X) → Some a ≡ Some b → a ≡ b
-some_is a b e = cc
 
 pub none_or_some : {X : Type 0} → (o : Option X) → (o ≡ None) ⊎ ((x : X) × (o ≡ Some x))
 none_or_some None = inl refl
@@ -100,7 +98,7 @@ module _ (IsGate : ConeGate → Type 0) (nested : AreNested IsGate) where
 
         kept_at : (p : SatLit × SatLit) (g : ConeGate) → (same_operands own p ≡ true) ⊎ (same_operands own p ≡ false) → cond (same_operands own p) (Some gate) (firsts p) ≡ Some g → IsKept IsGate (limit + 1) twins p g
         kept_at p g (inl same) is =
-            let this : gate ≡ g = some_is gate g (sym (ap (λ b. cond b (Some gate) (firsts p)) same) ∙ is) in
+            let this : gate ≡ g = same_Some gate g (sym (ap (λ b. cond b (Some gate) (firsts p)) same) ∙ is) in
             subst (IsKept IsGate (limit + 1) twins p) this (record { visited = this_visited; operands_are = sym (operands_same own p same); itself = itself })
         kept_at p g (inr other) is =
             let old = merged.kept p g (sym (ap (λ b. cond b (Some gate) (firsts p)) other) ∙ is) in
@@ -193,7 +191,7 @@ module _ (IsGate : ConeGate → Type 0) (nested : AreNested IsGate) where
         fresh : HasGate IsGate limit w → ⊥
         fresh has =
             let found = again clauses firsts twins merged has in
-            let same : found.first ≡ first = some_is found.first first (sym found.found ∙ there) in
+            let same : found.first ≡ first = same_Some found.first first (sym found.found ∙ there) in
             let stands : gate.output ≡ first.output = ap (λ o. twin_literal o gate.output) (sym none) ∙ (found.stands ∙ ap (λ (g : ConeGate). g.output) same) in
             apart (ap variable_of stands)
 
@@ -257,7 +255,7 @@ module _ (IsGate : ConeGate → Type 0) (nested : AreNested IsGate) where
 
         twin_at : (v : ℕ) (twin : Twin) → ((w == v) ≡ true) ⊎ ((w == v) ≡ false) → cond (w == v) (Some own) (twins v) ≡ Some twin → IsTwin count more v twin
         twin_at v twin (inl same) is =
-            let this : own ≡ twin = some_is own twin (sym (ap (λ b. cond b (Some own) (twins v)) same) ∙ is) in
+            let this : own ≡ twin = same_Some own twin (sym (ap (λ b. cond b (Some own) (twins v)) same) ∙ is) in
             subst (λ (u : ℕ). IsTwin count more u twin) (eqb-true w v same) (subst (IsTwin count more w) this own_twin)
         twin_at v twin (inr other) is =
             twin_later count clauses more v twin (omega (arith, longer)) before (merged.are_twins v twin (sym (ap (λ b. cond b (Some own) (twins v)) other) ∙ is))

@@ -12,7 +12,8 @@ use Rattle.joint_hash.specs.Trees.{AreEqualBy, IsCongruence, IsFirst, IsJoined}
 use Rattle.joint_hash.specs.Classes.{AreMerged, IsFound, IsKept, IsTwin, in_order, operands_of, representative, twin_literal}
 use Rattle.cnf_core.proofs.LiteralLemmas.{same_from, same_itself, same_literal}
 use Rattle.joint_hash.proofs.LiteralLemmas.{in_order_exchanged, plain_is, representative_opposite}
-use Rattle.joint_hash.proofs.MergeLemmas.{AreNested, none_or_some, one_variable, some_is}
+use Rattle.joint_hash.proofs.MergeLemmas.{AreNested, none_or_some, one_variable}
+use Rattle.std.proofs.lemmas.Option.{same_Some}
 
 other_default : (xs : List (List SatLit)) (k : ℕ) (d e : List SatLit) → k < length xs → slice_index_or xs k d ≡ slice_index_or xs k e
 other_default [] k d e within = absurd (omega (arith, within))
@@ -39,7 +40,7 @@ module _ (IsGate : ConeGate → Type 0) (nested : AreNested IsGate) (limit : ℕ
   meet g h is there same =
       let one = found_for g is in
       let other = found_for h there in
-      let first : one.first ≡ other.first = some_is one.first other.first (sym one.found ∙ (ap firsts same ∙ other.found)) in
+      let first : one.first ≡ other.first = same_Some one.first other.first (sym one.found ∙ (ap firsts same ∙ other.found)) in
       one.stands ∙ (ap (λ (f : ConeGate). f.output) first ∙ sym other.stands)
 
   -- literals of one representative
@@ -73,7 +74,7 @@ module _ (IsGate : ConeGate → Type 0) (nested : AreNested IsGate) (limit : ℕ
       let own : representative twins first.output ≡ first.output = ap (λ o. twin_literal o first.output) kept.itself in
       let outputs : first.output ≡ other.first.output = sym own ∙ (same_literal (representative twins first.output) (representative twins h.output) (tree alike are_alike) ∙ other.stands) in
       let operands = one_variable IsGate nested twins first other.first kept.visited.is_gate last.visited.is_gate (ap variable_of outputs) in
-      let one : first ≡ other.first = some_is first other.first (sym found.found ∙ (ap firsts (kept.operands_are ∙ (operands ∙ sym last.operands_are)) ∙ other.found)) in
+      let one : first ≡ other.first = same_Some first other.first (sym found.found ∙ (ap firsts (kept.operands_are ∙ (operands ∙ sym last.operands_are)) ∙ other.found)) in
       omega (arith, ap (λ (f : ConeGate). f.id) one, other.before)
 
   -- what a twin says of a gate and what stands for it

@@ -14,6 +14,7 @@ use Rattle.blif_reader.proofs.NumberLemmas.{any_place}
 use Rattle.net_print.specs.BlifLines.{signal_name, gate_name, input_name}
 use Rattle.print_laws.specs.PrintedCircuits.{printed_signal}
 use Rattle.print_laws.proofs.PrintedMeaning.{input_signal, gate_signal}
+use Rattle.std.proofs.lemmas.Option.{same_Some}
 
 abbrev pub name : ℕ → ℕ → List ℕ
 name letter n = letter ∷ decimal n
@@ -42,11 +43,8 @@ other_bytes xs ys apart = by_test (bytes_eq xs ys) (bytes_eq-Decides xs ys).0
     by_test true h = absurd (apart (h refl))
     by_test false h = refl
 
-some_same : (a b : ℕ) → Some a ≡ Some b → a ≡ b
-some_same a b e = cc
-
 decimals_apart : (a b : ℕ) → a < 2 ^ 64 → b < 2 ^ 64 → (a ≡ b → ⊥) → decimal a ≡ decimal b → ⊥
-decimals_apart a b low high apart e = apart (some_same a b (sym (number-decimal a low) ∙ ap number e ∙ number-decimal b high))
+decimals_apart a b low high apart e = apart (same_Some a b (sym (number-decimal a low) ∙ ap number e ∙ number-decimal b high))
 
 pub apart_names : (letter a b : ℕ) → a < 2 ^ 64 → b < 2 ^ 64 → (a ≡ b → ⊥) → bytes_eq (name letter a) (name letter b) ≡ false
 apart_names letter a b low high apart = other_bytes (name letter a) (name letter b) (λ e. decimals_apart a b low high apart (ap (drop 1) e))

@@ -9,6 +9,7 @@ use Rattle.circuits.specs.Netlists.{Net, IsOrdered, gate_bit, with_gates, functi
 use Rattle.circuits.specs.Functions.{Computes, as_circuit}
 use Rattle.circuits.proofs.AsCircuit.{as_circuit-computed}
 use Rattle.print_laws.specs.Ordered.{greater_first, with_greater_first}
+use Rattle.std.proofs.Math.Bool.{and_comm}
 
 lit_from : ℕ → Lit
 lit_from number = record { 0 = number }
@@ -27,15 +28,9 @@ in_order_or_not gate P same other =
           rw (big, small) same
     ]
 
-and_either : (x y : Bool) → (x && y) ≡ (y && x)
-and_either true true = refl
-and_either true false = refl
-and_either false true = refl
-and_either false false = refl
-
 same_bit : (v : List Bool) (gate : Gate) → gate_bit v (greater_first gate) ≡ gate_bit v gate
 same_bit v gate =
-    in_order_or_not gate (λ other. gate_bit v other ≡ gate_bit v gate) refl (and_either (literal_bit v gate.b) (literal_bit v gate.a))
+    in_order_or_not gate (λ other. gate_bit v other ≡ gate_bit v gate) refl (and_comm (literal_bit v gate.b) (literal_bit v gate.a))
 
 same_values : (v : List Bool) (gates : List Gate) → with_gates v (map greater_first gates) ≡ with_gates v gates
 same_values v [] = refl

@@ -1,6 +1,6 @@
 -- A gate that a change reaches gets another block, and any other keeps its own.
 use Rattle.std.proofs.Common.{ℕ, ◌<◌, ◌≡◌, ◌≢◌, ◌||◌, Bool, true, false, cond, List, [], length, get_or, set, refl, sym, ap, ◌∙◌, inl, inr}
-use Rattle.std.proofs.lemmas.Bool.{false≢true}
+use Rattle.std.proofs.lemmas.Bool.{false≢true, or_parts}
 use Rattle.std.proofs.lemmas.List.{get_or-set_same, get_or-set_other}
 use Rattle.circuits.specs.declared.netlist.Gate.{Gate}
 use Rattle.circuits.specs.Literals.{bit, signal_of}
@@ -15,16 +15,12 @@ run-others before after marks place s block apart =
     ap (λ mark. cond mark (get_or (set after place block) s []) (get_or before s [])) (get_or-set_other marks place s true false apart)
     ∙ ap (λ found. cond (bit marks s) found (get_or before s [])) (get_or-set_other after place s block [] apart)
 
-neither : (a b : Bool) → a || b ≡ false → (a ≡ false) × (b ≡ false)
-neither true b is = absurd (false≢true (sym is))
-neither false b is = (refl, is)
-
 unmarked : (before after : List (List ℕ)) (marks : List Bool) (s : ℕ) → bit marks s ≡ false → block_after before after marks s ≡ get_or before s []
 unmarked before after marks s is = ap (λ mark. cond mark (get_or after s []) (get_or before s [])) is
 
 pub kept-place : (gate : Gate) (place : ℕ) (before after : List (List ℕ)) (marks : List Bool) (reached : Bool) → place < length marks → reached ≡ bit marks (signal_of gate.a) || bit marks (signal_of gate.b) → reached ≡ false → IsRunOrKept gate place before after after marks (set marks place false)
 kept-place gate place before after marks reached there is not_reached =
-    let both = neither (bit marks (signal_of gate.a)) (bit marks (signal_of gate.b)) (sym is ∙ not_reached) in
+    let both = or_parts (bit marks (signal_of gate.a)) (bit marks (signal_of gate.b)) (sym is ∙ not_reached) in
     inr (unmarked before after (set marks place false) place (get_or-set_same marks place false false there), unmarked before after marks (signal_of gate.a) both.0, unmarked before after marks (signal_of gate.b) both.1)
 
 pub run-place : (gate : Gate) (place : ℕ) (before after : List (List ℕ)) (marks : List Bool) (block : List ℕ) → place < length marks → place < length after

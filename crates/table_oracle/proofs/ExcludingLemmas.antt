@@ -14,6 +14,7 @@ use Rattle.cnf_core.specs.Derivations.{is_false, is_same, is_true, repeats_varia
 use Rattle.cnf_core.proofs.LiteralLemmas.{not_opposite, same_from, same_itself, same_literal, variable_of-literal}
 use Rattle.table_oracle.specs.Splits.{excluding}
 use Rattle.table_oracle.proofs.KnownLemmas.{AreApart, IsKnown}
+use Rattle.std.proofs.Math.Bool.{not-not}
 
 abbrev pub start : List Bool → List SatLit
 start bits = map opposite (excluding bits)
@@ -33,10 +34,6 @@ signs_differ v b same =
     let l = literal_of v b in
     both_ways (is_same (opposite l) l) (not_opposite l) (same_from (opposite l) l (opposite_of v b ∙ sym same))
 
-pub turned_twice : (b : Bool) → not (not b) ≡ b
-turned_twice true = refl
-turned_twice false = refl
-
 pub count_of_excluding : (bits : List Bool) → length (excluding bits) ≡ length bits
 count_of_excluding bits = length-map-range_with_len (λ i. literal_of (1 + i) (not (bit bits i))) 0 (length bits)
 
@@ -46,7 +43,7 @@ excluding_at bits i d within = get_or-map-range_with_len (λ i. literal_of (1 + 
 start_at : (bits : List Bool) (i : ℕ) (d : SatLit) → i < length bits → slice_index_or (start bits) i d ≡ literal_of (1 + i) (bit bits i)
 start_at bits i d within =
     get_or-map opposite (excluding bits) i d d (omega (arith, within, count_of_excluding bits))
-    ∙ (ap opposite (excluding_at bits i d within) ∙ (opposite_of (1 + i) (not (bit bits i)) ∙ ap (literal_of (1 + i)) (turned_twice (bit bits i))))
+    ∙ (ap opposite (excluding_at bits i d within) ∙ (opposite_of (1 + i) (not (bit bits i)) ∙ ap (literal_of (1 + i)) (not-not (bit bits i))))
 
 count_of_start : (bits : List Bool) → length (start bits) ≡ length bits
 count_of_start bits = length-map (excluding bits) opposite ∙ count_of_excluding bits

@@ -2,8 +2,9 @@ use Rattle.std.proofs.Common.{List, get_or, subst}
 use Rattle.class_refine.specs.declared.entry.Entry.{Entry}
 use Rattle.class_refine.specs.Trails.{held_in}
 use Rattle.conflict_core.specs.Conflicts.{IsChoiceAt}
-use Rattle.conflict_core.proofs.PivotLemmas.{chosen_at, forced_at, same_get, split_at, split_own}
+use Rattle.conflict_core.proofs.PivotLemmas.{chosen_at, forced_at, split_at, split_own}
 use Rattle.conflict_core.proofs.resolution.pivot_at.Goals as goal
+use Rattle.std.proofs.lemmas.List.{get_or_default}
 
 pub returns-in-Some : goal.returns-in-Some
 returns-in-Some c = λ d.
@@ -20,4 +21,4 @@ returns-in-None c = λ d.
     let es = c.args.domains.now.entries in
     let own = c.entry_of-own.result in
     let choice : IsChoiceAt es own = chosen_at es c.entries-2.result.now own _ c.entries-2.ensures.value c.entry_of-own.ensures.within (c.entry_of-own.ensures.held) c.in-None.ensures.chosen in
-    split_own es c.args.pairs.now (get_or (held_in es) c.args.last d) c.args.last own c.entries.ensures.lawful.distinct c.entry_of-own.ensures.within (λ e. c.entry_of-own.ensures.is e d) choice c.requires.within (λ e. same_get (held_in es) c.args.last e d c.requires.within) c.entry_of-own.ensures.front c.requires.among
+    split_own es c.args.pairs.now (get_or (held_in es) c.args.last d) c.args.last own c.entries.ensures.lawful.distinct c.entry_of-own.ensures.within (λ e. c.entry_of-own.ensures.is e d) choice c.requires.within (λ e. get_or_default (held_in es) c.args.last e d c.requires.within) c.entry_of-own.ensures.front c.requires.among
