@@ -11,7 +11,7 @@ use Rattle.cnf_core.specs.declared.literal.SatLit.{SatLit}
 use Rattle.cnf_core.specs.declared.stop.Stop.{Stop}
 use Rattle.cnf_core.specs.declared.stop.Stop.TheVariants.{Spent, Memory}
 use Rattle.cnf_core.specs.Clauses.{Formula, Meets, clause_at, is_met, opposite}
-use Rattle.cnf_core.specs.Derivations.{AreDerived, clauses_of, is_empty, line_fault}
+use Rattle.cnf_core.specs.Derivations.{AreDerived, clauses_of, is_empty, line_fault, has_all}
 use Rattle.cnf_core.specs.declared.log.LogLine.{LogLine}
 use Rattle.joint_hash.specs.Merging.{AreLemmas}
 use Rattle.joint_hash.specs.Trees.{AreJoined}
@@ -24,7 +24,6 @@ use Rattle.claim_core.specs.ConeClauses.{AllOfCones, AreConeIds, Coned, IsConeId
 use Rattle.cnf_core.specs.Charges.{Charging}
 use Rattle.query_core.specs.Ledgers.{Ledgered, charging_of, one_if, opened, with_lines}
 use Rattle.query_core.proofs.ChargingLemmas.{asked_after, is_opened}
-use Rattle.learn_solver.specs.Analyses.{has_all}
 use Rattle.learn_solver.specs.Solvers.{IsExtended, Solving, wanted}
 use Rattle.learn_solver.specs.Solvers.{IsStopped as IsSolverStopped}
 use Rattle.dense_solver.specs.Renamings.{AreShort}

@@ -4,8 +4,7 @@ use Rattle.std.proofs.lemmas.List.{get_or-set_same, get_or_at, length-append, le
 use Rattle.cnf_core.specs.declared.log.LogLine.{LogLine}
 use Rattle.cnf_core.specs.declared.stop.Stop.{Stop}
 use Rattle.cnf_core.specs.declared.stop.Stop.TheVariants.{Spent, Memory}
-use Rattle.cnf_core.specs.Derivations.{clauses_of}
-use Rattle.learn_solver.specs.Searches.{no_line}
+use Rattle.cnf_core.specs.Derivations.{clauses_of, no_line}
 use Rattle.learn_solver.proofs.BoundLemmas.{AreUnlike, few_lines, line_at, unlike_at}
 use Rattle.learn_solver.proofs.SolverLemmas.{line_known, line_says}
 use Rattle.net_core.specs.Sides.{Graphs}

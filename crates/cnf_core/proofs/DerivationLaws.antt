@@ -15,7 +15,7 @@ use Rattle.cnf_core.specs.declared.effect.Effect.TheVariants.{Makes, Neither}
 use Rattle.cnf_core.specs.declared.fault.LineFault.{LineFault}
 use Rattle.cnf_core.specs.declared.fault.LineFault.TheVariants as fault
 use Rattle.cnf_core.specs.Clauses.{Formula, Meets, is_met, as_signal, literal_bit, opposite, clause_at}
-use Rattle.cnf_core.specs.Derivations.{is_same, is_true, is_false, effect_by, effect_of, fault_after, hint_fault, is_empty, line_fault, clauses_of, AreDerived, IsRefutation}
+use Rattle.cnf_core.specs.Derivations.{is_same, is_true, is_false, effect_by, effect_of, fault_after, hint_fault, is_empty, line_fault, clauses_of, AreDerived, IsRefutation, no_line}
 use Rattle.cnf_core.proofs.LineLemmas.{clauses_more, line_says}
 use Rattle.cnf_core.proofs.LiteralLemmas.{same_literal}
 
@@ -83,9 +83,6 @@ negation_holds a clause unmet =
     let fails = false_from_ne_true (literal_bit a l) (λ holds. false≢true (sym unmet ∙ list_any_at (literal_bit a) clause k (record { 0 = 0 }) within holds)) in
     opposite_bit a l ∙ ap not fails)
 
-empty_line : LogLine
-empty_line = record { clause = []; hints = [] }
-
 -- a derived clause follows
 pub derived_met : (formula : Formula) (taken : List (List SatLit)) (line : LogLine) (a : List Bool) → line_fault formula taken line ≡ None → Meets a (formula.clauses ++ taken) → is_met a line.clause ≡ true
 derived_met formula taken line a none meets =
@@ -99,11 +96,11 @@ pub lines_met : (formula : Formula) (lines : List LogLine) (a : List Bool) (k : 
 lines_met formula lines a zero derived meets within = subst (Meets a) (sym (append-nil formula.clauses)) meets
 lines_met formula lines a (suc k) derived meets within =
     let below : k < length lines = omega (arith, within) in
-    let line = slice_index_or lines k empty_line in
+    let line = slice_index_or lines k no_line in
     let before = lines_met formula lines a k derived meets (omega (arith, within)) in
-    let met = derived_met formula (clauses_of (take k lines)) line a (derived k empty_line below) before in
+    let met = derived_met formula (clauses_of (take k lines)) line a (derived k no_line below) before in
     let more = All-push (λ clause. is_met a clause ≡ true) (formula.clauses ++ clauses_of (take k lines)) line.clause before met in
-    let split : clauses_of (take (suc k) lines) ≡ clauses_of (take k lines) ++ line.clause ∷ [] = ap clauses_of (take-suc lines k empty_line below) ∙ clauses_more (take k lines) line in
+    let split : clauses_of (take (suc k) lines) ≡ clauses_of (take k lines) ++ line.clause ∷ [] = ap clauses_of (take-suc lines k no_line below) ∙ clauses_more (take k lines) line in
     subst (Meets a) (append_assoc formula.clauses (clauses_of (take k lines)) (line.clause ∷ []) ∙ ap (λ more. formula.clauses ++ more) (sym split)) more
 
 -- one empty clause is like another

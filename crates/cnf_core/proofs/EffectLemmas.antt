@@ -1,9 +1,9 @@
 -- What the effect of a clause says of its literals, and what it takes.
-use Rattle.std.proofs.Common.{◌≡◌, ◌≢◌, ℕ, ◌<◌, ◌&&◌, ◌||◌, not, cond, Bool, true, false, List, [], ◌∷◌, drop, filter, All, Option, None, Some, IfSome, slice_index_or, inl, inr, refl, sym, ◌∙◌, ap, subst}
+use Rattle.std.proofs.Common.{◌≡◌, ◌≢◌, ℕ, ◌<◌, ◌&&◌, ◌||◌, not, cond, Bool, true, false, List, [], ◌∷◌, ◌++◌, drop, filter, All, Option, None, Some, IfSome, slice_index_or, inl, inr, refl, sym, ◌∙◌, ap, subst}
 use Rattle.std.specs.List.{list_any, list_all}
 use Rattle.std.proofs.lemmas.Bool.{false≢true, or_cases, or_left, and_parts, and_from, cases_Bool, cond-true, not-true, true_from_ne_false}
 use Rattle.std.proofs.lemmas.List.Elements.{All-contains}
-use Rattle.std.proofs.lemmas.List.Folds.{list_any_at}
+use Rattle.std.proofs.lemmas.List.Folds.{list_any_at, list_any-append}
 use Rattle.std.proofs.lemmas.List.Recursion.{and_from_places}
 use Rattle.std.proofs.lemmas.Map.Views.{Contains-from_any, any-filter_same}
 use Rattle.cnf_core.specs.declared.literal.SatLit.{SatLit}
@@ -16,6 +16,10 @@ use Rattle.cnf_core.proofs.LiteralLemmas.{same_itself, same_literal}
 -- the literals that aren't false
 abbrev pub open_ones : List SatLit → List SatLit → List SatLit
 open_ones made clause = filter (λ l. not (is_false made l)) clause
+
+-- what is true with one literal more
+pub true_more : (made : List SatLit) (l m : SatLit) → is_true (made ++ l ∷ []) m ≡ (is_true made m || (is_same m l || false))
+true_more made l m = list_any-append (is_same m) made (l ∷ [])
 
 -- what a clause does, by the one literal that was found and by what is left
 abbrev pub effect_with : List SatLit → Option SatLit → List SatLit → Effect

@@ -5,6 +5,10 @@ use Rattle.cnf_core.specs.declared.literal.SatLit.{SatLit}
 use Rattle.cnf_core.specs.Clauses.{is_negated, literal_of, opposite, variable_of}
 use Rattle.cnf_core.specs.Derivations.{is_same}
 
+-- stands where a list has no literal
+abbrev pub no_literal : SatLit
+no_literal = record { 0 = 0 }
+
 -- literals of one number are one
 pub same_number : (l m : SatLit) → l.0 ≡ m.0 → l ≡ m
 same_number l m e = ap (λ n. record { 0 = n }) e
@@ -50,6 +54,10 @@ its_opposite l = ap (λ n. record { 0 = n }) (number l.0)
 pub variable_of-literal : (v : ℕ) (b : Bool) → variable_of (literal_of v b) ≡ v
 variable_of-literal v true = omega arith
 variable_of-literal v false = omega arith
+
+pub opposite-literal : (v : ℕ) (b : Bool) → opposite (literal_of v b) ≡ literal_of v (not b)
+opposite-literal v true = ap (λ n. record { 0 = n }) (let e : 2 * (2 * v / 2) + (1 - 2 * v % 2) ≡ 2 * v + 1 = omega arith in e)
+opposite-literal v false = ap (λ n. record { 0 = n }) (let e : 2 * ((2 * v + 1) / 2) + (1 - (2 * v + 1) % 2) ≡ 2 * v = omega arith in e)
 
 pub variable_of-opposite : (l : SatLit) → variable_of (opposite l) ≡ variable_of l
 variable_of-opposite l = omega arith

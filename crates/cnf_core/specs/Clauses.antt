@@ -1,6 +1,6 @@
 -- Literals, clauses and formulas of propositional logic in conjunctive normal form, and what meets them (as in textbooks of
 -- satisfiability; the numbers of literals are those of the AIGER format, over variables).
-use Rattle.std.specs.Prelude.{◌≡◌, ℕ, ◌+◌, ◌*◌, Bool, true, List, [], take, All, slice_index_or, if◌then◌else◌}
+use Rattle.std.specs.Prelude.{◌≡◌, ℕ, ◌<◌, ◌+◌, ◌*◌, Bool, true, List, [], take, All, slice_index_or, if◌then◌else◌}
 use Rattle.std.specs.List.{list_any}
 use Rattle.circuits.specs.declared.netlist.Lit.{Lit}
 use Rattle.circuits.specs.Literals.{signal_of, inverse, is_negated as inverts, literal_bit as bit_of}
@@ -18,6 +18,10 @@ variable_of literal = signal_of (as_signal literal)
 -- whether a literal inverts its variable
 abbrev pub is_negated : SatLit → Bool
 is_negated literal = inverts (as_signal literal)
+
+-- each literal's variable is one of n
+abbrev pub AreKnown : ℕ → List SatLit → Type 0
+AreKnown variables clause = All (λ literal. variable_of literal < variables) clause
 
 -- the literal that is true where a variable has a bit
 abbrev pub literal_of : ℕ → Bool → SatLit

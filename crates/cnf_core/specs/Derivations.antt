@@ -22,6 +22,10 @@ is_true made literal = list_any (is_same literal) made
 abbrev pub is_false : List SatLit → SatLit → Bool
 is_false made literal = is_true made (opposite literal)
 
+-- whether all literals of another clause are among a clause's
+abbrev pub has_all : List SatLit → List SatLit → Bool
+has_all clause other = list_all (is_true clause) other
+
 -- what a clause does, by its literals that aren't false
 abbrev pub effect_by : List SatLit → List SatLit → Effect
 effect_by made [] = Conflict
@@ -52,6 +56,10 @@ is_empty (literal ∷ others) = false
 abbrev pub repeats_variable : List SatLit → Bool
 repeats_variable [] = false
 repeats_variable (literal ∷ others) = list_any (λ other. variable_of other == variable_of literal) others || repeats_variable others
+
+-- stands where a list has no line
+abbrev pub no_line : LogLine
+no_line = record { clause = []; hints = [] }
 
 -- what is wrong with a line that stands after these clauses of a log
 abbrev pub line_fault : Formula → List (List SatLit) → LogLine → Option LineFault

@@ -15,9 +15,8 @@ use Rattle.circuits.specs.Literals.{bit}
 use Rattle.cnf_core.specs.declared.literal.SatLit.{SatLit}
 use Rattle.cnf_core.specs.declared.clause.Clause3.{Clause3}
 use Rattle.cnf_core.specs.declared.log.LogLine.{LogLine}
-use Rattle.cnf_core.specs.Clauses.{Formula, clause_at, literals_of, variable_of}
+use Rattle.cnf_core.specs.Clauses.{Formula, clause_at, literals_of, variable_of, AreKnown}
 use Rattle.cnf_core.specs.Derivations.{clauses_of}
-use Rattle.watch_lists.specs.Propagations.{AreKnown}
 use Rattle.dense_solver.specs.Renamings.{AreListed, AreMarks, AreNames, AreOver, ArePlaces, AreTurned, IsNamed, IsOver, IsRenaming, numbers_of, renamed}
 use Rattle.number_marks.proofs.MarkLemmas.{marked_where}
 use Rattle.learn_solver.proofs.AnalysisLemmas.{unmarked_bit}

@@ -9,11 +9,9 @@ use Rattle.cnf_core.specs.declared.literal.SatLit.{SatLit}
 use Rattle.cnf_core.specs.declared.log.LogLine.{LogLine}
 use Rattle.cnf_core.specs.declared.stop.Stop.{Stop}
 use Rattle.cnf_core.specs.declared.stop.Stop.TheVariants.{Spent, Memory}
-use Rattle.cnf_core.specs.Clauses.{Formula, clause_at, is_met, is_negated, literal_bit, opposite, variable_of}
+use Rattle.cnf_core.specs.Clauses.{Formula, clause_at, is_met, is_negated, literal_bit, opposite, variable_of, AreKnown}
 use Rattle.cnf_core.specs.Charges.{Charging}
-use Rattle.cnf_core.specs.Derivations.{AreDerived, clauses_of, is_empty, line_fault}
-use Rattle.watch_lists.specs.Propagations.{AreKnown}
-use Rattle.learn_solver.specs.Analyses.{has_all}
+use Rattle.cnf_core.specs.Derivations.{AreDerived, clauses_of, is_empty, line_fault, has_all, no_line}
 use Rattle.learn_solver.specs.Solvers.{IsAdded, IsAsking, IsExtended, IsStopped, active}
 use Rattle.dense_solver.specs.declared.verdict.DenseVerdict.{DenseVerdict}
 use Rattle.dense_solver.specs.declared.verdict.DenseVerdict.TheVariants.{Model as Full, Refuted as Logged}
@@ -27,9 +25,6 @@ use Rattle.dense_solver.proofs.RenameLemmas.{has_all_renamed, met_renamed}
 use Rattle.cnf_core.proofs.LiteralLemmas.{variable_of-literal}
 use Rattle.dense_solver.proofs.LineLemmas.{clauses_after, empties_renamed, is_negated-literal, line_translated, names_rename}
 use Rattle.std.proofs.Math.Bool.{not-not}
-
-no_line : LogLine
-no_line = record { clause = []; hints = [] }
 
 -- learned lines are over the names
 pub learned_known : (small : Formula) (n : ℕ) (lines : List LogLine) → AreLearned small lines → small.variables ≡ n → All (AreKnown n) (clauses_of lines)

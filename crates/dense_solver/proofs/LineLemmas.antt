@@ -8,11 +8,10 @@ use Rattle.std.proofs.lemmas.List.Folds.{list_any-append}
 use Rattle.std.proofs.lemmas.List.Elements.{All-append, All-head, All-tail}
 use Rattle.cnf_core.specs.declared.literal.SatLit.{SatLit}
 use Rattle.cnf_core.specs.declared.log.LogLine.{LogLine}
-use Rattle.cnf_core.specs.Clauses.{Formula, clause_at, is_negated, literal_of, opposite, variable_of}
+use Rattle.cnf_core.specs.Clauses.{Formula, clause_at, is_negated, literal_of, opposite, variable_of, AreKnown}
 use Rattle.cnf_core.specs.Derivations.{clauses_of, hint_fault, is_empty, line_fault}
-use Rattle.cnf_core.proofs.LiteralLemmas.{itself, negated-opposite, same_number, variable_of-literal, variable_of-opposite}
+use Rattle.cnf_core.proofs.LiteralLemmas.{itself, negated-opposite, same_number, variable_of-literal, variable_of-opposite, opposite-literal}
 use Rattle.learn_solver.proofs.SolverLemmas.{line_from, line_known, line_says}
-use Rattle.watch_lists.specs.Propagations.{AreKnown}
 use Rattle.dense_solver.specs.Renamings.{AreNames, IsRenaming, renamed, renumbered, translated}
 use Rattle.dense_solver.proofs.RenameLemmas.{Renames, hints_renamed, once_renamed, opposites_known, opposites_renamed}
 use Rattle.std.proofs.Math.Bool.{not-not}
@@ -20,10 +19,6 @@ use Rattle.std.proofs.Math.Bool.{not-not}
 pub is_negated-literal : (v : ℕ) (b : Bool) → is_negated (literal_of v b) ≡ not b
 is_negated-literal v true = elim (eqb_tells (2 * v % 2) 1) [ inl (odd, e) ↦ absurd (omega (arith, e)) | inr (even, e) ↦ even ]
 is_negated-literal v false = eq-eqb ((2 * v + 1) % 2) 1 (omega arith)
-
-opposite-literal : (v : ℕ) (b : Bool) → opposite (literal_of v b) ≡ literal_of v (not b)
-opposite-literal v true = ap (λ n. record { 0 = n }) (let e : 2 * (2 * v / 2) + (1 - 2 * v % 2) ≡ 2 * v + 1 = omega arith in e)
-opposite-literal v false = ap (λ n. record { 0 = n }) (let e : 2 * ((2 * v + 1) / 2) + (1 - (2 * v + 1) % 2) ≡ 2 * v = omega arith in e)
 
 -- two tests agree where each says what the other does
 tests_agree : (a b c d : ℕ) → (a ≡ b → c ≡ d) → (c ≡ d → a ≡ b) → (a == b) ≡ (c == d)

@@ -1,5 +1,5 @@
 -- A derivation whose variables are renamed apart is a derivation.
-use Rattle.std.proofs.Common.{◌≡◌, ℕ, ◌<◌, ◌==◌, ◌&&◌, ◌||◌, not, cond, Bool, true, false, List, [], ◌∷◌, ◌++◌, length, map, filter, All, None, Some, slice_index_or, inl, inr, refl, sym, ◌∙◌, ap, subst, arith}
+use Rattle.std.proofs.Common.{◌≡◌, ℕ, ◌<◌, ◌==◌, ◌&&◌, ◌||◌, not, cond, Bool, true, false, List, [], ◌∷◌, ◌++◌, length, map, All, None, Some, slice_index_or, inl, inr, refl, sym, ◌∙◌, ap, subst, arith}
 use Rattle.std.specs.List.{list_any, list_all}
 use Rattle.std.proofs.lemmas.Bool.{cases_lt, le-ltb, lt-ltb}
 use Rattle.std.proofs.lemmas.List.{map-append}
@@ -8,11 +8,10 @@ use Rattle.cnf_core.specs.declared.literal.SatLit.{SatLit}
 use Rattle.cnf_core.specs.declared.effect.Effect.{Effect}
 use Rattle.cnf_core.specs.declared.effect.Effect.TheVariants.{Conflict, Makes, Neither}
 use Rattle.cnf_core.specs.declared.fault.LineFault.TheVariants as fault
-use Rattle.cnf_core.specs.Clauses.{clause_at, is_met, literal_bit, opposite, variable_of}
-use Rattle.cnf_core.specs.Derivations.{effect_by, effect_of, fault_after, hint_fault, is_false, is_same, is_true, repeats_variable}
-use Rattle.learn_solver.specs.Analyses.{has_all}
+use Rattle.cnf_core.specs.Clauses.{clause_at, is_met, literal_bit, opposite, variable_of, AreKnown}
+use Rattle.cnf_core.specs.Derivations.{effect_by, effect_of, fault_after, hint_fault, is_false, is_same, is_true, repeats_variable, has_all}
 use Rattle.learn_solver.proofs.PlaceLemmas.{variable_of-opposite}
-use Rattle.watch_lists.specs.Propagations.{AreKnown}
+use Rattle.cnf_core.proofs.EffectLemmas.{open_ones}
 
 -- Literals over the first n variables are renamed apart, each with its sign.
 pub record Renames (n : ℕ) (r : SatLit → SatLit) : Type 0 where
@@ -33,18 +32,15 @@ false_renamed : (n : ℕ) (r : SatLit → SatLit) → Renames n r → (made : Li
 false_renamed n r is made l known below =
     ap (is_true (map r made)) (is.turned l) ∙ true_renamed n r is made (opposite l) known (known-opposite n l below)
 
-abbrev open_in : List SatLit → List SatLit → List SatLit
-open_in made clause = filter (λ l. not (is_false made l)) clause
-
-open_renamed : (n : ℕ) (r : SatLit → SatLit) → Renames n r → (made clause : List SatLit) → AreKnown n made → AreKnown n clause → open_in (map r made) (map r clause) ≡ map r (open_in made clause)
+open_renamed : (n : ℕ) (r : SatLit → SatLit) → Renames n r → (made clause : List SatLit) → AreKnown n made → AreKnown n clause → open_ones (map r made) (map r clause) ≡ map r (open_ones made clause)
 open_renamed n r is made [] known below = refl
 open_renamed n r is made (l ∷ clause) known below =
     let here = false_renamed n r is made l known (All-head (λ (x : SatLit). variable_of x < n) l clause below) in
     let rest = open_renamed n r is made clause known (All-tail (λ (x : SatLit). variable_of x < n) l clause below) in
-    ap (λ b. cond (not b) (r l ∷ open_in (map r made) (map r clause)) (open_in (map r made) (map r clause))) here
+    ap (λ b. cond (not b) (r l ∷ open_ones (map r made) (map r clause)) (open_ones (map r made) (map r clause))) here
     ∙ (ap (λ ls. cond (not (is_false made l)) (r l ∷ ls) ls) rest ∙ by_test (not (is_false made l)))
   where
-    by_test : (b : Bool) → cond b (r l ∷ map r (open_in made clause)) (map r (open_in made clause)) ≡ map r (cond b (l ∷ open_in made clause) (open_in made clause))
+    by_test : (b : Bool) → cond b (r l ∷ map r (open_ones made clause)) (map r (open_ones made clause)) ≡ map r (cond b (l ∷ open_ones made clause) (open_ones made clause))
     by_test true = refl
     by_test false = refl
 
@@ -72,12 +68,12 @@ by_renamed n r is made (l ∷ others) known below =
     by_test false = refl
 
 -- what is left of known literals is known
-open_known : (n : ℕ) (made clause : List SatLit) → AreKnown n clause → AreKnown n (open_in made clause)
+open_known : (n : ℕ) (made clause : List SatLit) → AreKnown n clause → AreKnown n (open_ones made clause)
 open_known n made clause known = All-filter (λ l. not (is_false made l)) (λ (x : SatLit). variable_of x < n) clause known
 
 effect_renamed : (n : ℕ) (r : SatLit → SatLit) → Renames n r → (made clause : List SatLit) → AreKnown n made → AreKnown n clause → effect_of (map r made) (map r clause) ≡ moved r (effect_of made clause)
 effect_renamed n r is made clause known below =
-    ap (effect_by (map r made)) (open_renamed n r is made clause known below) ∙ by_renamed n r is made (open_in made clause) known (open_known n made clause below)
+    ap (effect_by (map r made)) (open_renamed n r is made clause known below) ∙ by_renamed n r is made (open_ones made clause) known (open_known n made clause below)
 
 -- a literal that is made is one of the clause
 makes_known : (n : ℕ) (made ones : List SatLit) (l : SatLit) → AreKnown n ones → effect_by made ones ≡ Makes l → variable_of l < n
@@ -102,7 +98,7 @@ hints_renamed n r is clauses all number within each made (s ∷ steps) known e =
           ap (λ b. cond b (fault_after (effect_of (map r made) (clause_at all (number s))) (map number steps) (λ m. hint_fault all (map r made ++ m ∷ []) (map number steps))) (Some fault.UnknownHint)) (lt-ltb (number s) (length all) there.0)
           ∙ (ap (λ c. fault_after (effect_of (map r made) c) (map number steps) (λ m. hint_fault all (map r made ++ m ∷ []) (map number steps))) there.1
           ∙ (ap (λ f. fault_after f (map number steps) (λ m. hint_fault all (map r made ++ m ∷ []) (map number steps))) (effect_renamed n r is made (clause_at clauses s) known here)
-          ∙ by_effect (effect_of made (clause_at clauses s)) steps (λ m made_is left. ap (λ ls. hint_fault all ls (map number steps)) (sym (map-append r made (m ∷ []))) ∙ hints_renamed n r is clauses all number within each (made ++ m ∷ []) steps (All-push (λ (x : SatLit). variable_of x < n) made m known (makes_known n made (open_in made (clause_at clauses s)) m (open_known n made (clause_at clauses s) here) made_is)) left) after))
+          ∙ by_effect (effect_of made (clause_at clauses s)) steps (λ m made_is left. ap (λ ls. hint_fault all ls (map number steps)) (sym (map-append r made (m ∷ []))) ∙ hints_renamed n r is clauses all number within each (made ++ m ∷ []) steps (All-push (λ (x : SatLit). variable_of x < n) made m known (makes_known n made (open_ones made (clause_at clauses s)) m (open_known n made (clause_at clauses s) here) made_is)) left) after))
     ]
   where
     by_effect : (effect : Effect) (left : List ℕ) → ((m : SatLit) → effect ≡ Makes m → hint_fault clauses (made ++ m ∷ []) steps ≡ None → hint_fault all (map r made ++ r m ∷ []) (map number steps) ≡ None) → fault_after effect left (λ m. hint_fault clauses (made ++ m ∷ []) steps) ≡ None → fault_after (moved r effect) (map number left) (λ m. hint_fault all (map r made ++ m ∷ []) (map number steps)) ≡ None

@@ -7,8 +7,7 @@ use Rattle.cnf_core.specs.declared.stop.Stop.{Stop}
 use Rattle.cnf_core.specs.declared.stop.Stop.TheVariants.{Spent, Memory}
 use Rattle.cnf_core.specs.Clauses.{Formula, Meets, clause_at}
 use Rattle.cnf_core.specs.Charges.{Charging}
-use Rattle.cnf_core.specs.Derivations.{AreDerived, clauses_of}
-use Rattle.learn_solver.specs.Analyses.{has_all}
+use Rattle.cnf_core.specs.Derivations.{AreDerived, clauses_of, has_all}
 use Rattle.learn_solver.specs.Solvers.{IsExtended, IsStopped, Solving, wanted}
 use Rattle.learn_solver.specs.Findings.{IsFinding}
 use Rattle.learn_solver.specs.declared.verdict.Finding.{Finding}

@@ -6,9 +6,8 @@ use Rattle.circuits.specs.Literals.{bit}
 use Rattle.cnf_core.specs.declared.literal.SatLit.{SatLit}
 use Rattle.cnf_core.specs.declared.clause.Clause3.{Clause3}
 use Rattle.cnf_core.specs.declared.log.LogLine.{LogLine}
-use Rattle.cnf_core.specs.Clauses.{Formula, clause_at, is_negated, literal_of, literals_of, variable_of}
+use Rattle.cnf_core.specs.Clauses.{Formula, clause_at, is_negated, literal_of, literals_of, variable_of, AreKnown}
 use Rattle.cnf_core.specs.Derivations.{clauses_of}
-use Rattle.watch_lists.specs.Propagations.{AreKnown}
 use Rattle.dense_solver.specs.declared.places.Places.{Places}
 use Rattle.dense_solver.specs.declared.places.Places.TheVariants.{Table, Bisected}
 

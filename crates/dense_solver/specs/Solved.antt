@@ -6,8 +6,7 @@ use Rattle.cnf_core.specs.declared.stop.Stop.{Stop}
 use Rattle.cnf_core.specs.declared.stop.Stop.TheVariants.{Spent, Memory}
 use Rattle.cnf_core.specs.Clauses.{Formula, Meets}
 use Rattle.cnf_core.specs.Charges.{Charging}
-use Rattle.cnf_core.specs.Derivations.{AreDerived, clauses_of, is_empty}
-use Rattle.learn_solver.specs.Analyses.{has_all}
+use Rattle.cnf_core.specs.Derivations.{AreDerived, clauses_of, is_empty, has_all}
 use Rattle.learn_solver.specs.Solvers.{IsModel, IsRefuted, Solving}
 use Rattle.learn_solver.specs.declared.verdict.Finding.{Finding}
 use Rattle.learn_solver.specs.declared.verdict.Finding.TheVariants.{Model, Refuted}

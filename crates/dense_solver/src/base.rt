@@ -1,10 +1,9 @@
 //! The clauses, and what is said about them in terms of the formula.
 
-ghost use Rattle.std.specs.Prelude.{◌≡◌, ◌<◌, ◌^◌, ◌++◌, All, IfOk, length, map};
-ghost use Rattle.cnf_core.specs.Clauses.{clause_at};
+ghost use Rattle.std.specs.Prelude.{◌≡◌, ◌<◌, ◌^◌, ◌++◌, All, IfOk, map};
+ghost use Rattle.cnf_core.specs.Clauses.{clause_at, AreKnown};
 ghost use Rattle.cnf_core.specs.Derivations.{clauses_of};
 ghost use Rattle.claim_core.specs.Formulas.{formula_of, query_clauses};
-ghost use Rattle.watch_lists.specs.Propagations.{AreKnown};
 ghost use Rattle.dense_solver.specs.Renamings.{AreShort, IsRenaming, numbers_of, renamed, small_formula};
 
 use crate::clauses::{over_names, wanted};

@@ -2,10 +2,9 @@
 
 ghost use Rattle.std.specs.Prelude.{◌≡◌, ◌<◌, ◌≤◌, ◌++◌, All, Contains, IfOk, length, map};
 ghost use Rattle.std.specs.List.Sorted.{IsNonDecreasing};
-ghost use Rattle.cnf_core.specs.Clauses.{clause_at, literals_of, variable_of};
+ghost use Rattle.cnf_core.specs.Clauses.{clause_at, literals_of, variable_of, AreKnown};
 ghost use Rattle.cnf_core.specs.Derivations.{clauses_of};
 ghost use Rattle.claim_core.specs.Formulas.{formula_of, query_clauses};
-ghost use Rattle.watch_lists.specs.Propagations.{AreKnown};
 ghost use Rattle.dense_solver.specs.Renamings.{AreNames, AreOver, AreShort, AreTurned, IsNamed, IsOver, TellPlaces, renamed};
 
 use crate::places::{Places, places_for};

@@ -1,7 +1,7 @@
 //! Lines over names, in terms of the formula.
 
 ghost use Rattle.std.specs.Prelude.{◌≡◌, ◌+◌, ◌-◌, ◌<◌, ◌^◌, All, IfOk, length, map};
-ghost use Rattle.watch_lists.specs.Propagations.{AreKnown};
+ghost use Rattle.cnf_core.specs.Clauses.{AreKnown};
 ghost use Rattle.dense_solver.specs.Renamings.{renamed, renumbered, translated};
 
 use crate::base::DenseBase;

@@ -2,8 +2,7 @@
 
 ghost use Rattle.std.specs.Prelude.{◌≡◌, ◌<◌, ◌^◌, ℕ, All, Contains, IfOk, OnOk, length};
 ghost use Rattle.std.specs.List.Sorted.{IsNonDecreasing};
-ghost use Rattle.cnf_core.specs.Clauses.{literals_of, variable_of};
-ghost use Rattle.watch_lists.specs.Propagations.{AreKnown};
+ghost use Rattle.cnf_core.specs.Clauses.{literals_of, variable_of, AreKnown};
 ghost use Rattle.dense_solver.specs.Renamings.{AreListed, AreMarks, AreNames, IsNamed, IsOver};
 
 use cnf_core::{Clause3, SatLit};

@@ -2,7 +2,7 @@
 
 ghost use Rattle.std.specs.Prelude.{◌≡◌, ◌+◌, ◌<◌, ◌^◌, ◌++◌, All, IfOk, IfErr, OnOk, true, false, length, map};
 ghost use Rattle.cnf_core.specs.Derivations.{clauses_of};
-ghost use Rattle.watch_lists.specs.Propagations.{AreKnown};
+ghost use Rattle.cnf_core.specs.Clauses.{AreKnown};
 ghost use Rattle.dense_solver.specs.Renamings.{AreNames, IsSpread, translated};
 ghost use Rattle.dense_solver.specs.Solved.{AreCharged, AreRefused, HaveNamed, IsTold};
 

@@ -1,8 +1,7 @@
 -- Clauses that lead to a conflict, and what one of them does on the way.
-use Rattle.std.proofs.Common.{◌≡◌, ◌⊎◌, ℕ, ◌<◌, ◌&&◌, ◌||◌, not, cond, true, false, List, [], ◌∷◌, ◌++◌, length, filter, inl, inr, refl, sym, ◌∙◌, ap, subst}
+use Rattle.std.proofs.Common.{◌≡◌, ◌⊎◌, ℕ, ◌<◌, ◌&&◌, ◌||◌, not, cond, true, false, List, [], ◌∷◌, ◌++◌, length, inl, inr, refl, sym, ◌∙◌, ap, subst}
 use Rattle.std.specs.List.{list_all, AllByRecursion}
 use Rattle.std.proofs.lemmas.Bool.{false≢true, cases_Bool, or_cases, or_left, or_right}
-use Rattle.std.proofs.lemmas.List.Folds.{list_any-append}
 use Rattle.cnf_core.specs.declared.literal.SatLit.{SatLit}
 use Rattle.cnf_core.specs.declared.effect.Effect.{Effect}
 use Rattle.cnf_core.specs.declared.effect.Effect.TheVariants.{Conflict, Makes, Neither}
@@ -10,21 +9,19 @@ use Rattle.cnf_core.specs.Clauses.{clause_at, opposite}
 use Rattle.cnf_core.specs.Derivations.{effect_by, effect_of, is_false, is_same, is_true}
 use Rattle.joint_hash.specs.Chains.{LeadOn, LeavesOnly}
 use Rattle.cnf_core.proofs.LiteralLemmas.{same_from, same_itself, same_literal}
+use Rattle.cnf_core.proofs.EffectLemmas.{open_ones, true_more}
 
 -- ---- what is true with one literal more
 
-pub true_with : (made : List SatLit) (l m : SatLit) → is_true (made ++ l ∷ []) m ≡ (is_true made m || (is_same m l || false))
-true_with made l m = list_any-append (is_same m) made (l ∷ [])
-
 pub stays_true : (made : List SatLit) (l m : SatLit) → is_true made m ≡ true → is_true (made ++ l ∷ []) m ≡ true
-stays_true made l m truth = true_with made l m ∙ or_left (is_true made m) (is_same m l || false) truth
+stays_true made l m truth = true_more made l m ∙ or_left (is_true made m) (is_same m l || false) truth
 
 pub last_true : (made : List SatLit) (l : SatLit) → is_true (made ++ l ∷ []) l ≡ true
-last_true made l = true_with made l l ∙ or_right (is_true made l) (is_same l l || false) (or_left (is_same l l) false (same_itself l))
+last_true made l = true_more made l l ∙ or_right (is_true made l) (is_same l l || false) (or_left (is_same l l) false (same_itself l))
 
 true_before : (made : List SatLit) (l m : SatLit) → is_true (made ++ l ∷ []) m ≡ true → (is_true made m ≡ true) ⊎ (m ≡ l)
 true_before made l m truth =
-    elim (or_cases (is_true made m) (is_same m l || false) (sym (true_with made l m) ∙ truth)) [
+    elim (or_cases (is_true made m) (is_same m l || false) (sym (true_more made l m) ∙ truth)) [
       | inl front ↦ inl front
       | inr after ↦ elim (or_cases (is_same m l) false after) [ inl same ↦ inr (same_literal m l same) | inr none ↦ absurd (false≢true none) ]
     ]
@@ -68,27 +65,24 @@ lead_too clauses made more (id ∷ ids) within leads = (
 
 -- ---- what a clause does
 
-abbrev open_in : List SatLit → List SatLit → List SatLit
-open_in made clause = filter (λ l. not (is_false made l)) clause
-
 -- of a clause whose literals are all false nothing is left
-none_open : (made clause : List SatLit) → AllByRecursion (λ l. is_false made l ≡ true) clause → open_in made clause ≡ []
+none_open : (made clause : List SatLit) → AllByRecursion (λ l. is_false made l ≡ true) clause → open_ones made clause ≡ []
 none_open made [] all = refl
 none_open made (l ∷ clause) all =
-    ap (λ b. cond (not b) (l ∷ open_in made clause) (open_in made clause)) all.0 ∙ none_open made clause all.1
+    ap (λ b. cond (not b) (l ∷ open_ones made clause) (open_ones made clause)) all.0 ∙ none_open made clause all.1
 
 pub all_false : (made clause : List SatLit) → AllByRecursion (λ l. is_false made l ≡ true) clause → effect_of made clause ≡ Conflict
 all_false made clause all = ap (effect_by made) (none_open made clause all)
 
 -- what is left is this literal, some times
-only_open : (made clause : List SatLit) (l : SatLit) → LeavesOnly made clause l → AllByRecursion (λ m. m ≡ l) (open_in made clause)
+only_open : (made clause : List SatLit) (l : SatLit) → LeavesOnly made clause l → AllByRecursion (λ m. m ≡ l) (open_ones made clause)
 only_open made [] l only = tt
 only_open made (m ∷ clause) l only =
     elim (cases_Bool (is_false made m)) [
       | inl falsity ↦
-          subst (AllByRecursion (λ x. x ≡ l)) (sym (ap (λ b. cond (not b) (m ∷ open_in made clause) (open_in made clause)) falsity)) (only_open made clause l only.1)
+          subst (AllByRecursion (λ x. x ≡ l)) (sym (ap (λ b. cond (not b) (m ∷ open_ones made clause) (open_ones made clause)) falsity)) (only_open made clause l only.1)
       | inr free ↦
-          subst (AllByRecursion (λ x. x ≡ l)) (sym (ap (λ b. cond (not b) (m ∷ open_in made clause) (open_in made clause)) free)) (one_of free only.0, only_open made clause l only.1)
+          subst (AllByRecursion (λ x. x ≡ l)) (sym (ap (λ b. cond (not b) (m ∷ open_ones made clause) (open_ones made clause)) free)) (one_of free only.0, only_open made clause l only.1)
     ]
   where
     one_of : is_false made m ≡ false → (m ≡ l) ⊎ (is_false made m ≡ true) → m ≡ l
@@ -118,7 +112,7 @@ does_by made l (m ∷ others) all =
     ]
 
 does_only : (made clause : List SatLit) (l : SatLit) → LeavesOnly made clause l → DoesOnly made l (effect_of made clause)
-does_only made clause l only = does_by made l (open_in made clause) (only_open made clause l only)
+does_only made clause l only = does_by made l (open_ones made clause) (only_open made clause l only)
 
 -- ---- a step on the way
 

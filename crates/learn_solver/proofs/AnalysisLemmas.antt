@@ -19,7 +19,8 @@ use Rattle.learn_solver.proofs.MarkLemmas.{none_pass, one_at_most}
 use Rattle.watch_lists.proofs.EffectLemmas.{conflict_from, conflict_says, makes_says, same_literal}
 use Rattle.learn_solver.proofs.DeriveLemmas.{IsAway, derive_away, derive_conflict, derive_unmarked}
 use Rattle.watch_lists.proofs.GrowLemmas.{low_level}
-use Rattle.learn_solver.proofs.PlaceLemmas.{ascend, before_whole, counted_here, decision_level, decision_raises, found_here, is_counted, last_decision, no_literal, place_of_false, stands, true_before, variable_of-opposite}
+use Rattle.learn_solver.proofs.PlaceLemmas.{ascend, before_whole, counted_here, decision_level, decision_raises, found_here, is_counted, last_decision, place_of_false, stands, true_before, variable_of-opposite}
+use Rattle.cnf_core.proofs.LiteralLemmas.{no_literal}
 
 -- where nothing is marked, nothing counts
 pub unmarked_bit : (n v : ℕ) → bit (replicate n false) v ≡ false

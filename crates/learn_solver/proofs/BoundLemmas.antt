@@ -15,14 +15,10 @@ use Rattle.cnf_core.specs.declared.log.LogLine.{LogLine}
 use Rattle.cnf_core.specs.declared.stop.Stop.{Stop}
 use Rattle.cnf_core.specs.declared.stop.Stop.TheVariants.{Spent, Memory}
 use Rattle.cnf_core.specs.Charges.{Charging}
-use Rattle.cnf_core.specs.Clauses.{is_negated, literal_of, variable_of}
-use Rattle.cnf_core.specs.Derivations.{clauses_of, is_same, is_true, repeats_variable}
-use Rattle.watch_lists.specs.Propagations.{AreKnown}
-use Rattle.cnf_core.proofs.LiteralLemmas.{itself, same_itself, same_literal}
-use Rattle.learn_solver.specs.Analyses.{has_all}
-use Rattle.learn_solver.specs.Searches.{no_line}
+use Rattle.cnf_core.specs.Clauses.{is_negated, literal_of, variable_of, AreKnown}
+use Rattle.cnf_core.specs.Derivations.{clauses_of, is_same, is_true, repeats_variable, has_all, no_line}
+use Rattle.cnf_core.proofs.LiteralLemmas.{itself, same_itself, same_literal, no_literal}
 use Rattle.learn_solver.specs.Solvers.{IsBoundedStop, IsExtended, IsStopped, Solving, wanted}
-use Rattle.learn_solver.proofs.PlaceLemmas.{no_literal}
 use Rattle.learn_solver.proofs.SolverLemmas.{line_known, line_says}
 
 -- a variable's digit in base 3: 1 where the clause has it, 2 where it has its opposite, else 0

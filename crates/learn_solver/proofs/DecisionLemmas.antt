@@ -4,8 +4,7 @@ use Rattle.std.proofs.lemmas.Bool.{cases_lt}
 use Rattle.std.proofs.lemmas.List.{get_or_default, get_or-set_same, length-set}
 use Rattle.circuits.specs.Literals.{bit}
 use Rattle.cnf_core.specs.declared.literal.SatLit.{SatLit}
-use Rattle.cnf_core.specs.Clauses.{clause_at, variable_of}
-use Rattle.watch_lists.specs.Propagations.{AreKnown}
+use Rattle.cnf_core.specs.Clauses.{clause_at, variable_of, AreKnown}
 use Rattle.learn_solver.specs.Analyses.{AreMarked, AreMarkedPlaces, StayMarked}
 use Rattle.learn_solver.specs.Solvers.{HaveVariables}
 use Rattle.learn_solver.proofs.MarkLemmas.{still}

@@ -4,7 +4,6 @@ use Rattle.std.specs.List.{list_all}
 use Rattle.std.proofs.lemmas.Bool.{cases_eq, false≢true, false_from_ne_true, both_ways, lt-ltb, or_cases, or_left, or_right}
 use Rattle.std.proofs.lemmas.Bool.Decides.{leb_tells}
 use Rattle.std.proofs.lemmas.List.{reverse-append}
-use Rattle.std.proofs.lemmas.List.Folds.{list_any-append}
 use Rattle.std.proofs.lemmas.List.Recursion.{and_at, and_from_places}
 use Rattle.circuits.specs.Literals.{bit}
 use Rattle.cnf_core.specs.declared.literal.SatLit.{SatLit}
@@ -18,7 +17,9 @@ use Rattle.watch_lists.specs.Propagations.{IsReason, before}
 use Rattle.learn_solver.specs.Analyses.{AreMarked, IsLeft, is_marked, kept_literals}
 use Rattle.watch_lists.proofs.EffectLemmas.{IsMaker, conflict_from, conflict_says, makes_from, makes_says, same_itself, same_literal}
 use Rattle.learn_solver.proofs.KeptLemmas.{kept_at, kept_there}
-use Rattle.learn_solver.proofs.PlaceLemmas.{before_whole, no_literal, same_place, stands, true_before, true_further, variable_of-opposite}
+use Rattle.learn_solver.proofs.PlaceLemmas.{before_whole, same_place, stands, true_before, true_further, variable_of-opposite}
+use Rattle.cnf_core.proofs.EffectLemmas.{true_more}
+use Rattle.cnf_core.proofs.LiteralLemmas.{no_literal}
 
 -- a first step that leaves a single literal, and one that is the conflict
 pub step_makes : (clauses : List (List SatLit)) (made : List SatLit) (id : ℕ) (rest : List ℕ) (l : SatLit) → id < length clauses → effect_of made (clause_at clauses id) ≡ Makes l → hint_fault clauses (made ++ l ∷ []) rest ≡ None → hint_fault clauses made (id ∷ rest) ≡ None
@@ -49,10 +50,6 @@ derive_conflict clauses es marked id there conflict are_marked made left =
         let all = conflict_says (literals es) c conflict in
         let falsity = and_at (list_all (is_false (literals es))) (is_false (literals es)) refl (λ _ _. refl) c k no_literal within all in
         false_left es marked (length es) (length es) (length es) made (slice_index_or c k no_literal) (omega arith) left (are_marked k no_literal within) (ap (λ m. is_false m (slice_index_or c k no_literal)) (before_whole es) ∙ falsity)
-
--- what is true with one literal more
-pub true_more : (made : List SatLit) (l m : SatLit) → is_true (made ++ l ∷ []) m ≡ (is_true made m || (is_same m l || false))
-true_more made l m = list_any-append (is_same m) made (l ∷ [])
 
 -- What changes in the marks where the literal at a place gives way to the others of its reason, of which those that stand
 -- before `low` are left.

@@ -15,7 +15,8 @@ use Rattle.trail_core.specs.Trails.{entry_at, literals, nothing}
 use Rattle.watch_lists.specs.Propagations.{before}
 use Rattle.learn_solver.specs.Analyses.{is_marked, kept_literals}
 use Rattle.watch_lists.proofs.EffectLemmas.{same_itself, same_literal}
-use Rattle.learn_solver.proofs.PlaceLemmas.{no_literal, opposite_twice, stands, true_before}
+use Rattle.learn_solver.proofs.PlaceLemmas.{opposite_twice, stands, true_before}
+use Rattle.cnf_core.proofs.LiteralLemmas.{no_literal}
 
 -- one literal further
 kept_more : (es : List Assigned) (marked : List Bool) (p : ℕ) → p < length es → kept_literals es marked (p + 1) ≡ kept_literals es marked p ++ cond (is_marked marked (entry_at es p)) ((entry_at es p).literal ∷ []) []

@@ -8,15 +8,16 @@ use Rattle.std.proofs.lemmas.List.Recursion.{and_at, and_from_places}
 use Rattle.cnf_core.specs.declared.literal.SatLit.{SatLit}
 use Rattle.cnf_core.specs.declared.effect.Effect.TheVariants.{Neither}
 use Rattle.cnf_core.specs.Clauses.{opposite, variable_of}
-use Rattle.cnf_core.specs.Derivations.{effect_of, hint_fault, is_empty, is_false, is_same, is_true, repeats_variable}
+use Rattle.cnf_core.specs.Derivations.{effect_of, hint_fault, is_empty, is_false, is_same, is_true, repeats_variable, has_all}
 use Rattle.trail_core.specs.declared.assigned.Assigned.{Assigned}
 use Rattle.trail_core.specs.Trails.{IsTrail, Trailing, entry_at}
 use Rattle.watch_lists.specs.Propagations.{IsJustified, IsSound, before}
-use Rattle.learn_solver.specs.Analyses.{IsBackLevel, IsLearnedAs, IsLeft, IsReduced, has_all, here_in, is_marked, kept_here, kept_literals}
+use Rattle.learn_solver.specs.Analyses.{IsBackLevel, IsLearnedAs, IsLeft, IsReduced, here_in, is_marked, kept_here, kept_literals}
 use Rattle.watch_lists.proofs.EffectLemmas.{neither_two, not_neither, same_itself}
 use Rattle.learn_solver.proofs.KeptLemmas.{kept_at, kept_there, learned_at, opposite_there, opposites_twice}
 use Rattle.watch_lists.proofs.GrowLemmas.{low_level}
-use Rattle.learn_solver.proofs.PlaceLemmas.{IsHere, ascend, counted_here, decision_level, decision_raises, found_here, last_decision, no_literal, only_here, opposite_twice, same_place, stands, true_before, variable_of-opposite}
+use Rattle.learn_solver.proofs.PlaceLemmas.{IsHere, ascend, counted_here, decision_level, decision_raises, found_here, last_decision, only_here, opposite_twice, same_place, stands, true_before, variable_of-opposite}
+use Rattle.cnf_core.proofs.LiteralLemmas.{no_literal}
 
 -- all marked literals that are left, and no others, are true where the clause is negated
 kept_left : (es : List Assigned) (marked : List Bool) (p : ℕ) → IsLeft es marked 0 p (kept_literals es marked p)

@@ -12,7 +12,8 @@ use Rattle.watch_lists.specs.Propagations.{IsReason, before}
 use Rattle.learn_solver.specs.Analyses.{AreMarked, AreOnTrail, IsAnalysed, IsReduced, IsReducing, StayFrom, StayMarked, here_in, is_marked, kept_here}
 use Rattle.learn_solver.proofs.DeriveLemmas.{IsAway, derive_away}
 use Rattle.learn_solver.proofs.MarkLemmas.{apart, same_count}
-use Rattle.learn_solver.proofs.PlaceLemmas.{ascend, is_counted, no_literal, stands, variable_of-opposite}
+use Rattle.learn_solver.proofs.PlaceLemmas.{ascend, is_counted, stands, variable_of-opposite}
+use Rattle.cnf_core.proofs.LiteralLemmas.{no_literal}
 
 -- at the analysis' end nothing is minimized yet
 pub reduced_start : (clauses : List (List SatLit)) (t : Trailing) (marked : List Bool) (below here : ℕ) (steps : List ℕ) → IsAnalysed clauses t marked below here steps → here ≤ kept_here t.level → IsReduced clauses t marked below here steps below

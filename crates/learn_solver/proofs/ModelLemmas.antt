@@ -7,10 +7,10 @@ use Rattle.std.proofs.lemmas.List.Elements.{All-contains}
 use Rattle.circuits.specs.Literals.{bit, differ}
 use Rattle.cnf_core.specs.declared.literal.SatLit.{SatLit}
 use Rattle.cnf_core.specs.declared.effect.Effect.TheVariants.{Conflict, Neither}
-use Rattle.cnf_core.specs.Clauses.{is_negated, literal_bit, literal_of, opposite, variable_of}
+use Rattle.cnf_core.specs.Clauses.{is_negated, literal_bit, literal_of, opposite, variable_of, AreKnown}
 use Rattle.cnf_core.specs.Derivations.{clauses_of, effect_of, is_false, is_true}
 use Rattle.trail_core.specs.Trails.{Trailing, literals, value_in}
-use Rattle.watch_lists.specs.Propagations.{AreKnown, IsQuiet}
+use Rattle.watch_lists.specs.Propagations.{IsQuiet}
 use Rattle.learn_solver.specs.Searches.{AreValues, IsAssigned, IsSearching}
 use Rattle.learn_solver.specs.Solvers.{HaveVariables, IsModel, IsSolver, Solving, active, wanted}
 use Rattle.trail_core.proofs.TrailLemmas.{value_none}

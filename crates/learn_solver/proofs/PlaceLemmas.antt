@@ -22,9 +22,6 @@ pub use Rattle.trail_core.proofs.CutLemmas.{ascend}
 use Rattle.trail_core.proofs.TrailLemmas.{decisions_more}
 pub use Rattle.trail_core.proofs.TrailLemmas.{same_place}
 
-abbrev pub no_literal : SatLit
-no_literal = record { 0 = 0 }
-
 -- A literal stands before a place.
 pub record Stands (entries : List Assigned) (place : ℕ) (literal : SatLit) : Type 0 where
   pub at : ℕ

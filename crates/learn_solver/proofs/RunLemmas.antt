@@ -6,12 +6,12 @@ use Rattle.std.proofs.lemmas.List.{get_or_append_left, get_or_at, get_or_default
 use Rattle.cnf_core.specs.declared.literal.SatLit.{SatLit}
 use Rattle.cnf_core.specs.declared.log.LogLine.{LogLine}
 use Rattle.cnf_core.specs.declared.effect.Effect.TheVariants.{Neither}
-use Rattle.cnf_core.specs.Clauses.{clause_at}
+use Rattle.cnf_core.specs.Clauses.{clause_at, AreKnown}
 use Rattle.cnf_core.specs.Derivations.{clauses_of, effect_of, is_empty, is_true, line_fault}
 use Rattle.trail_core.specs.declared.assigned.Assigned.{Assigned}
 use Rattle.trail_core.specs.Trails.{IsTrail, Trailing, entry_at, literals, nothing}
 use Rattle.trail_core.proofs.TrailLemmas.{true_at}
-use Rattle.watch_lists.specs.Propagations.{AreKnown, IsGrown, IsJustified, IsQuiet, IsSound, before}
+use Rattle.watch_lists.specs.Propagations.{IsGrown, IsJustified, IsQuiet, IsSound, before}
 use Rattle.watch_lists.specs.Watched.{AreQuiet, Fits, IsCovered, IsPresent, IsRewatched, Watching}
 use Rattle.watch_lists.proofs.AttachLemmas.{fits_grown}
 use Rattle.watch_lists.proofs.EffectLemmas.{neither_true}

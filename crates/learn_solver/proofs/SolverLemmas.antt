@@ -10,9 +10,8 @@ use Rattle.cnf_core.specs.declared.log.LogLine.{LogLine}
 use Rattle.cnf_core.specs.declared.effect.Effect.{Effect}
 use Rattle.cnf_core.specs.declared.effect.Effect.TheVariants.{Conflict, Makes, Neither}
 use Rattle.cnf_core.specs.declared.fault.LineFault.TheVariants as fault
-use Rattle.cnf_core.specs.Clauses.{Formula, clause_at, variable_of}
+use Rattle.cnf_core.specs.Clauses.{Formula, clause_at, variable_of, AreKnown}
 use Rattle.cnf_core.specs.Derivations.{AreDerived, clauses_of, effect_of, fault_after, hint_fault, is_empty, line_fault}
-use Rattle.watch_lists.specs.Propagations.{AreKnown}
 pub use Rattle.cnf_core.proofs.LineLemmas.{IsLine, clauses_more, derived_more, line_from, line_says}
 use Rattle.learn_solver.proofs.DeriveLemmas.{step_conflict, step_makes}
 use Rattle.learn_solver.specs.Solvers.{ArePut, IsSolver, active, id_at, wanted}

@@ -12,14 +12,14 @@ use Rattle.cnf_core.specs.declared.log.LogLine.{LogLine}
 use Rattle.cnf_core.specs.declared.stop.Stop.{Stop}
 use Rattle.cnf_core.specs.declared.stop.Stop.TheVariants.{Spent, Memory}
 use Rattle.cnf_core.specs.Clauses.{clause_at, opposite, variable_of}
-use Rattle.cnf_core.specs.Derivations.{clauses_of, hint_fault, is_empty}
+use Rattle.cnf_core.specs.Derivations.{clauses_of, hint_fault, is_empty, has_all, no_line}
 use Rattle.trail_core.specs.Trails.{Trailing}
 use Rattle.cnf_core.specs.Charges.{Charging, IsCharged, IsRefused}
-use Rattle.learn_solver.specs.Analyses.{IsLearnedAs, has_all}
+use Rattle.learn_solver.specs.Analyses.{IsLearnedAs}
 use Rattle.learn_solver.specs.Solvers.{IsAdded, IsAsking, IsExtended, IsSolver, IsStopped, Solving, id_at}
-use Rattle.learn_solver.specs.Searches.{IsLesson, IsSearching, last_line, no_line}
-use Rattle.learn_solver.proofs.PlaceLemmas.{no_literal}
+use Rattle.learn_solver.specs.Searches.{IsLesson, IsSearching, last_line}
 use Rattle.learn_solver.proofs.SolverLemmas.{at_number, hints_carried, line_from}
+use Rattle.cnf_core.proofs.LiteralLemmas.{no_literal}
 
 -- none of the clauses that are looked at is empty
 none_empty : (cs : List (List SatLit)) → list_any is_empty cs ≡ false → All (λ c. is_empty c ≡ false) cs

@@ -1,20 +1,15 @@
 -- What is learned from a conflict, and how far an analysis has come (Marques-Silva and Sakallah, GRASP, 1999).
 use Rattle.std.specs.Prelude.{◌≡◌, ℕ, ◌<◌, ◌≤◌, ◌==◌, ◌&&◌, Bool, true, false, List, [], length, map, take, filter, reverse, replicate, All, Contains, None, count_by, if◌then◌else◌, ◌⊎◌}
-use Rattle.std.specs.List.{list_all}
 use Rattle.circuits.specs.Literals.{bit}
 use Rattle.cnf_core.specs.declared.literal.SatLit.{SatLit}
 use Rattle.cnf_core.specs.declared.effect.Effect.TheVariants.{Neither}
-use Rattle.cnf_core.specs.Clauses.{opposite, variable_of}
-use Rattle.cnf_core.specs.Derivations.{effect_of, hint_fault, is_empty, is_true, repeats_variable}
+use Rattle.cnf_core.specs.Clauses.{opposite, variable_of, AreKnown}
+use Rattle.cnf_core.specs.Derivations.{effect_of, hint_fault, is_empty, is_true, repeats_variable, has_all}
 use Rattle.trail_core.specs.declared.assigned.Assigned.{Assigned}
 use Rattle.trail_core.specs.Trails.{Trailing, entry_at, literals}
 use Rattle.learn_solver.specs.declared.conflict.Analysis.{Analysis}
 use Rattle.learn_solver.specs.declared.conflict.LearnedClause.{LearnedClause}
-use Rattle.watch_lists.specs.Propagations.{AreKnown, IsConflict, IsSound, before}
-
--- whether a clause has all the literals of another
-abbrev pub has_all : List SatLit → List SatLit → Bool
-has_all clause other = list_all (is_true clause) other
+use Rattle.watch_lists.specs.Propagations.{IsConflict, IsSound, before}
 
 -- how many literals of the present level a learned clause keeps
 abbrev pub kept_here : ℕ → ℕ

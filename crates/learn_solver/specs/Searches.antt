@@ -3,13 +3,13 @@ use Rattle.std.specs.Prelude.{◌≡◌, ◌≢◌, ℕ, ◌+◌, ◌-◌, ◌*�
 use Rattle.std.specs.List.{list_any}
 use Rattle.cnf_core.specs.declared.literal.SatLit.{SatLit}
 use Rattle.cnf_core.specs.declared.log.LogLine.{LogLine}
-use Rattle.cnf_core.specs.Clauses.{literal_of}
+use Rattle.cnf_core.specs.Clauses.{literal_of, AreKnown}
 use Rattle.cnf_core.specs.declared.effect.Effect.TheVariants.{Neither}
-use Rattle.cnf_core.specs.Derivations.{clauses_of, effect_of, is_empty, is_true, line_fault}
+use Rattle.cnf_core.specs.Derivations.{clauses_of, effect_of, is_empty, is_true, line_fault, has_all, no_line}
 use Rattle.cnf_core.specs.Charges.{Charging, IsCharged}
 use Rattle.trail_core.specs.Trails.{Trailing, entry_at, literals, value_in}
-use Rattle.watch_lists.specs.Propagations.{AreKnown, IsSound, before}
-use Rattle.learn_solver.specs.Analyses.{IsAsserting, has_all}
+use Rattle.watch_lists.specs.Propagations.{IsSound, before}
+use Rattle.learn_solver.specs.Analyses.{IsAsserting}
 use Rattle.learn_solver.specs.Solvers.{IsAdded, IsAsking, IsExtended, IsSolver, Solving, active}
 use Rattle.learn_solver.specs.declared.search.Search.{Search}
 use Rattle.learn_solver.specs.declared.search.Tools.{Tools}
@@ -39,9 +39,6 @@ pub record IsSearching (solving : Solving) (trail : Trailing) : Type 0 where
   pub variables : trail.variables ≡ solving.formula.variables
   pub unrefuted : list_any is_empty (clauses_of solving.lines) ≡ false
   pub sound : IsSound (active solving.formula solving.ids solving.lines) trail
-
-abbrev pub no_line : LogLine
-no_line = record { clause = []; hints = [] }
 
 -- the last of some lines
 abbrev pub last_line : List LogLine → LogLine

@@ -4,13 +4,11 @@ use Rattle.cnf_core.specs.declared.literal.SatLit.{SatLit}
 use Rattle.cnf_core.specs.declared.log.LogLine.{LogLine}
 use Rattle.cnf_core.specs.declared.stop.Stop.{Stop}
 use Rattle.cnf_core.specs.declared.stop.Stop.TheVariants.{Spent, Memory}
-use Rattle.cnf_core.specs.Clauses.{Formula, Meets, clause_at, variable_of}
-use Rattle.cnf_core.specs.Derivations.{AreDerived, IsRefutation, clauses_of, is_empty, line_fault}
+use Rattle.cnf_core.specs.Clauses.{Formula, Meets, clause_at, variable_of, AreKnown}
+use Rattle.cnf_core.specs.Derivations.{AreDerived, IsRefutation, clauses_of, is_empty, line_fault, has_all}
 use Rattle.cnf_core.specs.Charges.{Charging}
 use Rattle.learn_solver.specs.declared.verdict.Verdict.{Verdict}
 use Rattle.learn_solver.specs.declared.verdict.Verdict.TheVariants.{Model, Refuted}
-use Rattle.watch_lists.specs.Propagations.{AreKnown}
-use Rattle.learn_solver.specs.Analyses.{has_all}
 
 -- The formula, the numbers of the clauses that are looked at, and the lines: lemmas, then learned ones.
 pub record Solving : Type 0 where

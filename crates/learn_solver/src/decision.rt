@@ -1,9 +1,8 @@
 //! Decisions, and the model once there is nothing left to decide.
 
 ghost use Rattle.std.specs.Prelude.{◌≡◌, ◌≢◌, ◌<◌, All, None, IfOk, IfSome, IfNone, length};
-ghost use Rattle.cnf_core.specs.Clauses.{literal_of};
-ghost use Rattle.trail_core.specs.Trails.{IsFree, IsTrail, literals, value_in};
-ghost use Rattle.watch_lists.specs.Propagations.{AreKnown};
+ghost use Rattle.cnf_core.specs.Clauses.{AreKnown};
+ghost use Rattle.trail_core.specs.Trails.{IsFree};
 ghost use Rattle.learn_solver.specs.Analyses.{AreMarked, AreMarkedPlaces, StayMarked};
 ghost use Rattle.learn_solver.specs.Searches.{IsAssigned, AreValues};
 ghost use Rattle.learn_solver.specs.Solvers.{HaveVariables};

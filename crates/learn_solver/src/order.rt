@@ -1,9 +1,8 @@
 //! The order in which variables are decided.
 
 ghost use Rattle.std.specs.Prelude.{ℕ, ◌≡◌, ◌^◌, ◌<◌, All, IfOk, IfSome, length};
-ghost use Rattle.cnf_core.specs.Clauses.{variable_of};
+ghost use Rattle.cnf_core.specs.Clauses.{variable_of, AreKnown};
 ghost use Rattle.trail_core.specs.Trails.{IsFree};
-ghost use Rattle.watch_lists.specs.Propagations.{AreKnown};
 ghost use Rattle.learn_solver.specs.Orders.{IsOrder};
 
 use crate::conflict::no_marks;

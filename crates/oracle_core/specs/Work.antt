@@ -1,12 +1,11 @@
 -- What the entries of a ledger are worth: lines that were derived for queries of two circuits, each query asked once, and no
 -- line that says less than what was known (this project's; derivations are those of hinted unit propagation).
 use Rattle.std.specs.Prelude.{◌≡◌, ◌≢◌, ◌⊎◌, ℕ, ◌<◌, ◌≤◌, Bool, false, List, None, length, take, All, AllPairs}
-use Rattle.std.specs.List.{list_all}
 use Rattle.circuits.specs.Literals.{EachAt}
 use Rattle.circuits.specs.Matches.{HavePorts}
 use Rattle.cnf_core.specs.declared.literal.SatLit.{SatLit}
 use Rattle.cnf_core.specs.declared.log.LogLine.{LogLine}
-use Rattle.cnf_core.specs.Derivations.{AreDerived, clauses_of, is_true, line_fault}
+use Rattle.cnf_core.specs.Derivations.{AreDerived, clauses_of, line_fault, has_all}
 use Rattle.net_core.specs.Sides.{Graphs}
 use Rattle.net_core.specs.declared.matching.Matching.{Matching}
 use Rattle.claim_core.specs.declared.claims.Claim.{Claim}
@@ -23,10 +22,6 @@ use Rattle.query_core.specs.Ledgers.{Ledgered}
 -- lines were learned for the entry, after its lemmas
 abbrev pub IsCharged : Asked → Type 0
 IsCharged entry = entry.lemmas < length entry.lines
-
--- whether a clause has all the literals of another
-abbrev pub has_all : List SatLit → List SatLit → Bool
-has_all clause other = list_all (is_true clause) other
 
 -- a clause that says something that another doesn't say: it hasn't all its literals
 abbrev pub IsNewBeside : List SatLit → List SatLit → Type 0

@@ -10,9 +10,9 @@ use Rattle.std.proofs.lemmas.List.Sums.{count_by-le-length, sum_by-set}
 use Rattle.std.proofs.lemmas.List.Elements.{All-append, All-cons, All-nil}
 use Rattle.std.specs.declared.alloc.Global.{Global}
 use Rattle.cnf_core.specs.declared.literal.SatLit.{SatLit}
-use Rattle.cnf_core.specs.Clauses.{variable_of, is_negated, literal_of, opposite}
+use Rattle.cnf_core.specs.Clauses.{variable_of, is_negated, literal_of, opposite, AreKnown}
 use Rattle.cnf_core.specs.Derivations.{is_same, is_true, is_false}
-use Rattle.refute_check.specs.Values.{AreKnown, IsOfMade, IsMade, bit_at, tells, is_of}
+use Rattle.refute_check.specs.Values.{IsOfMade, IsMade, bit_at, tells, is_of}
 use Rattle.cnf_core.proofs.LiteralLemmas.{its_opposite, itself, not_opposite, not_same, same_itself, variable_of-literal}
 
 -- where no literal has a variable, neither literal of it is among them

@@ -9,11 +9,11 @@ use Rattle.std.proofs.Math.Seq.{drop-cons, take-suc}
 use Rattle.cnf_core.specs.declared.literal.SatLit.{SatLit}
 use Rattle.cnf_core.specs.declared.effect.Effect.{Effect}
 use Rattle.cnf_core.specs.declared.effect.Effect.TheVariants.{Makes}
-use Rattle.cnf_core.specs.Clauses.{variable_of, opposite}
+use Rattle.cnf_core.specs.Clauses.{variable_of, opposite, AreKnown}
 use Rattle.cnf_core.specs.Derivations.{is_same, is_true, is_false, effect_of, hint_fault, repeats_variable}
 use Rattle.cnf_core.proofs.EffectLemmas.{known_at, makes_says}
 use Rattle.cnf_core.proofs.LiteralLemmas.{not_same, variable_of-opposite}
-use Rattle.refute_check.specs.Values.{AreKnown, CanBeMade, Made}
+use Rattle.refute_check.specs.Values.{CanBeMade, Made}
 
 -- what a clause of known literals makes true can be made
 pub can_be_made : (values : Made) (n : ℕ) (clause : List SatLit) (effect : Effect) (l : SatLit)

@@ -4,10 +4,10 @@ use Rattle.std.specs.Coded.{Coded, code_by, coded×, coded_ℕ, coded_list, code
 use Rattle.std.specs.List.{list_any}
 use Rattle.cnf_core.specs.declared.literal.SatLit.{SatLit}
 use Rattle.cnf_core.specs.declared.fault.LineFault.{LineFault}
-use Rattle.cnf_core.specs.Clauses.{Formula}
+use Rattle.cnf_core.specs.Clauses.{Formula, AreKnown}
 use Rattle.cnf_core.specs.Derivations.{is_empty}
 use Rattle.cnf_core.specs.Stores.{Stored}
-use Rattle.refute_check.specs.Values.{Made, AreKnown}
+use Rattle.refute_check.specs.Values.{Made}
 
 -- A base, the clauses of the lines that were taken, in order, and the room for one line more: none, or n literals at
 -- most.

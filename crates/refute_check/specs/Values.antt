@@ -1,20 +1,16 @@
 -- Literals that were made true, and the bits that they give their variables.
-use Rattle.std.specs.Prelude.{◌≡◌, ℕ, ◌<◌, ◌≤◌, ◌==◌, Bool, false, List, length, All, Option, None, Some, Vec, count_by, is_some, slice_index_or, vec_capacity}
+use Rattle.std.specs.Prelude.{◌≡◌, ℕ, ◌<◌, ◌≤◌, ◌==◌, Bool, false, List, length, Option, None, Some, Vec, count_by, is_some, slice_index_or, vec_capacity}
 use Rattle.std.specs.Bool.{beq}
 use Rattle.std.specs.List.{list_any}
 use Rattle.std.specs.declared.alloc.Global.{Global}
 use Rattle.cnf_core.specs.declared.literal.SatLit.{SatLit}
-use Rattle.cnf_core.specs.Clauses.{variable_of, literal_of}
+use Rattle.cnf_core.specs.Clauses.{variable_of, literal_of, AreKnown}
 use Rattle.cnf_core.specs.Derivations.{is_true, is_false}
 
 -- Literals that were made true, in order, over n variables.
 pub record Made : Type 0 where
   pub variables : ℕ
   pub made : List SatLit
-
--- each literal's variable is one of n
-abbrev pub AreKnown : ℕ → List SatLit → Type 0
-AreKnown variables clause = All (λ literal. variable_of literal < variables) clause
 
 abbrev pub bit_at : List (Option Bool) → ℕ → Option Bool
 bit_at bits variable = slice_index_or bits variable None

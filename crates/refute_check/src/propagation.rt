@@ -5,10 +5,10 @@ ghost use Rattle.std.specs.List.{list_any, list_all};
 ghost use Rattle.cnf_core.specs.declared.effect.Effect.TheVariants.{Conflict};
 ghost use Rattle.cnf_core.specs.declared.fault.LineFault.TheVariants as fault;
 ghost use Rattle.cnf_core.specs.declared.literal.SatLit.{SatLit as AnyLiteral};
-ghost use Rattle.cnf_core.specs.Clauses.{clause_at, opposite, variable_of};
+ghost use Rattle.cnf_core.specs.Clauses.{clause_at, opposite, variable_of, AreKnown};
 ghost use Rattle.cnf_core.specs.Derivations.{effect_of, fault_after, hint_fault, is_empty, line_fault, repeats_variable};
 ghost use Rattle.refute_check.specs.Refutations.{answer_of};
-ghost use Rattle.refute_check.specs.Values.{AreKnown, CanBeMade};
+ghost use Rattle.refute_check.specs.Values.{CanBeMade};
 
 use crate::values::Values;
 use cnf_core::{Assignment, Base, ClauseStore, Effect, LineFault, LogLine, SatLit, effect_of};

@@ -11,7 +11,7 @@ use Rattle.circuits.specs.Literals.{bit}
 use Rattle.cnf_core.specs.declared.literal.SatLit.{SatLit}
 use Rattle.cnf_core.specs.Clauses.{literal_of, opposite, variable_of}
 use Rattle.cnf_core.specs.Derivations.{is_false, is_same, is_true, repeats_variable}
-use Rattle.cnf_core.proofs.LiteralLemmas.{not_opposite, same_from, same_itself, same_literal, variable_of-literal}
+use Rattle.cnf_core.proofs.LiteralLemmas.{not_opposite, same_from, same_itself, same_literal, variable_of-literal, opposite-literal}
 use Rattle.table_oracle.specs.Splits.{excluding}
 use Rattle.table_oracle.proofs.KnownLemmas.{AreApart, IsKnown}
 use Rattle.std.proofs.Math.Bool.{not-not}
@@ -19,20 +19,10 @@ use Rattle.std.proofs.Math.Bool.{not-not}
 abbrev pub start : List Bool → List SatLit
 start bits = map opposite (excluding bits)
 
-pub opposite_of : (v : ℕ) (b : Bool) → opposite (literal_of v b) ≡ literal_of v (not b)
-opposite_of v true = ap (λ n. record { 0 = n }) (number v)
-  where
-    number : (v : ℕ) → 2 * (2 * v / 2) + (1 - 2 * v % 2) ≡ 2 * v + 1
-    number v = omega arith
-opposite_of v false = ap (λ n. record { 0 = n }) (number v)
-  where
-    number : (v : ℕ) → 2 * ((2 * v + 1) / 2) + (1 - (2 * v + 1) % 2) ≡ 2 * v
-    number v = omega arith
-
 signs_differ : (v : ℕ) (b : Bool) → literal_of v b ≡ literal_of v (not b) → ⊥
 signs_differ v b same =
     let l = literal_of v b in
-    both_ways (is_same (opposite l) l) (not_opposite l) (same_from (opposite l) l (opposite_of v b ∙ sym same))
+    both_ways (is_same (opposite l) l) (not_opposite l) (same_from (opposite l) l (opposite-literal v b ∙ sym same))
 
 pub count_of_excluding : (bits : List Bool) → length (excluding bits) ≡ length bits
 count_of_excluding bits = length-map-range_with_len (λ i. literal_of (1 + i) (not (bit bits i))) 0 (length bits)
@@ -43,7 +33,7 @@ excluding_at bits i d within = get_or-map-range_with_len (λ i. literal_of (1 + 
 start_at : (bits : List Bool) (i : ℕ) (d : SatLit) → i < length bits → slice_index_or (start bits) i d ≡ literal_of (1 + i) (bit bits i)
 start_at bits i d within =
     get_or-map opposite (excluding bits) i d d (omega (arith, within, count_of_excluding bits))
-    ∙ (ap opposite (excluding_at bits i d within) ∙ (opposite_of (1 + i) (not (bit bits i)) ∙ ap (literal_of (1 + i)) (not-not (bit bits i))))
+    ∙ (ap opposite (excluding_at bits i d within) ∙ (opposite-literal (1 + i) (not (bit bits i)) ∙ ap (literal_of (1 + i)) (not-not (bit bits i))))
 
 count_of_start : (bits : List Bool) → length (start bits) ≡ length bits
 count_of_start bits = length-map (excluding bits) opposite ∙ count_of_excluding bits
@@ -93,14 +83,14 @@ start_apart bits l truth =
   where
     clash : (i j : ℕ) → l ≡ literal_of (1 + i) (bit bits i) → opposite l ≡ literal_of (1 + j) (bit bits j) → ⊥
     clash i j one other =
-        let turned : literal_of (1 + i) (not (bit bits i)) ≡ literal_of (1 + j) (bit bits j) = sym (opposite_of (1 + i) (bit bits i)) ∙ (sym (ap opposite one) ∙ other) in
+        let turned : literal_of (1 + i) (not (bit bits i)) ≡ literal_of (1 + j) (bit bits j) = sym (opposite-literal (1 + i) (bit bits i)) ∙ (sym (ap opposite one) ∙ other) in
         let same : j ≡ i = omega (arith, ap variable_of turned, variable_of-literal (1 + i) (not (bit bits i)), variable_of-literal (1 + j) (bit bits j)) in
         signs_differ (1 + i) (bit bits i) (sym (turned ∙ ap (λ k. literal_of (1 + k) (bit bits k)) same))
 
 -- a literal of an input whose literals of the other sign is true
 turned_known : (made : List SatLit) (v : ℕ) (b : Bool) → is_true made (literal_of v (not b)) ≡ true → IsKnown made (literal_of v b)
 turned_known made v b truth =
-    or_right (is_true made (literal_of v b)) (is_false made (literal_of v b)) (ap (is_true made) (opposite_of v b) ∙ truth)
+    or_right (is_true made (literal_of v b)) (is_false made (literal_of v b)) (ap (is_true made) (opposite-literal v b) ∙ truth)
 
 known_by : (made : List SatLit) (v : ℕ) (own b : Bool) → is_true made (literal_of v own) ≡ true → IsKnown made (literal_of v b)
 known_by made v true true truth = or_left (is_true made (literal_of v true)) (is_false made (literal_of v true)) truth

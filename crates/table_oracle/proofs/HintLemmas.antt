@@ -9,21 +9,20 @@ use Rattle.cnf_core.specs.declared.literal.SatLit.{SatLit}
 use Rattle.cnf_core.specs.declared.effect.Effect.TheVariants.{Conflict, Makes, Neither}
 use Rattle.cnf_core.specs.declared.fault.LineFault.TheVariants as fault
 use Rattle.cnf_core.specs.Clauses.{clause_at, literal_of, opposite}
-use Rattle.cnf_core.specs.Derivations.{effect_of, fault_after, hint_fault, is_false, is_same, is_true}
-use Rattle.learn_solver.specs.Analyses.{has_all}
+use Rattle.cnf_core.specs.Derivations.{effect_of, fault_after, hint_fault, is_false, is_same, is_true, has_all}
 use Rattle.net_core.specs.Sides.{Graphs}
 use Rattle.net_core.specs.Graph.{IsGraph}
 use Rattle.claim_core.specs.declared.query.Query.{Query}
 use Rattle.claim_core.specs.Queries.{IsQuery, bits_in}
 use Rattle.claim_core.specs.Formulas.{query_clauses}
-use Rattle.cnf_core.proofs.LiteralLemmas.{not_opposite, opposite_twice, same_from, same_itself, same_literal}
-use Rattle.cnf_core.proofs.EffectLemmas.{conflict_from, makes_from, makes_says}
+use Rattle.cnf_core.proofs.LiteralLemmas.{not_opposite, opposite_twice, same_from, same_itself, same_literal, opposite-literal}
+use Rattle.cnf_core.proofs.EffectLemmas.{conflict_from, makes_from, makes_says, true_more}
 use Rattle.learn_solver.proofs.KeptLemmas.{opposite_there}
 use Rattle.learn_solver.proofs.DeriveLemmas.{step_conflict, step_makes}
-use Rattle.joint_hash.proofs.LeadLemmas.{last_true, stays_true, true_with}
+use Rattle.joint_hash.proofs.LeadLemmas.{last_true, stays_true}
 use Rattle.table_oracle.specs.Splits.{excluding}
 use Rattle.table_oracle.proofs.KnownLemmas.{AreApart, IsHeld}
-use Rattle.table_oracle.proofs.ExcludingLemmas.{excluding_more, opposite_of, start, start_apart, start_known, start_later}
+use Rattle.table_oracle.proofs.ExcludingLemmas.{excluding_more, start, start_apart, start_known, start_later}
 use Rattle.table_oracle.proofs.WholeLemmas.{IsBegun, clause_held}
 
 -- a first hint that makes a literal true
@@ -37,7 +36,7 @@ hint_makes clauses made id rest l there makes =
 -- a literal of the longer clause is one of the shorter one, or the last
 either_of : (clause : List SatLit) (x y : SatLit) (T : Type 0) → is_true (clause ++ x ∷ []) y ≡ true → (is_true clause y ≡ true → T) → (y ≡ x → T) → T
 either_of clause x y T among one other =
-    elim (or_cases (is_true clause y) (is_same y x || false) (sym (true_with clause x y) ∙ among)) [
+    elim (or_cases (is_true clause y) (is_same y x || false) (sym (true_more clause x y) ∙ among)) [
       | inl front ↦ one front
       | inr after ↦
           elim (or_cases (is_same y x) false after) [ inl same ↦ other (same_literal y x same) | inr none ↦ absurd (false≢true none) ]
@@ -48,7 +47,7 @@ module _ (clauses : List (List SatLit)) (bits : List Bool) where
   next = literal_of (1 + length bits) true
 
   other_next : opposite next ≡ literal_of (1 + length bits) false
-  other_next = opposite_of (1 + length bits) true
+  other_next = opposite-literal (1 + length bits) true
 
   abbrev made : List SatLit
   made = start bits
@@ -98,7 +97,7 @@ module _ (clauses : List (List SatLit)) (bits : List Bool) where
       each [] e = refl
       each (y ∷ ys) e =
           let parts = and_parts (is_true (excluding bits ++ last ∷ []) y) (list_all (is_true (excluding bits ++ last ∷ [])) ys) e in
-          and_from (is_false (made ++ next ∷ []) y) (list_all (is_false (made ++ next ∷ [])) ys) (either_of (excluding bits) last y (is_false (made ++ next ∷ []) y ≡ true) parts.0 (λ front. stays_true made next (opposite y) (false_there y front)) (λ same. ap (is_true (made ++ next ∷ [])) (ap opposite same ∙ opposite_of (1 + length bits) false) ∙ last_true made next)) (each ys parts.1)
+          and_from (is_false (made ++ next ∷ []) y) (list_all (is_false (made ++ next ∷ [])) ys) (either_of (excluding bits) last y (is_false (made ++ next ∷ []) y ≡ true) parts.0 (λ front. stays_true made next (opposite y) (false_there y front)) (λ same. ap (is_true (made ++ next ∷ [])) (ap opposite same ∙ opposite-literal (1 + length bits) false) ∙ last_true made next)) (each ys parts.1)
 
   pub halves_derive : (one other : ℕ) → one < length clauses → other < length clauses → has_all (excluding (bits ++ false ∷ [])) (clause_at clauses one) ≡ true → has_all (excluding (bits ++ true ∷ [])) (clause_at clauses other) ≡ true → has_all (excluding bits) (clause_at clauses one) ≡ false → hint_fault clauses (start bits) (one ∷ other ∷ []) ≡ None
   halves_derive one other there too left right fresh =

@@ -12,7 +12,7 @@ use Rattle.circuits.proofs.Codes.{code_of, code_of-below, length-vector_of, vect
 use Rattle.cnf_core.specs.declared.literal.SatLit.{SatLit}
 use Rattle.cnf_core.specs.declared.log.LogLine.{LogLine}
 use Rattle.cnf_core.specs.Clauses.{clause_at, opposite, variable_of}
-use Rattle.cnf_core.specs.Derivations.{IsRefutation, clauses_of, hint_fault, is_empty, is_same, is_true, repeats_variable}
+use Rattle.cnf_core.specs.Derivations.{IsRefutation, clauses_of, hint_fault, is_empty, is_same, is_true, repeats_variable, has_all}
 use Rattle.cnf_core.specs.declared.stop.Stop.{Stop}
 use Rattle.net_core.specs.Sides.{Graphs}
 use Rattle.net_core.specs.Graph.{IsGraph}
@@ -20,7 +20,6 @@ use Rattle.claim_core.specs.declared.query.Query.{Query}
 use Rattle.claim_core.specs.Queries.{IsQuery}
 use Rattle.claim_core.specs.Formulas.{Asking, formula_of, query_clauses}
 use Rattle.cnf_core.specs.Charges.{Charging, IsCharged, IsRefused}
-use Rattle.learn_solver.specs.Analyses.{has_all}
 use Rattle.learn_solver.specs.Searches.{last_line}
 use Rattle.learn_solver.specs.Solvers.{IsAdded, IsAsking, IsExtended, active}
 use Rattle.learn_solver.specs.Solvers.{IsStopped as IsHalted}

@@ -6,11 +6,10 @@ use Rattle.circuits.specs.Literals.{bit}
 use Rattle.cnf_core.specs.declared.literal.SatLit.{SatLit}
 use Rattle.cnf_core.specs.declared.log.LogLine.{LogLine}
 use Rattle.cnf_core.specs.Clauses.{clause_at, literal_of}
-use Rattle.cnf_core.specs.Derivations.{clauses_of}
+use Rattle.cnf_core.specs.Derivations.{clauses_of, has_all}
 use Rattle.net_core.specs.Graph.{IsGraph}
 use Rattle.claim_core.specs.Queries.{IsQuery, IsUnmet, bits_in}
 use Rattle.claim_core.specs.Formulas.{Asking, formula_of, query_clauses}
-use Rattle.learn_solver.specs.Analyses.{has_all}
 use Rattle.learn_solver.specs.Solvers.{Solving}
 use Rattle.table_oracle.specs.declared.splitting.Splitting.{Splitting}
 

@@ -1,8 +1,7 @@
 //! Which literals clauses have.
 
 ghost use Rattle.std.specs.Prelude.{◌≡◌};
-ghost use Rattle.cnf_core.specs.Derivations.{is_true};
-ghost use Rattle.learn_solver.specs.Analyses.{has_all};
+ghost use Rattle.cnf_core.specs.Derivations.{is_true, has_all};
 
 use cnf_core::SatLit;
 

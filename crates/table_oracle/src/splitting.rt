@@ -1,15 +1,13 @@
 //! Refutation of a query by splitting on one input after the other.
 
-ghost use Rattle.std.specs.Prelude.{◌≡◌, ◌+◌, ◌<◌, ◌≤◌, ◌++◌, ◌∷◌, [], List, false, true, None, All, IfOk, IfErr, IfSome, IfNone, OnOk, length, map};
-ghost use Rattle.std.specs.List.{list_any};
+ghost use Rattle.std.specs.Prelude.{◌≡◌, ◌+◌, ◌<◌, ◌≤◌, ◌++◌, ◌∷◌, [], List, false, true, None, IfOk, IfErr, IfSome, IfNone, OnOk, length, map};
 ghost use Rattle.cnf_core.specs.declared.literal.SatLit.{SatLit as AnyLiteral};
 ghost use Rattle.cnf_core.specs.Clauses.{opposite};
-ghost use Rattle.cnf_core.specs.Derivations.{IsRefutation, hint_fault};
+ghost use Rattle.cnf_core.specs.Derivations.{IsRefutation, hint_fault, has_all};
 ghost use Rattle.claim_core.specs.Formulas.{formula_of, query_clauses};
 ghost use Rattle.cnf_core.specs.Charges.{IsCharged, IsRefused};
 ghost use Rattle.query_core.specs.Ledgers.{charging_of};
 ghost use Rattle.claim_core.specs.Queries.{IsQuery, IsUnmet, bits_in};
-ghost use Rattle.learn_solver.specs.Analyses.{has_all};
 ghost use Rattle.learn_solver.specs.Searches.{last_line};
 ghost use Rattle.learn_solver.specs.Solvers.{IsAsking, IsExtended, IsStopped as IsHalted};
 ghost use Rattle.ask_core.specs.Answers.{IsAskedIn, IsStopped};

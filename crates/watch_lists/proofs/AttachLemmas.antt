@@ -4,14 +4,14 @@ use Rattle.std.proofs.lemmas.Bool.{cases_eq, cases_lt, false≢true}
 use Rattle.std.proofs.lemmas.List.{get_or_append_left, get_or_at, get_or_past, get_or-append-add, get_or-replicate, length-append, length-replicate}
 use Rattle.std.proofs.lemmas.List.Elements.{All-push}
 use Rattle.cnf_core.specs.declared.literal.SatLit.{SatLit}
-use Rattle.cnf_core.specs.Clauses.{clause_at, opposite, variable_of}
+use Rattle.cnf_core.specs.Clauses.{clause_at, opposite, variable_of, AreKnown}
 use Rattle.cnf_core.specs.Derivations.{is_empty, is_true}
 use Rattle.trail_core.specs.declared.assigned.Assigned.{Assigned}
 use Rattle.trail_core.specs.Trails.{Trailing, entry_at, nothing}
 use Rattle.watch_lists.specs.declared.threads.ThreadedWatch.{ThreadedWatch}
 use Rattle.watch_lists.specs.declared.threads.Head.{Head}
 use Rattle.watch_lists.specs.Feet.{ArePair, IsSettled}
-use Rattle.watch_lists.specs.Propagations.{AreKnown, IsSound}
+use Rattle.watch_lists.specs.Propagations.{IsSound}
 use Rattle.watch_lists.specs.Threads.{ArePut, AreThreaded, IsAttached, IsIn, IsOnce, head_at, links, list_of, literal_at, no_head, no_watch, partner, watch_at}
 use Rattle.watch_lists.specs.Watched.{AreKept, Fits, IsHeld, IsPresent, Watching, loose_watch, with_clause}
 use Rattle.watch_lists.proofs.FitLemmas.{held_further}

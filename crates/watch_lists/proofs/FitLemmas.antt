@@ -3,7 +3,7 @@ use Rattle.std.proofs.Common.{◌≡◌, ◌≢◌, ℕ, ◌+◌, ◌*◌, ◌/�
 use Rattle.std.proofs.lemmas.Bool.{both_ways, cases_eq, false_from_ne_true}
 use Rattle.std.proofs.lemmas.List.{append-nil, get_or-set_same, get_or-set_other, get_or_append_left, get_or_at, length-append, length-set}
 use Rattle.cnf_core.specs.declared.literal.SatLit.{SatLit}
-use Rattle.cnf_core.specs.Clauses.{clause_at, opposite, variable_of}
+use Rattle.cnf_core.specs.Clauses.{clause_at, opposite, variable_of, AreKnown}
 use Rattle.cnf_core.specs.Derivations.{is_false, is_true}
 use Rattle.trail_core.specs.declared.assigned.Assigned.{Assigned}
 use Rattle.trail_core.specs.Trails.{IsTrail, Trailing, entry_at, literals, nothing}
@@ -11,7 +11,7 @@ use Rattle.trail_core.proofs.TrailLemmas.{place_of_true, same_place, true_at}
 use Rattle.watch_lists.specs.declared.threads.ThreadedWatch.{ThreadedWatch}
 use Rattle.watch_lists.specs.declared.threads.Head.{Head}
 use Rattle.watch_lists.specs.Looks.{IsBeside, IsHalfFalse, IsTarget}
-use Rattle.watch_lists.specs.Propagations.{AreKnown, IsReason, IsSound}
+use Rattle.watch_lists.specs.Propagations.{IsReason, IsSound}
 use Rattle.watch_lists.specs.Threads.{AreAlike, IsAttached, IsIn, head_at, literal_at, no_watch, partner}
 use Rattle.watch_lists.specs.Watched.{AreOfClauses, IsHeld, IsPresent, IsWalking, IsWatched}
 use Rattle.watch_lists.proofs.EffectLemmas.{known_at}

@@ -3,14 +3,10 @@
 use Rattle.std.specs.Prelude.{◌≡◌, ℕ, ◌<◌, ◌≤◌, List, length, take, All, Option, None, Some}
 use Rattle.cnf_core.specs.declared.literal.SatLit.{SatLit}
 use Rattle.cnf_core.specs.declared.effect.Effect.TheVariants.{Conflict, Makes, Neither}
-use Rattle.cnf_core.specs.Clauses.{clause_at, variable_of}
+use Rattle.cnf_core.specs.Clauses.{clause_at}
 use Rattle.cnf_core.specs.Derivations.{effect_of}
 use Rattle.trail_core.specs.declared.assigned.Assigned.{Assigned}
 use Rattle.trail_core.specs.Trails.{Trailing, entry_at, literals}
-
--- each literal's variable is one of n
-abbrev pub AreKnown : ℕ → List SatLit → Type 0
-AreKnown variables clause = All (λ literal. variable_of literal < variables) clause
 
 -- no clause is a conflict or leaves a single literal: each has a true literal or two unassigned ones
 abbrev pub IsQuiet : List (List SatLit) → List SatLit → Type 0

@@ -2,13 +2,13 @@
 use Rattle.std.specs.Prelude.{◌≡◌, ℕ, ◌*◌, ◌/◌, ◌<◌, ◌≤◌, true, List, [], ◌∷◌, ◌++◌, length, All, slice_index_or, ◌⊎◌}
 use Rattle.cnf_core.specs.declared.literal.SatLit.{SatLit}
 use Rattle.cnf_core.specs.declared.effect.Effect.TheVariants.{Neither}
-use Rattle.cnf_core.specs.Clauses.{clause_at, opposite}
+use Rattle.cnf_core.specs.Clauses.{clause_at, opposite, AreKnown}
 use Rattle.cnf_core.specs.Derivations.{effect_of, is_true}
 use Rattle.trail_core.specs.declared.assigned.Assigned.{Assigned}
 use Rattle.trail_core.specs.Trails.{IsTrail, Trailing, entry_at}
 use Rattle.watch_lists.specs.declared.threads.ThreadedWatch.{ThreadedWatch}
 use Rattle.watch_lists.specs.declared.threads.Head.{Head}
-use Rattle.watch_lists.specs.Propagations.{AreKnown, IsSound}
+use Rattle.watch_lists.specs.Propagations.{IsSound}
 use Rattle.watch_lists.specs.Threads.{AreThreaded, IsAttached, IsIn, literal_at, partner}
 
 -- The clauses over this many variables, and the two watches of each.

@@ -1,8 +1,7 @@
 -- One lemma more.
 use Rattle.std.proofs.Common.{◌≤◌, List, length, map, sym, subst, ap, ◌∙◌, arith}
 use Rattle.cnf_core.specs.declared.literal.SatLit.{SatLit}
-use Rattle.cnf_core.specs.Clauses.{clause_at}
-use Rattle.watch_lists.specs.Propagations.{AreKnown}
+use Rattle.cnf_core.specs.Clauses.{clause_at, AreKnown}
 use Rattle.learn_solver.proofs.StartLemmas.{line_clause}
 use Rattle.claim_core.specs.Formulas.{formula_of}
 use Rattle.dense_solver.proofs.BaseLemmas.{lemma_over_more}

@@ -3,11 +3,11 @@ use Rattle.std.proofs.Common.{◌+◌, ◌<◌, ◌-◌, List, All, length, sym,
 use Rattle.std.proofs.lemmas.List.{length-map}
 use Rattle.cnf_core.specs.declared.log.LogLine.{LogLine}
 use Rattle.cnf_core.specs.Derivations.{clauses_of}
-use Rattle.watch_lists.specs.Propagations.{AreKnown}
 use Rattle.dense_solver.specs.Renamings.{small_formula, translated}
 use Rattle.dense_solver.specs.Solved.{AreLearned, IsHalted}
 use Rattle.dense_solver.proofs.FullLemmas.{learned_few, learned_known}
 use Rattle.dense_solver.proofs.solving.search_dense.Goals as goal
+use Rattle.cnf_core.specs.Clauses.{AreKnown}
 
 pub charge_told-requires-clause-known : goal.charge_told-requires-clause-known
 charge_told-requires-clause-known g c =

@@ -1,8 +1,8 @@
 -- A line is over the names.
 use Rattle.std.proofs.Common.{length}
-use Rattle.watch_lists.specs.Propagations.{AreKnown}
 use Rattle.learn_solver.proofs.StartLemmas.{line_clause}
 use Rattle.dense_solver.proofs.telling.translated_all.Goals as goal
+use Rattle.cnf_core.specs.Clauses.{AreKnown}
 
 pub translated-requires-clause-known : goal.translated-requires-clause-known
 translated-requires-clause-known c =

@@ -2,13 +2,13 @@
 use Rattle.std.proofs.Common.{ℕ, ◌<◌, List, [], replicate, sym, subst, ap, ◌∙◌, false, All, arith}
 use Rattle.cnf_core.specs.declared.literal.SatLit.{SatLit}
 use Rattle.cnf_core.specs.Derivations.{clauses_of}
-use Rattle.watch_lists.specs.Propagations.{AreKnown}
 use Rattle.watch_lists.specs.Watched.{Watching}
 use Rattle.learn_solver.specs.Orders.{IsOrder}
 use Rattle.learn_solver.specs.Solvers.{HaveVariables}
 use Rattle.learn_solver.proofs.StartLemmas.{begun_is}
 use Rattle.learn_solver.proofs.SolverLemmas.{lines_known}
 use Rattle.learn_solver.proofs.search.begun.Goals as goal
+use Rattle.cnf_core.specs.Clauses.{AreKnown}
 
 pub put_lines-requires-clause-known : goal.put_lines-requires-clause-known
 put_lines-requires-clause-known g c =

@@ -2,9 +2,9 @@
 use Rattle.std.proofs.Common.{◌≡◌, false, List, sym, subst}
 use Rattle.cnf_core.specs.declared.literal.SatLit.{SatLit}
 use Rattle.cnf_core.specs.Derivations.{is_empty}
-use Rattle.watch_lists.specs.Propagations.{AreKnown}
 use Rattle.learn_solver.proofs.StartLemmas.{line_clause}
 use Rattle.learn_solver.proofs.search.put_lines.Goals as goal
+use Rattle.cnf_core.specs.Clauses.{AreKnown}
 
 pub add-requires-clause-known : goal.add-requires-clause-known
 add-requires-clause-known c =

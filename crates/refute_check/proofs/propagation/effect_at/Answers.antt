@@ -1,8 +1,8 @@
 -- What a clause makes true can be made, since its literals are known.
 use Rattle.std.proofs.Common.{[], subst, sym, ◌<◌, ◌-◌, length, arith}
-use Rattle.refute_check.specs.Values.{AreKnown}
 use Rattle.refute_check.proofs.WalkLemmas.{can_be_made}
 use Rattle.refute_check.proofs.propagation.effect_at.Goals as goal
+use Rattle.cnf_core.specs.Clauses.{AreKnown}
 
 pub returns-then-id-count-clause-makes : goal.returns-then-id-count-clause-makes
 returns-then-id-count-clause-makes g c literal e =

@@ -1,7 +1,7 @@
 use Rattle.std.proofs.Common.{sym, ap, ◌∙◌}
-use Rattle.learn_solver.specs.Analyses.{has_all}
 use Rattle.table_oracle.proofs.SplitLemmas.{new_next}
 use Rattle.table_oracle.proofs.splitting.covering_line.Goals as goal
+use Rattle.cnf_core.specs.Derivations.{has_all}
 
 pub loop-place-preserved : goal.loop-place-preserved
 loop-place-preserved c =

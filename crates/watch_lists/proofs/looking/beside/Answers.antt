@@ -1,17 +1,14 @@
 use Rattle.std.proofs.Common.{All, subst, arith}
 use Rattle.std.proofs.lemmas.List.{take_all}
 use Rattle.std.proofs.lemmas.List.Elements.{All-more}
-use Rattle.cnf_core.specs.declared.literal.SatLit.{SatLit}
 use Rattle.trail_core.specs.Trails.{literals}
 use Rattle.watch_lists.specs.Looks.{IsOut}
 use Rattle.watch_lists.proofs.looking.beside.Goals as goal
-
-abbrev none : SatLit
-none = record { 0 = 0 }
+use Rattle.cnf_core.proofs.LiteralLemmas.{no_literal}
 
 pub loop-literal-preserved : goal.loop-literal-preserved
 loop-literal-preserved c =
-    All-more (IsOut (literals c.args.trail.now.entries) c.args.other) c.args.clause.now c.loop-literal.literal-index none c.loop-literal-test.true c.loop-literal.invariant (c.is_out.ensures.yes c.if-not-is_out.false)
+    All-more (IsOut (literals c.args.trail.now.entries) c.args.other) c.args.clause.now c.loop-literal.literal-index no_literal c.loop-literal-test.true c.loop-literal.invariant (c.is_out.ensures.yes c.if-not-is_out.false)
 
 pub returns-clause-none : goal.returns-clause-none
 returns-clause-none c =

@@ -4,10 +4,10 @@ use Rattle.std.specs.declared.alloc.Global.{Global}
 use Rattle.cnf_core.specs.Stores.{Stored}
 use Rattle.watch_lists.specs.declared.threads.Head.{Head}
 use Rattle.watch_lists.specs.declared.threads.ThreadedWatch.{ThreadedWatch}
-use Rattle.watch_lists.specs.Propagations.{AreKnown}
 use Rattle.watch_lists.specs.Watched.{AreKept, Watching, loose_watch}
 use Rattle.watch_lists.proofs.AttachLemmas.{kept_added}
 use Rattle.watch_lists.proofs.watches.Watches.add.Goals as goal
+use Rattle.cnf_core.specs.Clauses.{AreKnown}
 
 pub invariant_of-self-2 : goal.invariant_of-self-2
 invariant_of-self-2 c =
