@@ -1,5 +1,6 @@
 -- A record has one fault at most, so that an answer tells exactly it.
 use Rattle.std.proofs.Common.{◌≡◌, ◌≢◌, Option, None, Some, Result, Ok, Err, IsOk, OnOk, refl, sym, ap, ◌∙◌}
+use Rattle.std.proofs.lemmas.Option.{none-some}
 use Rattle.net_core.specs.Sides.{Graphs}
 use Rattle.claim_core.specs.declared.claims.Claim.{Claim}
 use Rattle.account_core.specs.declared.conclusion.Conclusion.{Conclusion}
@@ -17,7 +18,7 @@ use Rattle.account_check.specs.Accounts.{Account, HasFault}
 use Rattle.account_check.specs.Bans.{BanTests}
 use Rattle.account_check.specs.Conclusions.{ConclusionTests}
 use Rattle.account_check.specs.Facts.{ClaimTests, FactTests}
-use Rattle.account_check.proofs.TestLemmas.{one_passed, one_unless, some_none}
+use Rattle.account_check.proofs.TestLemmas.{one_passed, one_unless}
 
 one_claim_fault : (graphs : Graphs) (claim : Claim) (Rest : Option Reject → Type 0) → ((a b : Option Reject) → Rest a → Rest b → a ≡ b) → (a b : Option Reject) → ClaimTests graphs claim Rest a → ClaimTests graphs claim Rest b → a ≡ b
 one_claim_fault graphs claim Rest one = one_unless _ _ _ (one_unless _ _ Rest one)
@@ -45,7 +46,7 @@ one_fault account entry.End = one_passed
 
 -- the fault that an answer tells is the record's, and the record's fault is told
 pub refused_exactly : (account : Account) (record_ : Record) (result : Result (Unit {0}) RecordStop) (reject : Reject) → ((r : Reject) → result ≡ Err (stop.Reject r) → HasFault account record_ (Some r)) → OnOk result (HasFault account record_ None) → result ≢ Err stop.Memory → HasFault account record_ (Some reject) → result ≡ Err (stop.Reject reject)
-refused_exactly account record_ (Ok done) reject refused taken memory has = absurd (some_none (one_fault account record_ None (Some reject) taken has))
+refused_exactly account record_ (Ok done) reject refused taken memory has = absurd (none-some reject (one_fault account record_ None (Some reject) taken has))
 refused_exactly account record_ (Err (stop.Reject r)) reject refused taken memory has =
     ap (λ f. Err (stop.Reject f)) (same r reject (one_fault account record_ (Some r) (Some reject) (refused r refl) has))
   where
@@ -55,7 +56,7 @@ refused_exactly account record_ (Err stop.Memory) reject refused taken memory ha
 
 pub taken_exactly : (account : Account) (record_ : Record) (result : Result (Unit {0}) RecordStop) → ((r : Reject) → result ≡ Err (stop.Reject r) → HasFault account record_ (Some r)) → result ≢ Err stop.Memory → HasFault account record_ None → IsOk result
 taken_exactly account record_ (Ok done) refused memory has = refl
-taken_exactly account record_ (Err (stop.Reject r)) refused memory has = absurd (some_none (one_fault account record_ None (Some r) has (refused r refl)))
+taken_exactly account record_ (Err (stop.Reject r)) refused memory has = absurd (none-some r (one_fault account record_ None (Some r) has (refused r refl)))
 taken_exactly account record_ (Err stop.Memory) refused memory has = absurd (memory refl)
 
 pub taken_told : (account : Account) (record_ : Record) (result : Result (Unit {0}) RecordStop) → OnOk result (HasFault account record_ None) → IsOk result → HasFault account record_ None

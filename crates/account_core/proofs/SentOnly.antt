@@ -1,12 +1,11 @@
 -- That the relation and the function say the same of what the pairs make of values.
-use Rattle.std.proofs.Common.{◌≡◌, ◌≢◌, ◌⊎◌, ℕ, zero, suc, ◌<◌, ◌&&◌, Bool, true, false, eqb, List, [], ◌∷◌, length, get_or, refl, sym, ap, ◌∙◌, inl, inr, arith, eqb-true, eq-eqb, ext_get_or}
+use Rattle.std.proofs.Common.{◌≡◌, ◌≢◌, ◌⊎◌, ℕ, zero, suc, ◌<◌, ◌&&◌, Bool, false, eqb, List, [], ◌∷◌, length, get_or, refl, sym, ap, ◌∙◌, inl, inr, arith, eqb-true, eq-eqb, ext_get_or}
 use Rattle.std.specs.Prelude.{Contains, All}
 use Rattle.std.proofs.lemmas.Bool.{cases_Bool, and_parts, and_from, cond-true, cond-false, false≢true}
 use Rattle.std.proofs.lemmas.List.FromFn.{length-map-range_with_len, get_or-map-range_with_len}
 use Rattle.std.proofs.lemmas.List.Elements.{All-contains}
 use Rattle.circuits.specs.declared.port.Pair.{Pair}
-use Rattle.circuits.specs.declared.port.PortKind.{PortKind}
-use Rattle.circuits.specs.declared.port.PortKind.TheVariants.{Input, Output}
+use Rattle.circuits.specs.declared.port.PortKind.TheVariants.{Input}
 use Rattle.claim_core.specs.Images.{same_kind}
 use Rattle.word_sim.specs.declared.tri.Tri.{Tri}
 use Rattle.word_sim.specs.declared.tri.Tri.TheVariants.{X}
@@ -14,16 +13,11 @@ use Rattle.account_core.specs.Ports.{AreOrdered}
 use Rattle.account_core.specs.Vectors.{value_at, signed, value_sent, values_sent, AreSent}
 use Rattle.account_core.proofs.Matched.{kind_is}
 use Rattle.account_core.proofs.OrderedPairs.{agree}
+use Rattle.claim_core.proofs.ImageLemmas.{kind_same}
 
 -- whether a pair is of an input that goes to a place
 abbrev pub goes_to : ℕ → Pair → Bool
 goes_to place pair = same_kind pair.kind Input && eqb pair.to place
-
-pub kind_same : (kind other : PortKind) → kind ≡ other → same_kind kind other ≡ true
-kind_same Input Input is = refl
-kind_same Input Output is = cc
-kind_same Output Input is = cc
-kind_same Output Output is = refl
 
 -- an input's pair that goes to a place, and what it makes the place get
 pub record IsSource (pairs : List Pair) (values : List Tri) (place : ℕ) (pair : Pair) : Type 0 where

@@ -15,7 +15,7 @@ use Rattle.net_core.specs.Graph.{IsGraph}
 use Rattle.claim_core.specs.Images.{HasPair, Extends}
 use Rattle.word_sim.specs.declared.tri.Tri.{Tri}
 use Rattle.word_sim.specs.declared.tri.Tri.TheVariants.{Zero, One, X}
-use Rattle.word_sim.specs.ThreeValues.{tri_outputs, IsBitOf, FillsIn}
+use Rattle.word_sim.specs.ThreeValues.{tri_outputs, IsBitOf, FillsIn, of_bit}
 use Rattle.word_sim.proofs.Fillings.{FillsIn-outputs}
 use Rattle.account_core.specs.Vectors.{value_at, signed, value_sent, values_sent, ShowsDifference}
 use Rattle.account_core.specs.Exclusions.{Excludes}
@@ -87,11 +87,6 @@ sent_fills p q pairs n values x y moves same fills extends = record {
       let here : k < n = omega (arith, below, length-map-range_with_len (value_sent pairs values) 0 n) in
       subst (λ v. IsBitOf v (bit y k)) (sym (get_or-map-range_with_len (value_sent pairs values) 0 n k k X here (omega arith))) (sent_bit p q pairs values x y k moves fills extends);
 }
-
--- the value that a bit is
-abbrev pub of_bit : Bool → Tri
-of_bit true = One
-of_bit false = Zero
 
 definite : (value : Tri) (b : Bool) → value ≢ X → IsBitOf value b → value ≡ of_bit b
 definite Zero b apart is = ap of_bit (sym is)

@@ -11,9 +11,13 @@ use Rattle.account_core.specs.Tallies.{Ascend}
 abbrev pub way : PortKind → ℕ → ℕ → Bool → Pair
 way kind from to flip = record { kind = kind; from = from; to = to; flip = flip }
 
--- all ways to pair a port of `from` with one of `to`: in the order of `from`, for each in that of `to`, plain before negated
+-- the ways to pair one port with each of some others, plain before negated
+abbrev pub row : PortKind → ℕ → List ℕ → List Pair
+row kind from to = flat_map (λ t. way kind from t false ∷ way kind from t true ∷ []) to
+
+-- all ways to pair a port of `from` with one of `to`: in the order of `from`, for each in that of `to`
 abbrev pub ways : PortKind → List ℕ → List ℕ → List Pair
-ways kind from to = flat_map (λ f. flat_map (λ t. way kind f t false ∷ way kind f t true ∷ []) to) from
+ways kind from to = flat_map (λ f. row kind f to) from
 
 -- a pair clashes with one of the ban's
 abbrev pub IsImpossible : List Pair → Pair → Type 0

@@ -1,5 +1,8 @@
 //! Facts about the outputs of two circuits.
 
+ghost use Rattle.std.specs.Prelude.{◌≡◌};
+ghost use Rattle.account_core.specs.Given.{decided_by};
+
 use bit_list::Bits;
 use claim_core::Claim;
 use cnf_core::Log;
@@ -18,6 +21,18 @@ pub enum Evidence {
 pub struct Fact {
     pub claim: Claim,
     pub evidence: Evidence,
+}
+
+impl Fact {
+    /// Whether the claim holds.
+    pub fn holds(&self) -> bool
+        ensures { result ≡ (decided_by self.now).holds }
+    {
+        match &self.evidence {
+            Evidence::Fails(_) => false,
+            Evidence::Holds(_) => true,
+        }
+    }
 }
 
 /// The line of an account that gives a fact. After a claim that holds, the lines of its log follow.

@@ -5,6 +5,7 @@ use Rattle.std.proofs.Math.Seq.{take-append-add}
 use Rattle.std.proofs.lemmas.Bool.{ltb-true, ltb-false}
 use Rattle.std.proofs.lemmas.List.{take-append-le, get_or_append_left}
 use Rattle.std.proofs.lemmas.List.Elements.{All-push}
+use Rattle.std.proofs.lemmas.Option.{IfSome_then}
 use Rattle.std.proofs.lemmas.Grind.{flat_map-append}
 use Rattle.std.proofs.lemmas.Slice.Zip.{all_zipped_more}
 use Rattle.text_core.specs.Bytes.{is_line_feed}
@@ -151,10 +152,6 @@ fault_stays bytes piece records wrong said =
       longer,
     )
 
-if_some : {X : Type 0} (P Q : X → Type 0) (o : Option X) → ((x : X) → P x → Q x) → IfSome o P → IfSome o Q
-if_some {X} P Q None more h = tt
-if_some {X} P Q (Some x) more h = more x h
-
 pub read_feed : (reading : Reading) (bytes piece : List ℕ) (records : List Record) → reading.finished ≡ false → HasRead reading bytes records
     → HasRead (record reading { left = reading.left ++ piece; total = reading.total + length piece }) (bytes ++ piece) records
 read_feed reading bytes piece records more has = record {
@@ -163,9 +160,8 @@ read_feed reading bytes piece records more has = record {
   place = has.place;
   line = has.line;
   total = omega (arith, has.total, length-append bytes piece);
-  fault = if_some (λ wrong. SaysNext bytes reading.finished records (Err wrong)) (λ wrong. SaysNext (bytes ++ piece) reading.finished records (Err wrong)) reading.fault
-      (λ wrong said. subst (λ f. SaysNext (bytes ++ piece) f records (Err wrong)) (sym more) (fault_stays bytes piece records wrong (subst (λ f. SaysNext bytes f records (Err wrong)) more said)))
-      has.fault;
+  fault = IfSome_then reading.fault has.fault
+      (λ wrong said. subst (λ f. SaysNext (bytes ++ piece) f records (Err wrong)) (sym more) (fault_stays bytes piece records wrong (subst (λ f. SaysNext bytes f records (Err wrong)) more said)));
 }
 
 -- what the next record says, and leaves

@@ -1,12 +1,13 @@
 -- Bans that are held after others.
-use Rattle.std.proofs.Common.{◌≡◌, ℕ, List, [], ◌∷◌, ◌++◌, length, take, get_or, All, Contains, sym, ap, subst, ◌∙◌, inl, inr, arith}
+use Rattle.std.proofs.Common.{◌≡◌, ℕ, List, [], ◌∷◌, ◌++◌, length, take, get_or, All, Contains, refl, absurd, sym, ap, subst, ◌∙◌, inl, inr, arith}
 use Rattle.std.proofs.lemmas.Bool.{cases_lt}
-use Rattle.std.proofs.lemmas.List.Elements.{Contains-get_or}
+use Rattle.std.proofs.lemmas.List.Elements.{All-contains, Contains-get_or}
 use Rattle.std.proofs.lemmas.List.{take_all, take-append-le, get_or_append_left, get_or_push, length_push, length-append}
 use Rattle.circuits.specs.declared.port.Pair.{Pair}
 use Rattle.net_core.specs.Sides.{Graphs}
 use Rattle.account_core.specs.declared.step.Ban.{Ban}
 use Rattle.account_core.specs.Given.{Decided, given_of}
+use Rattle.account_core.specs.Shown.{IsEmptyBan}
 use Rattle.account_core.specs.Steps.{AreValidBans, IsValidBan}
 use Rattle.ban_book.specs.Covering.{Covers, IsWithin}
 
@@ -35,6 +36,24 @@ covers_later before added after pairs number more is = record {
   held = omega (arith, is.held, ap length more, length-append before added);
   within = λ d. subst (IsWithin pairs) (sym (ap (λ l. get_or l number d) more ∙ get_or_append_left before added d number is.held)) (is.within d);
 }
+
+-- a ban within some pairs is within more
+pub covers_wider : (bans : List Ban) (few more : List Pair) (number : ℕ) → All (Contains more) few → Covers bans few number → Covers bans more number
+covers_wider bans few more number among is = record {
+  held = is.held;
+  within = λ d. record { among = λ k e below. All-contains (Contains more) few (get_or (get_or bans number d).pairs k e) among ((is.within d).among k e below) };
+}
+
+-- a ban that is within no pairs has none
+pub empty_ban : (bans : List Ban) (ban : ℕ) → Covers bans [] ban → IsEmptyBan bans ban
+empty_ban bans ban covers = record {
+  held = covers.held;
+  pairs = λ d. no_pairs (get_or bans ban d).pairs ((covers.within d).among);
+}
+  where
+    no_pairs : (pairs : List Pair) → All (Contains []) pairs → pairs ≡ []
+    no_pairs [] all = refl
+    no_pairs (pair ∷ pairs) all = let there = all 0 pair (omega arith) in absurd (omega (arith, there.1))
 
 -- the last ban is of these pairs
 pub covers_own : (bans after : List Ban) (ban : Ban) (pairs : List Pair) (number : ℕ) → ban.pairs ≡ pairs → after ≡ bans ++ ban ∷ [] → number ≡ length bans → Covers after pairs number

@@ -31,6 +31,7 @@ use Rattle.account_core.specs.Tallies.{other_side, port_on, shapes_of, AreOfEach
 use Rattle.account_core.proofs.Matched.{pair_of-held}
 use Rattle.ban_book.specs.Vectors.{AddsNoVector, AreDecided, AreEndsDecided, AreInputsDecided, AreLastResorts, HasOneInput, HaveNoFacts, IsDecided, IsLastResort, IsShownBy, IsVector}
 use Rattle.ban_book.proofs.ShownLemmas.{IsSame, mismatch_in, tally_in}
+use Rattle.account_core.proofs.TallyLemmas.{both}
 
 -- facts decide claims that are apart
 claim_shown : (claim : Claim) (e : Evidence) → (shown_by claim e).claim ≡ claim
@@ -182,9 +183,6 @@ each_is_one [] (shape ∷ shapes) zip = absurd zip
 each_is_one (i ∷ inputs) [] zip = absurd zip
 each_is_one (i ∷ inputs) (shape ∷ shapes) zip =
     All-cons HasOneInput shape shapes (elim zip.0 [ inl is ↦ subst HasOneInput (sym is) tt | inr is ↦ subst HasOneInput (sym is) tt ]) (each_is_one inputs shapes zip.1)
-
-abbrev both : ℕ → List Shape
-both i = Up i ∷ Down i ∷ []
 
 both_are_one : (inputs : List ℕ) → All HasOneInput (flat_map both inputs)
 both_are_one [] = All-nil HasOneInput

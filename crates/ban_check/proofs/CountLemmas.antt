@@ -11,6 +11,7 @@ use Rattle.account_core.specs.Tallies.{shapes_of, AreBothOfEach, AreOfEach}
 use Rattle.ban_check.specs.Counted.{one_input, twin_input, AscendFrom, GoOverInputs, GoOverTwice, IsNext}
 use Rattle.ban_check.proofs.AscentLemmas.{ascend_more, ascend_rest, none_ascend}
 use Rattle.std.proofs.lemmas.Option.{same_Some}
+use Rattle.account_core.proofs.TallyLemmas.{both}
 
 -- What is read from the front has an input, from `least` on, and the rest goes on after it.
 pub record HasFront (least : ℕ) (input : Option ℕ) (Rest : ℕ → Type 0) : Type 0 where
@@ -92,9 +93,6 @@ head_is {X} x y xs ys e = cc
 
 tail_is : {X : Type 0} (x y : X) (xs ys : List X) → x ∷ xs ≡ y ∷ ys → xs ≡ ys
 tail_is {X} x y xs ys e = cc
-
-abbrev both : ℕ → List Shape
-both i = Up i ∷ Down i ∷ []
 
 twos_split : (least : ℕ) (inputs : List ℕ) (one other : Shape) (shapes : List Shape) → AreBothOfEach inputs (one ∷ other ∷ shapes) → AscendFrom least inputs → HasFront least (twin_input one other) (λ n. GoOverTwice n shapes)
 twos_split least [] one other shapes each ascend = cc

@@ -6,10 +6,10 @@ use Rattle.std.proofs.lemmas.List.{get_or_default}
 use Rattle.circuits.specs.declared.port.Pair.{Pair}
 use Rattle.circuits.specs.declared.port.PortKind.{PortKind}
 use Rattle.net_core.specs.Sides.{Graphs}
-use Rattle.account_core.specs.Covers.{AreCoverNames, IsImpossible, IsReference}
+use Rattle.account_core.specs.Covers.{AreCoverNames, IsImpossible, IsReference, row}
 use Rattle.account_core.specs.Given.{Given, IsBanGiven, ban_at}
 use Rattle.account_core.specs.Ports.{ports_in}
-use Rattle.ban_check.specs.Counted.{row, IsHeld, IsReferredBanGiven}
+use Rattle.ban_check.specs.Counted.{IsHeld, IsReferredBanGiven}
 use Rattle.ban_check.proofs.BoolLemmas.{both_tests, either_test, negated_test, same_test}
 
 -- too few references are left

@@ -1,15 +1,12 @@
 -- Lists of ports and of facts that are read from the front.
-use Rattle.std.specs.Prelude.{◌≡◌, ℕ, ◌+◌, ◌/◌, ◌<◌, ◌≤◌, ◌==◌, Bool, true, false, List, [], ◌∷◌, length, All, Contains, Option, None, Some, if◌then◌else◌}
-use Rattle.std.specs.List.{flat_map}
+use Rattle.std.specs.Prelude.{◌≡◌, ℕ, ◌+◌, ◌/◌, ◌<◌, ◌≤◌, ◌==◌, Bool, List, [], ◌∷◌, length, All, Contains, Option, None, Some, if◌then◌else◌}
 use Rattle.circuits.specs.declared.port.Pair.{Pair}
-use Rattle.circuits.specs.declared.port.PortKind.{PortKind}
 use Rattle.circuits.specs.declared.port.PortKind.TheVariants.{Output}
 use Rattle.claim_core.specs.declared.claims.Shape.{Shape}
 use Rattle.claim_core.specs.declared.claims.Shape.TheVariants.{Up, Down, Swap}
 use Rattle.claim_core.specs.declared.claims.Claim.{Claim}
 use Rattle.account_core.specs.declared.step.Tallied.{Tallied}
 use Rattle.account_core.specs.declared.step.Tallied.TheVariants.{Support, Binate}
-use Rattle.account_core.specs.Covers.{way}
 use Rattle.account_core.specs.Given.{Given, fact_at, IsBanGiven}
 use Rattle.account_core.specs.Tallies.{other_side, port_on, shapes_of, AreBothOfEach, AreOfEach, Ascend}
 
@@ -68,10 +65,6 @@ pub record AreTooMany (inputs : ℕ) (given : Given) (each twice : List ℕ) : T
 abbrev pub HaveTooMany : ℕ → Given → Tallied → List ℕ → List ℕ → Type 0
 HaveTooMany inputs given Support have lack = AreTooMany inputs given have lack
 HaveTooMany inputs given Binate have lack = AreTooMany inputs given lack have
-
--- the ways to pair one port with each of some others
-abbrev pub row : PortKind → ℕ → List ℕ → List Pair
-row kind port to = flat_map (λ t. way kind port t false ∷ way kind port t true ∷ []) to
 
 -- A pair is one of the pairs, or the one more.
 pub record IsHeld (pairs : List Pair) (more : Pair) (held : Pair) : Type 0 where

@@ -3,9 +3,9 @@
 ghost use Rattle.std.specs.Prelude.{◌≡◌, ◌↔◌, ◌<◌, ◌++◌, ◌∷◌, true, false, All, Any, IsSomeAnd, IsTrue, List};
 ghost use Rattle.std.specs.List.{AllZip};
 ghost use Rattle.circuits.specs.declared.port.Pair.{Pair as AnyPair};
-ghost use Rattle.account_core.specs.Covers.{ways, AreCoverNames, IsCover, IsImpossible, IsReference};
+ghost use Rattle.account_core.specs.Covers.{ways, AreCoverNames, IsCover, IsImpossible, IsReference, row};
 ghost use Rattle.account_core.specs.Ports.{Clash};
-ghost use Rattle.ban_check.specs.Counted.{row, IsHeld, IsReferredBanGiven};
+ghost use Rattle.ban_check.specs.Counted.{IsHeld, IsReferredBanGiven};
 
 use crate::ascent::ascend;
 use crate::given::Given;

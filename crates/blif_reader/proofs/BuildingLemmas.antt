@@ -18,9 +18,9 @@ use Rattle.blif_reader.specs.declared.directive.Directive.TheVariants.{Names, Ro
 use Rattle.blif_reader.specs.declared.covers.CoverSoFar.{CoverSoFar}
 use Rattle.blif_reader.specs.declared.covers.Covers.{Covers}
 use Rattle.blif_reader.specs.Directives.{directive_of, is_row, is_names}
-use Rattle.blif_reader.specs.Rows.{output_byte}
+use Rattle.blif_reader.specs.Rows.{output_byte, rows_of}
 use Rattle.blif_reader.specs.Names.{operands, read_on, read_words}
-use Rattle.blif_reader.specs.Covers.{trits_of, literal_named, are_on, leading_rows, cover_of, covers_of}
+use Rattle.blif_reader.specs.Covers.{trits_of, literal_named, are_on, cover_of, covers_of}
 use Rattle.blif_reader.specs.Building.{EndsAs, but_last, IsKnownIn, IsUnknownAt, IsUnknownFault, Continues, closed, with_row, open_after, closed_by, outputs_by, places_by, Builds, continued, outputs_in, places_in, IsBuilt, IsBuilding}
 
 abbrev pub cover_so_far : List ℕ → List (List Trit) → Bool → CoverSoFar
@@ -112,21 +112,21 @@ unknown_before names words rest at u = record {
 }
 
 -- the rows that a text begins with
-pub no_rows : (line : List Piece) (left : List (List Piece)) → is_row (directive_of line) ≡ false → leading_rows (line ∷ left) ≡ []
+pub no_rows : (line : List Piece) (left : List (List Piece)) → is_row (directive_of line) ≡ false → rows_of (line ∷ left) ≡ []
 no_rows line left h =
-    take_while-cons (λ l. is_row (directive_of l)) line left ∙ ap (λ t. cond t (line ∷ leading_rows left) []) h
+    take_while-cons (λ l. is_row (directive_of l)) line left ∙ ap (λ t. cond t (line ∷ rows_of left) []) h
 
-pub one_row : (line : List Piece) (left : List (List Piece)) → is_row (directive_of line) ≡ true → leading_rows (line ∷ left) ≡ line ∷ leading_rows left
+pub one_row : (line : List Piece) (left : List (List Piece)) → is_row (directive_of line) ≡ true → rows_of (line ∷ left) ≡ line ∷ rows_of left
 one_row line left h =
-    take_while-cons (λ l. is_row (directive_of l)) line left ∙ ap (λ t. cond t (line ∷ leading_rows left) []) h
+    take_while-cons (λ l. is_row (directive_of l)) line left ∙ ap (λ t. cond t (line ∷ rows_of left) []) h
 
 pub covers_skip : (names : List (List ℕ)) (line : List Piece) (left : List (List Piece)) → is_names (directive_of line) ≡ false → covers_of names (line ∷ left) ≡ covers_of names left
 covers_skip names line left h =
-    ap (λ t. cond t (cover_of names line (leading_rows left) ∷ covers_of names left) (covers_of names left)) h
+    ap (λ t. cond t (cover_of names line (rows_of left) ∷ covers_of names left) (covers_of names left)) h
 
-pub covers_take : (names : List (List ℕ)) (line : List Piece) (left : List (List Piece)) → is_names (directive_of line) ≡ true → covers_of names (line ∷ left) ≡ cover_of names line (leading_rows left) ∷ covers_of names left
+pub covers_take : (names : List (List ℕ)) (line : List Piece) (left : List (List Piece)) → is_names (directive_of line) ≡ true → covers_of names (line ∷ left) ≡ cover_of names line (rows_of left) ∷ covers_of names left
 covers_take names line left h =
-    ap (λ t. cond t (cover_of names line (leading_rows left) ∷ covers_of names left) (covers_of names left)) h
+    ap (λ t. cond t (cover_of names line (rows_of left) ∷ covers_of names left) (covers_of names left)) h
 
 -- a cover that no row follows
 ended : (names : List ℕ) (rows : List (List Trit)) (on : Bool) (defs : List Def) (lead : List (List Piece)) → lead ≡ [] → Cover names (rows ++ map trits_of lead) (on && are_on lead) ∷ defs ≡ Cover names rows on ∷ defs
@@ -138,20 +138,20 @@ ended names rows on defs lead h =
 closing : (names : List (List ℕ)) (cover : Option CoverSoFar) (line : List Piece) (left : List (List Piece)) → is_row (directive_of line) ≡ false → continued names cover (line ∷ left) ≡ closed cover ++ covers_of names (line ∷ left)
 closing names None line left h = refl
 closing names (Some cover) line left h =
-    ended cover.names cover.rows cover.on (covers_of names (line ∷ left)) (leading_rows (line ∷ left)) (no_rows line left h)
+    ended cover.names cover.rows cover.on (covers_of names (line ∷ left)) (rows_of (line ∷ left)) (no_rows line left h)
 
 -- a row goes on with the cover
 row_on : (names : List (List ℕ)) (cover : Option CoverSoFar) (line : List Piece) (left : List (List Piece)) → directive_of line ≡ Row → continued names (with_row cover line) left ≡ continued names cover (line ∷ left)
 row_on names None line left k = sym (covers_skip names line left (ap is_names k))
 row_on names (Some cover) line left k =
-    let rows = append_assoc cover.rows (trits_of line ∷ []) (map trits_of (leading_rows left)) in
-    let on = and_assoc cover.on (output_byte line == 49) (are_on (leading_rows left)) in
+    let rows = append_assoc cover.rows (trits_of line ∷ []) (map trits_of (rows_of left)) in
+    let on = and_assoc cover.on (output_byte line == 49) (are_on (rows_of left)) in
     let lead = one_row line left (ap is_row k) in
     let rest = covers_skip names line left (ap is_names k) in
-    ap (λ rs. Cover cover.names rs ((cover.on && (output_byte line == 49)) && are_on (leading_rows left)) ∷ covers_of names left) rows
-    ∙ (ap (λ t. Cover cover.names (cover.rows ++ trits_of line ∷ map trits_of (leading_rows left)) t ∷ covers_of names left) on
+    ap (λ rs. Cover cover.names rs ((cover.on && (output_byte line == 49)) && are_on (rows_of left)) ∷ covers_of names left) rows
+    ∙ (ap (λ t. Cover cover.names (cover.rows ++ trits_of line ∷ map trits_of (rows_of left)) t ∷ covers_of names left) on
     ∙ (ap (λ (ls : List (List Piece)). Cover cover.names (cover.rows ++ map trits_of ls) (cover.on && are_on ls) ∷ covers_of names left) (sym lead)
-    ∙ ap (λ ds. Cover cover.names (cover.rows ++ map trits_of (leading_rows (line ∷ left))) (cover.on && are_on (leading_rows (line ∷ left))) ∷ ds) (sym rest)))
+    ∙ ap (λ ds. Cover cover.names (cover.rows ++ map trits_of (rows_of (line ∷ left))) (cover.on && are_on (rows_of (line ∷ left))) ∷ ds) (sym rest)))
 
 other_on : (names : List (List ℕ)) (cover : Option CoverSoFar) (line : List Piece) (left : List (List Piece)) (directive : Directive) → directive_of line ≡ directive → is_row directive ≡ false → is_names directive ≡ false → closed cover ++ covers_of names left ≡ continued names cover (line ∷ left)
 other_on names cover line left directive k r n =

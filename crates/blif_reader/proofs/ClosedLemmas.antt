@@ -20,10 +20,10 @@ use Rattle.blif_reader.specs.declared.directive.Directive.TheVariants.{Inputs, O
 use Rattle.blif_reader.specs.declared.survey.Port.{Port}
 use Rattle.blif_reader.specs.Directives.{directive_of, is_row, is_names, is_end}
 use Rattle.blif_reader.specs.Firsts.{NoneIs}
-use Rattle.blif_reader.specs.Rows.{operand_count, has_widths, row_widths, literal_bytes, opening, row_fault}
+use Rattle.blif_reader.specs.Rows.{operand_count, has_widths, row_widths, literal_bytes, opening, row_fault, rows_of}
 use Rattle.blif_reader.specs.Names.{is_same_kind, operands, read_on, read_words, defined_on, defined_words, named_ports, ports_on, port_words, input_words, output_words}
 use Rattle.blif_reader.specs.Faults.{has_line, fault_before_end, fault_after_end, line_fault, is_faulty}
-use Rattle.blif_reader.specs.Covers.{trit_of, trits_of, signal_names, signal_named, literal_named, leading_rows, cover_of, covers_of, blif_circuit}
+use Rattle.blif_reader.specs.Covers.{trit_of, trits_of, signal_names, signal_named, literal_named, cover_of, covers_of, blif_circuit}
 use Rattle.blif_reader.specs.Building.{IsKnownIn, outputs_by, outputs_in}
 use Rattle.blif_reader.proofs.FirstLemmas.{found-seam}
 use Rattle.blif_reader.proofs.SurveyLemmas.{reversed_push, not_row, row_more, opening_of, not_ended}
@@ -59,7 +59,7 @@ known_cover names line rows known =
 known_by_test : (t : Bool) (names : List (List ℕ)) (line : List Piece) (left : List (List Piece)) → is_names (directive_of line) ≡ t → All (IsKnownIn names) (read_on (directive_of line) line) → All (NamesBelow (1 + length names)) (covers_of names left) → All (NamesBelow (1 + length names)) (covers_of names (line ∷ left))
 known_by_test true names line left e known rest =
     let here : All (IsKnownIn names) (operands line) = subst (λ d. All (IsKnownIn names) (read_on d line)) (names_kind (directive_of line) e) known in
-    subst (All (NamesBelow (1 + length names))) (sym (covers_take names line left e)) (All-cons (NamesBelow (1 + length names)) (cover_of names line (leading_rows left)) (covers_of names left) (known_cover names line (leading_rows left) here) rest)
+    subst (All (NamesBelow (1 + length names))) (sym (covers_take names line left e)) (All-cons (NamesBelow (1 + length names)) (cover_of names line (rows_of left)) (covers_of names left) (known_cover names line (rows_of left) here) rest)
   where
     names_kind : (d : Directive) → is_names d ≡ true → d ≡ Names
     names_kind Names h = refl
@@ -120,14 +120,14 @@ abbrev HasWidths : ℕ → List Piece → Type 0
 HasWidths operands row = has_widths operands row ≡ true
 
 -- the rows after a `.names` line have its widths
-mutual_rows : (t : Bool) (pre : List (List Piece)) (line row : List Piece) (rest : List (List Piece)) → is_row (directive_of row) ≡ t → opening pre ≡ line → NoneIs is_faulty (pre ++ row ∷ rest) → (opening (pre ++ row ∷ []) ≡ line → All (HasWidths (operand_count line)) (leading_rows rest)) → All (HasWidths (operand_count line)) (leading_rows (row ∷ rest))
+mutual_rows : (t : Bool) (pre : List (List Piece)) (line row : List Piece) (rest : List (List Piece)) → is_row (directive_of row) ≡ t → opening pre ≡ line → NoneIs is_faulty (pre ++ row ∷ rest) → (opening (pre ++ row ∷ []) ≡ line → All (HasWidths (operand_count line)) (rows_of rest)) → All (HasWidths (operand_count line)) (rows_of (row ∷ rest))
 mutual_rows true pre line row rest e o sound tail =
     let here = sound_row pre row (row_kind (directive_of row) e) (sound_line pre row rest sound) in
-    subst (All (HasWidths (operand_count line))) (sym (one_row row rest e)) (All-cons (HasWidths (operand_count line)) row (leading_rows rest) (subst (λ l. has_widths (operand_count l) row ≡ true) o here) (tail (opening-row pre row e ∙ o)))
+    subst (All (HasWidths (operand_count line))) (sym (one_row row rest e)) (All-cons (HasWidths (operand_count line)) row (rows_of rest) (subst (λ l. has_widths (operand_count l) row ≡ true) o here) (tail (opening-row pre row e ∙ o)))
 mutual_rows false pre line row rest e o sound tail =
     subst (All (HasWidths (operand_count line))) (sym (no_rows row rest e)) (All-nil (HasWidths (operand_count line)))
 
-wide_rows : (rest pre : List (List Piece)) (line : List Piece) → opening pre ≡ line → NoneIs is_faulty (pre ++ rest) → All (HasWidths (operand_count line)) (leading_rows rest)
+wide_rows : (rest pre : List (List Piece)) (line : List Piece) → opening pre ≡ line → NoneIs is_faulty (pre ++ rest) → All (HasWidths (operand_count line)) (rows_of rest)
 wide_rows [] pre line o sound = All-nil (HasWidths (operand_count line))
 wide_rows (row ∷ rest) pre line o sound =
     mutual_rows (is_row (directive_of row)) pre line row rest refl o sound (λ opened. wide_rows rest (pre ++ row ∷ []) line opened (one_more pre row rest sound))
@@ -154,7 +154,7 @@ wide_cover names line rows wide =
 wide_by_test : (t : Bool) (names : List (List ℕ)) (pre : List (List Piece)) (line : List Piece) (rest : List (List Piece)) → is_names (directive_of line) ≡ t → NoneIs is_faulty (pre ++ line ∷ rest) → All HasWideRows (covers_of names rest) → All HasWideRows (covers_of names (line ∷ rest))
 wide_by_test true names pre line rest e sound tail =
     let wide = wide_rows rest (pre ++ line ∷ []) line (opening-line pre line (names_no_row (directive_of line) e)) (one_more pre line rest sound) in
-    subst (All HasWideRows) (sym (covers_take names line rest e)) (All-cons HasWideRows (cover_of names line (leading_rows rest)) (covers_of names rest) (wide_cover names line (leading_rows rest) wide) tail)
+    subst (All HasWideRows) (sym (covers_take names line rest e)) (All-cons HasWideRows (cover_of names line (rows_of rest)) (covers_of names rest) (wide_cover names line (rows_of rest) wide) tail)
   where
     names_no_row : (d : Directive) → is_names d ≡ true → is_row d ≡ false
     names_no_row Names h = refl

@@ -15,9 +15,9 @@ use Rattle.blif_reader.specs.declared.covers.CoverSoFar.{CoverSoFar}
 use Rattle.blif_reader.specs.declared.covers.Covers.{Covers}
 use Rattle.blif_reader.specs.JoinedLines.{word_of}
 use Rattle.blif_reader.specs.Directives.{directive_of}
-use Rattle.blif_reader.specs.Rows.{output_byte}
+use Rattle.blif_reader.specs.Rows.{output_byte, rows_of}
 use Rattle.blif_reader.specs.Names.{operands, read_on, read_words}
-use Rattle.blif_reader.specs.Covers.{trits_of, signal_named, literal_named, are_on, leading_rows, covers_of}
+use Rattle.blif_reader.specs.Covers.{trits_of, signal_named, literal_named, are_on, covers_of}
 
 -- all but the last
 abbrev pub but_last : List Piece → List Piece
@@ -109,7 +109,7 @@ pub record ReadsOperands (names : List (List ℕ)) (signals : List ℕ) (operand
 abbrev pub continued : List (List ℕ) → Option CoverSoFar → List (List Piece) → List Def
 continued names None left = covers_of names left
 continued names (Some cover) left =
-    let rows = leading_rows left in
+    let rows = rows_of left in
     Cover cover.names (cover.rows ++ map trits_of rows) (cover.on && are_on rows) ∷ covers_of names left
 
 -- the words of the outputs, and the offsets of the `.names` lines

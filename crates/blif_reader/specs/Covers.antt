@@ -1,6 +1,6 @@
 -- The netlist of a BLIF file (Berkeley Logic Interchange Format, 1992): each `.names` line and the rows that follow it
 -- define a signal by a cover.
-use Rattle.std.specs.Prelude.{ℕ, ◌+◌, ◌*◌, ◌==◌, List, [], ◌∷◌, ◌++◌, length, map, filter, take_while, Bool, if◌then◌else◌}
+use Rattle.std.specs.Prelude.{ℕ, ◌+◌, ◌*◌, ◌==◌, List, [], ◌∷◌, ◌++◌, length, map, filter, Bool, if◌then◌else◌}
 use Rattle.std.specs.List.{list_all, position_or_len}
 use Rattle.std.specs.Str.{bytes_eq}
 use Rattle.text_core.specs.Piece.{Piece}
@@ -10,8 +10,8 @@ use Rattle.circuits.specs.declared.netlist.Lit.{Lit}
 use Rattle.circuits.specs.declared.definition.Def.{Def}
 use Rattle.circuits.specs.declared.definition.Def.TheVariants.{Cover}
 use Rattle.circuits.specs.Circuits.{Circuit}
-use Rattle.blif_reader.specs.Directives.{directive_of, is_row, is_names}
-use Rattle.blif_reader.specs.Rows.{literal_bytes, output_byte}
+use Rattle.blif_reader.specs.Directives.{directive_of, is_names}
+use Rattle.blif_reader.specs.Rows.{literal_bytes, output_byte, rows_of}
 use Rattle.blif_reader.specs.Names.{input_words, output_words, defined_words, operands}
 
 -- what a byte of a row wants of its operand
@@ -40,15 +40,11 @@ are_on rows = list_all (λ row. output_byte row == 49) rows
 abbrev pub cover_of : List (List ℕ) → List Piece → List (List Piece) → Def
 cover_of names line rows = Cover (map (signal_named names) (operands line)) (map trits_of rows) (are_on rows)
 
--- the rows that a text begins with
-abbrev pub leading_rows : List (List Piece) → List (List Piece)
-leading_rows lines = take_while (λ line. is_row (directive_of line)) lines
-
 -- the definitions of a text, in its order
 abbrev pub covers_of : List (List ℕ) → List (List Piece) → List Def
 covers_of names [] = []
 covers_of names (line ∷ lines) =
-    if is_names (directive_of line) then cover_of names line (leading_rows lines) ∷ covers_of names lines
+    if is_names (directive_of line) then cover_of names line (rows_of lines) ∷ covers_of names lines
     else covers_of names lines
 
 abbrev pub blif_circuit : List (List Piece) → Circuit

@@ -41,10 +41,11 @@ output_byte row = slice_index_or (word_of row (length row - 1)).bytes 0 0
 abbrev pub has_good_bytes : List Piece → Bool
 has_good_bytes row = list_all is_literal_byte (literal_bytes row) && is_bit_byte (output_byte row)
 
--- of lines from the nearest: the rows directly before, the nearest first, and the line before those
+-- the rows that lines begin with
 abbrev pub rows_of : List (List Piece) → List (List Piece)
-rows_of nearest = take_while (λ line. is_row (directive_of line)) nearest
+rows_of lines = take_while (λ line. is_row (directive_of line)) lines
 
+-- of lines from the nearest: the line before the rows that stand directly before
 abbrev pub opening_of : List (List Piece) → List Piece
 opening_of nearest = slice_index_or nearest (length (rows_of nearest)) []
 

@@ -175,8 +175,8 @@ reached_there net k t ordered output reached =
       operands = λ u d within is. (in_all (signal_of (slice_index_or net.gates u d).a) (omega (arith, ordered.first_operands u d within, within)), in_all (signal_of (slice_index_or net.gates u d).b) (omega (arith, ordered.second_operands u d within, within)));
     }
 
--- what meets all clauses meets those of the cones
-cone_id_there : (graphs : Graphs) (query : Query) (id : ℕ) → IsGraph graphs.first → IsGraph graphs.second → IsQuery graphs query → IsConeId graphs query id → id < length (query_clauses graphs query)
+-- the clauses of the cones are clauses of the query
+pub cone_id_there : (graphs : Graphs) (query : Query) (id : ℕ) → IsGraph graphs.first → IsGraph graphs.second → IsQuery graphs query → IsConeId graphs query id → id < length (query_clauses graphs query)
 cone_id_there graphs query id first second fits (inl e) = omega (arith, e, count_of graphs query)
 cone_id_there graphs query id first second fits (inr (inl of)) =
     omega (arith, of.to, count_of graphs query, reached_there (circuit_of graphs query.left) query.left.output of.gate (ordered_side graphs query.left.side first second) fits.left.output of.reached)
@@ -185,6 +185,7 @@ cone_id_there graphs query id first second fits (inr (inr (inl of))) =
 cone_id_there graphs query id first second fits (inr (inr (inr (inl e)))) = omega (arith, e, count_of graphs query)
 cone_id_there graphs query id first second fits (inr (inr (inr (inr e)))) = omega (arith, e, count_of graphs query)
 
+-- what meets all clauses meets those of the cones
 pub vector_there : (graphs : Graphs) (query : Query) (a : List Bool) → IsGraph graphs.first → IsGraph graphs.second → IsQuery graphs query → Meets a (query_clauses graphs query) → MeetsQuery graphs query (vector_in (bits_in graphs query) a)
 vector_there graphs query a first second fits meets =
     cone_vector_there graphs query a first second fits (λ id cone. meets id [] (cone_id_there graphs query id first second fits cone))

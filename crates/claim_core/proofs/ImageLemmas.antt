@@ -86,13 +86,19 @@ none_lacks pairs claim result is = (
     empty None e = refl
     empty (Some x) e = cc
 
--- a matching that has all pairs has the pair of a port
+pub kind_same : (kind other : PortKind) → kind ≡ other → same_kind kind other ≡ true
+kind_same Input Input is = refl
+kind_same Input Output is = cc
+kind_same Output Input is = cc
+kind_same Output Output is = refl
+
 pub kind_is : (kind other : PortKind) → same_kind kind other ≡ true → kind ≡ other
 kind_is Input Input e = refl
 kind_is Input Output e = cc
 kind_is Output Input e = cc
 kind_is Output Output e = refl
 
+-- a matching that has all pairs has the pair of a port
 pub record IsEntry (entries : List (ℕ × Bool)) (port : ℕ) (pair : Pair) : Type 0 where
   pub there : port < length entries
   pub place : place_of entries port ≡ pair.to

@@ -17,7 +17,7 @@ use Rattle.account_core.specs.Mismatches.{IsImage}
 use Rattle.account_core.specs.Ports.{ports_in, AreOrdered, IsKnown, StandInOrder}
 use Rattle.account_core.proofs.Matched.{pair_of-held}
 use Rattle.account_core.proofs.OrderedPairs.{agree}
-use Rattle.account_core.proofs.SentOnly.{kind_same}
+use Rattle.claim_core.proofs.ImageLemmas.{kind_same}
 pub use Rattle.account_core.proofs.ImageLemmas.{is_placed as one_placed}
 
 kinds_differ : Input ≡ Output → ⊥

@@ -6,7 +6,6 @@ use Rattle.std.proofs.lemmas.List.Elements.{filter-append}
 use Rattle.std.proofs.lemmas.List.Sums.{sum_by_push}
 use Rattle.circuits.specs.declared.port.Pair.{Pair}
 use Rattle.circuits.specs.declared.port.PortKind.{PortKind}
-use Rattle.circuits.specs.declared.port.PortKind.TheVariants.{Input, Output}
 use Rattle.net_core.specs.declared.graphs.Side.{Side}
 use Rattle.claim_core.specs.Images.{same_kind}
 use Rattle.account_core.specs.Tallies.{port_on}
@@ -14,6 +13,7 @@ use Rattle.class_refine.specs.declared.entry.Entry.{Entry}
 use Rattle.class_refine.specs.declared.entry.Fate.TheVariants.{Held, Deleted}
 use Rattle.class_refine.specs.declared.entry.Cause.{Cause}
 use Rattle.class_refine.specs.Trails.{IsDeleted, gone_in, held_in, is_at, is_held}
+use Rattle.claim_core.proofs.ImageLemmas.{kind_same, kind_is}
 
 -- what a list without its last element is
 pub All-front : {X : Type 0} (P : X → Type 0) (xs : List X) (x : X) → All P (xs ++ x ∷ []) → All P xs
@@ -33,19 +33,6 @@ AllPairs-last {X} R xs x all k d below =
     let one = get_or_append_left xs (x ∷ []) d k below in
     let other = get_or_at xs x [] d (length xs) refl in
     subst (λ (y : X). R y x) one (subst (λ (y : X). R (get_or (xs ++ x ∷ []) k d) y) other (all k (length xs) d below (omega (arith, length_push xs x))))
-
--- a test of a pair's port
-kind_same : (one other : PortKind) → one ≡ other → same_kind one other ≡ true
-kind_same Input Input e = refl
-kind_same Input Output e = absurd (let x : Input ≡ Output = e in cc)
-kind_same Output Input e = absurd (let x : Output ≡ Input = e in cc)
-kind_same Output Output e = refl
-
-kind_is : (one other : PortKind) → same_kind one other ≡ true → one ≡ other
-kind_is Input Input e = refl
-kind_is Input Output e = absurd (false≢true e)
-kind_is Output Input e = absurd (false≢true e)
-kind_is Output Output e = refl
 
 pub at_of : (side : Side) (kind : PortKind) (port : ℕ) (pair : Pair) → pair.kind ≡ kind → port_on side pair ≡ port → is_at side kind port pair ≡ true
 at_of side kind port pair k p = and_from (same_kind pair.kind kind) (eqb (port_on side pair) port) (kind_same pair.kind kind k) (eq-eqb (port_on side pair) port p)

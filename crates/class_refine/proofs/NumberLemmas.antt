@@ -8,15 +8,13 @@ use Rattle.net_core.specs.declared.graphs.Side.{Side}
 use Rattle.net_core.specs.declared.graphs.Side.TheVariants.{First, Second}
 use Rattle.class_refine.specs.Numbers.{number_in, number_from, pair_number, pairs_of_ports, port_number, sign_number}
 use Rattle.class_refine.specs.Trails.{IsPairOf, ports_of}
-
-abbrev make : PortKind → ℕ → ℕ → Bool → Pair
-make kind from to flip = record { kind = kind; from = from; to = to; flip = flip }
+use Rattle.account_core.specs.Covers.{way}
 
 pub same_pair : (p q : Pair) → p.kind ≡ q.kind → p.from ≡ q.from → p.to ≡ q.to → p.flip ≡ q.flip → p ≡ q
 same_pair p q kind from to flip =
-    ap (λ k. make k p.from p.to p.flip) kind
-    ∙ (ap (λ f. make q.kind f p.to p.flip) from
-    ∙ (ap (λ t. make q.kind q.from t p.flip) to ∙ ap (λ b. make q.kind q.from q.to b) flip))
+    ap (λ k. way k p.from p.to p.flip) kind
+    ∙ (ap (λ f. way q.kind f p.to p.flip) from
+    ∙ (ap (λ t. way q.kind q.from t p.flip) to ∙ ap (λ b. way q.kind q.from q.to b) flip))
 
 sign_below : (b : Bool) → sign_number b < 2
 sign_below false = omega arith

@@ -1,5 +1,5 @@
 -- Conflicts, and the covers that they are resolved to.
-use Rattle.std.proofs.Common.{◌≡◌, ◌≢◌, ℕ, ◌+◌, ◌<◌, List, ◌∷◌, length, get_or, take, All, Contains, Option, None, Some, IfSome, OnOk, Result, Ok, Err, sym, ap, subst, ◌∙◌, inl, inr, arith}
+use Rattle.std.proofs.Common.{◌≡◌, ◌≢◌, ℕ, ◌+◌, ◌<◌, List, ◌∷◌, length, get_or, take, All, Contains, Option, None, Some, IfSome, sym, ap, subst, ◌∙◌, inl, inr, arith}
 use Rattle.std.proofs.lemmas.List.{get_or_default, take_more}
 use Rattle.std.proofs.lemmas.Option.{same_Some, none-some}
 use Rattle.std.proofs.lemmas.List.Elements.{All-contains, All-push, All-weaker}
@@ -40,13 +40,6 @@ pub resolved_among : (bans : List Ban) (few more : List Pair) (resolved : Option
 resolved_among bans few more None stays covers = covers
 resolved_among bans few more (Some it) stays covers = covers_among bans it.way few more it.ban stays covers
 
--- a ban is within pairs among which are those that it is within
-pub covers_over : (bans : List Ban) (few more : List Pair) (number : ℕ) → All (Contains more) few → Covers bans few number → Covers bans more number
-covers_over bans few more number stays is = record {
-  held = is.held;
-  within = λ d. record { among = All-weaker (Contains few) (Contains more) (λ x there. All-contains (Contains more) few x stays there) _ (is.within d).among };
-}
-
 -- a ban's pairs, as they are lent
 pub ban_lent : (bans : List Ban) (pairs lent : List Pair) (number : ℕ) (d : Ban) → Covers bans pairs number → lent ≡ (get_or bans number d).pairs → All (Contains pairs) lent
 ban_lent bans pairs lent number d covers is = subst (All (Contains pairs)) (sym is) (covers.within d).among
@@ -56,11 +49,6 @@ covers_lent bans pairs lent number d below is all = record {
   held = below;
   within = λ e. record { among = subst (All (Contains pairs)) (is ∙ ap (λ (b : Ban). b.pairs) (get_or_default bans number d e below)) all };
 }
-
--- what holds after a call that was answered
-pub on_ok : {X E : Type 0} (result : Result X E) (P Q : Type 0) → (P → Q) → OnOk result P → OnOk result Q
-on_ok (Ok x) P Q next is = next is
-on_ok (Err e) P Q next is = is
 
 -- as many ports of a kind as the domains have
 pub first_ports : (graphs : Graphs) (n m : ℕ) (kind : PortKind) → FitPorts graphs n m → ports_in graphs.first kind ≡ ports_of n m kind

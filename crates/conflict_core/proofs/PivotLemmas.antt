@@ -22,9 +22,10 @@ use Rattle.account_core.specs.declared.step.Ban.{Ban}
 use Rattle.ban_book.specs.Covering.{Covers}
 use Rattle.conflict_core.specs.declared.learned.LearnedBan.{LearnedBan}
 use Rattle.conflict_core.specs.declared.learned.LearnedBan.TheVariants as learned
-use Rattle.conflict_core.proofs.ConflictLemmas.{covers_over, known_of}
+use Rattle.conflict_core.proofs.ConflictLemmas.{known_of}
 use Rattle.conflict_core.proofs.JustifiedLemmas.{held_before, held_front_of}
 use Rattle.conflict_core.proofs.ResolveLemmas.{up_to_last}
+use Rattle.ban_book.proofs.BookLemmas.{covers_wider}
 
 -- An entry by which a pair is held.
 pub record IsSource (es : List Entry) (p : Pair) (e : Entry) : Type 0 where
@@ -39,7 +40,7 @@ source_later x es p e is = record {
   is = is.is;
 }
 
-abbrev held_with : Entry → List Entry → Bool → List Pair
+abbrev pub held_with : Entry → List Entry → Bool → List Pair
 held_with x es b = map (λ (e : Entry). e.pair) (cond b (x ∷ filter (λ (e : Entry). is_held e.fate) es) (filter (λ (e : Entry). is_held e.fate) es))
 
 source_at : (x : Entry) (es : List Entry) (p : Pair) → (Contains (held_in es) p → (e : Entry) × IsSource es p e) → is_held x.fate ≡ true → (k : ℕ) → k < suc (length (held_in es)) → get_or (x.pair ∷ held_in es) k p ≡ p → (e : Entry) × IsSource (x ∷ es) p e
@@ -188,7 +189,7 @@ back_is n m bans es pairs lent last place ban result are below same split covers
       choice = (split d).choice;
       known = held_pair_of n m es p are (last, below, get_or_default (held_in es) last p d below);
       open' = (split d).open';
-      covers = covers_over bans pairs (p ∷ held_in (take place es)) ban (subst (All (Contains (p ∷ held_in (take place es)))) same (split d).others) covers;
+      covers = covers_wider bans pairs (p ∷ held_in (take place es)) ban (subst (All (Contains (p ∷ held_in (take place es)))) same (split d).others) covers;
     })
   where
     d : Pair

@@ -12,7 +12,6 @@ use Rattle.account_core.specs.declared.step.Step.TheVariants as step
 use Rattle.account_core.specs.Covers.{ways, IsReference}
 use Rattle.account_core.specs.Given.{Decided, given_of}
 use Rattle.account_core.specs.Ports.{AreOrdered, IsKnown}
-use Rattle.account_core.specs.Shown.{IsEmptyBan}
 use Rattle.oracle_core.specs.Oracles.{Known}
 use Rattle.port_covers.specs.Ways.{AreClosed, IsClosed}
 use Rattle.port_covers.proofs.BlockLemmas.{each_in}
@@ -87,11 +86,3 @@ nothing_known graphs k d below = absurd (omega (arith, below))
 
 pub nothing_ordered : AreOrdered []
 nothing_ordered i j d less below = absurd (omega (arith, below))
-
--- a ban that is within no pairs has none
-pub empty_of : (bans : List Ban) (number : ℕ) → Covers bans [] number → IsEmptyBan bans number
-empty_of bans number covers = record { held = covers.held; pairs = λ d. none_among (get_or bans number d).pairs (covers.within d).among }
-  where
-    none_among : (pairs : List Pair) → All (Contains []) pairs → pairs ≡ []
-    none_among [] among = refl
-    none_among (pair ∷ pairs) among = absurd (omega (arith, (among 0 pair (omega arith)).1))

@@ -1,19 +1,13 @@
 -- Bans that are within some pairs are within more.
-use Rattle.std.proofs.Common.{ℕ, List, [], ◌∷◌, get_or, All, Contains, Result, Option, None, Some}
+use Rattle.std.proofs.Common.{ℕ, List, [], ◌∷◌, All, Contains, Result, Option, None, Some}
 use Rattle.std.specs.Prelude.{IfOk, IfSome}
 use Rattle.std.proofs.lemmas.Result.{IfOk-weaker}
-use Rattle.std.proofs.lemmas.List.Elements.{All-contains, All-cons, All-nil}
+use Rattle.std.proofs.lemmas.List.Elements.{All-cons, All-nil}
 use Rattle.cnf_core.specs.declared.stop.Stop.{Stop}
 use Rattle.circuits.specs.declared.port.Pair.{Pair}
 use Rattle.account_core.specs.declared.step.Ban.{Ban}
 use Rattle.ban_book.specs.Covering.{Covers}
-
--- a ban within some pairs is within more
-pub covers_wider : (bans : List Ban) (few more : List Pair) (number : ℕ) → All (Contains more) few → Covers bans few number → Covers bans more number
-covers_wider bans few more number among is = record {
-  held = is.held;
-  within = λ d. record { among = λ k e below. All-contains (Contains more) few (get_or (get_or bans number d).pairs k e) among ((is.within d).among k e below) };
-}
+use Rattle.ban_book.proofs.BookLemmas.{covers_wider}
 
 pub one_among : (pair : Pair) (more : List Pair) → Contains more pair → All (Contains more) (pair ∷ [])
 one_among pair more is = All-cons (Contains more) pair [] is (All-nil (Contains more))

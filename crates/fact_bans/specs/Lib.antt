@@ -1,5 +1,4 @@
 pub mod Serving
-pub mod Evidence
 pub mod Referred
 pub mod Wanted
 pub use Rattle.account_core.specs.Steps

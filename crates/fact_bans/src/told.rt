@@ -5,10 +5,9 @@ ghost use Rattle.claim_core.specs.Claims.{IsClaim};
 ghost use Rattle.account_core.specs.Given.{decided_by};
 ghost use Rattle.oracle_core.specs.Oracles.{IsNumberOf, Serves, Suits};
 ghost use Rattle.claim_rows.specs.Told.{AddsFact, IsToldAs};
-ghost use Rattle.fact_bans.specs.Evidence.{holds_by};
 
 use crate::seen::Seen;
-use account_core::{Evidence, Fact};
+use account_core::Fact;
 use claim_rows::Told;
 use cnf_core::Stop;
 use items::Items;
@@ -31,7 +30,7 @@ pub(crate) fn decide<O: Oracle>(
 {
     let number = number_of(alloc, oracle, claim, seen, ledger)?;
     let fact = &oracle.facts()[number as usize];
-    let holds = holds_by(&fact.evidence);
+    let holds = fact.holds();
     seen.note(claim, number, holds);
     Ok(Told { number, holds })
 }
@@ -73,16 +72,6 @@ fn is_of(facts: &[Fact], number: u64, claim: Claim) -> bool
     match facts.get(number as usize) {
         Some(fact) => fact.claim == claim,
         None => false,
-    }
-}
-
-// Whether evidence is for its claim.
-fn holds_by(evidence: &Evidence) -> bool
-    ensures { result ≡ holds_by evidence.now }
-{
-    match evidence {
-        Evidence::Fails(_) => false,
-        Evidence::Holds(_) => true,
     }
 }
 

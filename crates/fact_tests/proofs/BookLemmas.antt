@@ -39,9 +39,10 @@ use Rattle.fact_tests.specs.Kept.{Kept}
 use Rattle.fact_tests.specs.Asking.{IsDecided, IsHalted}
 use Rattle.fact_tests.specs.Books.{IsKept, known_by}
 use Rattle.fact_tests.proofs.MatchBits.{met_difference}
-use Rattle.fact_tests.proofs.StructureLemmas.{first_of, second_of, apart_from, own_bit}
+use Rattle.fact_tests.proofs.StructureLemmas.{apart_from, own_bit}
 use Rattle.fact_tests.proofs.WorkLemmas.{IsUnanswered, asked_keeps, asked_suits, asked_work}
 use Rattle.claim_core.proofs.FeedLemmas.{straight_at}
+use Rattle.sim_signature.specs.Sightings.{first_of, last_of}
 
 -- ---- different claims ask different queries
 
@@ -60,12 +61,12 @@ first_below n (Up i) placed = placed
 first_below n (Down i) placed = placed
 first_below n (Swap i j a b) placed = omega (arith, placed.0, placed.1)
 
-second_below : (n : ℕ) (shape : Shape) → IsPlaced n shape → second_of shape < n
+second_below : (n : ℕ) (shape : Shape) → IsPlaced n shape → last_of shape < n
 second_below n (Up i) placed = placed
 second_below n (Down i) placed = placed
 second_below n (Swap i j a b) placed = placed.1
 
-first_second : (n : ℕ) (shape : Shape) → IsPlaced n shape → first_of shape ≤ second_of shape
+first_second : (n : ℕ) (shape : Shape) → IsPlaced n shape → first_of shape ≤ last_of shape
 first_second n (Up i) placed = omega arith
 first_second n (Down i) placed = omega arith
 first_second n (Swap i j a b) placed = omega (arith, placed.0)
@@ -77,19 +78,19 @@ first_fixed n (Swap i j a b) d placed =
     let apart : i ≢ j = omega (arith, placed.0) in
     get_or-set_other (with_fixed i a (straight n)) j i (Fixed b) d apart ∙ get_or-set_same (straight n) i (Fixed a) d (omega (arith, placed.0, placed.1, straight_count n))
 
-second_fixed : (n : ℕ) (shape : Shape) (d : Feed) → IsPlaced n shape → slice_index_or (values_feed n shape) (second_of shape) d ≡ Fixed (second_value shape)
+second_fixed : (n : ℕ) (shape : Shape) (d : Feed) → IsPlaced n shape → slice_index_or (values_feed n shape) (last_of shape) d ≡ Fixed (second_value shape)
 second_fixed n (Up i) d placed = first_fixed n (Up i) d placed
 second_fixed n (Down i) d placed = first_fixed n (Down i) d placed
 second_fixed n (Swap i j a b) d placed =
     get_or-set_same (with_fixed i a (straight n)) j (Fixed b) d (omega (arith, placed.1, length-set (straight n) i (Fixed a), straight_count n))
 
 -- a fixed input is one of the shape's
-among : (n k : ℕ) (shape : Shape) (d : Feed) (b : Bool) → k < n → slice_index_or (values_feed n shape) k d ≡ Fixed b → (k ≡ first_of shape) ⊎ (k ≡ second_of shape)
+among : (n k : ℕ) (shape : Shape) (d : Feed) (b : Bool) → k < n → slice_index_or (values_feed n shape) k d ≡ Fixed b → (k ≡ first_of shape) ⊎ (k ≡ last_of shape)
 among n k shape d b below is =
     elim (cases_eq k (first_of shape)) [
       | inl one ↦ inl one
       | inr not_one ↦
-          elim (cases_eq k (second_of shape)) [
+          elim (cases_eq k (last_of shape)) [
             | inl other ↦ inr other
             | inr not_other ↦
                 let wire : Wire k false ≡ Fixed b = sym (straight_at n k d below) ∙ (sym (own_bit n k shape d (apart_from k shape not_one not_other)) ∙ is) in
@@ -112,17 +113,17 @@ module _ (n : ℕ) (s t : Shape) (placed : IsPlaced n s) (other : IsPlaced n t) 
   none : Feed
   none = Fixed false
 
-  same_places : (first_of s ≡ first_of t) × (second_of s ≡ second_of t)
+  same_places : (first_of s ≡ first_of t) × (last_of s ≡ last_of t)
   same_places =
-      pick (first_of s) (second_of s) (first_of t) (second_of t) (first_second n s placed) (first_second n t other) (among n (first_of s) t none (first_value s) (first_below n s placed) (ap (λ f. slice_index_or f (first_of s) none) (sym same) ∙ first_fixed n s none placed)) (among n (second_of s) t none (second_value s) (second_below n s placed) (ap (λ f. slice_index_or f (second_of s) none) (sym same) ∙ second_fixed n s none placed)) (among n (first_of t) s none (first_value t) (first_below n t other) (ap (λ f. slice_index_or f (first_of t) none) same ∙ first_fixed n t none other)) (among n (second_of t) s none (second_value t) (second_below n t other) (ap (λ f. slice_index_or f (second_of t) none) same ∙ second_fixed n t none other))
+      pick (first_of s) (last_of s) (first_of t) (last_of t) (first_second n s placed) (first_second n t other) (among n (first_of s) t none (first_value s) (first_below n s placed) (ap (λ f. slice_index_or f (first_of s) none) (sym same) ∙ first_fixed n s none placed)) (among n (last_of s) t none (second_value s) (second_below n s placed) (ap (λ f. slice_index_or f (last_of s) none) (sym same) ∙ second_fixed n s none placed)) (among n (first_of t) s none (first_value t) (first_below n t other) (ap (λ f. slice_index_or f (first_of t) none) same ∙ first_fixed n t none other)) (among n (last_of t) s none (second_value t) (second_below n t other) (ap (λ f. slice_index_or f (last_of t) none) same ∙ second_fixed n t none other))
 
   first_same : Fixed (first_value s) ≡ Fixed (first_value t)
   first_same = sym (first_fixed n s none placed) ∙ (ap (λ f. slice_index_or f (first_of s) none) same ∙ (ap (λ k. slice_index_or (values_feed n t) k none) same_places.0 ∙ first_fixed n t none other))
 
   second_same : Fixed (second_value s) ≡ Fixed (second_value t)
-  second_same = sym (second_fixed n s none placed) ∙ (ap (λ f. slice_index_or f (second_of s) none) same ∙ (ap (λ k. slice_index_or (values_feed n t) k none) same_places.1 ∙ second_fixed n t none other))
+  second_same = sym (second_fixed n s none placed) ∙ (ap (λ f. slice_index_or f (last_of s) none) same ∙ (ap (λ k. slice_index_or (values_feed n t) k none) same_places.1 ∙ second_fixed n t none other))
 
-by_parts : (n : ℕ) (s t : Shape) → IsPlaced n s → IsPlaced n t → first_of s ≡ first_of t → second_of s ≡ second_of t → Fixed (first_value s) ≡ Fixed (first_value t) → Fixed (second_value s) ≡ Fixed (second_value t) → s ≡ t
+by_parts : (n : ℕ) (s t : Shape) → IsPlaced n s → IsPlaced n t → first_of s ≡ first_of t → last_of s ≡ last_of t → Fixed (first_value s) ≡ Fixed (first_value t) → Fixed (second_value s) ≡ Fixed (second_value t) → s ≡ t
 by_parts n (Up i) (Up j) p q f g v w = ap Up f
 by_parts n (Up i) (Down j) p q f g v w = cc
 by_parts n (Up i) (Swap k l a b) p q f g v w = absurd (omega (arith, f, g, q.0))

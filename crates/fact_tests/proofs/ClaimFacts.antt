@@ -14,6 +14,7 @@ use Rattle.account_core.specs.declared.fact.Evidence.{Evidence}
 use Rattle.account_core.specs.declared.fact.Evidence.TheVariants.{Fails, Holds as HoldsBy}
 use Rattle.account_core.specs.declared.fact.Fact.{Fact}
 use Rattle.account_core.specs.Facts.{AreFacts, IsEvidence, IsFact}
+use Rattle.account_core.specs.Given.{decided_by, shown_by}
 use Rattle.oracle_core.specs.Oracles.{IsNumberOf}
 use Rattle.claim_core.specs.ClaimQueries.{claim_query}
 use Rattle.claim_core.specs.Claims.{output_bit, Holds, IsClaim, IsPlaced, ShapeHolds, ShapeFails}
@@ -22,7 +23,7 @@ use Rattle.claim_core.specs.Queries.{IsQuery, IsUnmet}
 use Rattle.claim_core.proofs.AssignmentLemmas.{assignment_there}
 use Rattle.claim_core.proofs.ClaimQueryLemmas.{claim_query_fits, holds-unmet}
 use Rattle.claim_core.proofs.ClaimLaws.{no_break, inside-fails, holds_or_fails, symmetric-swaps, skew-swaps}
-use Rattle.fact_tests.specs.Outputs.{IsAlike, IsDependence, IsSymmetry, dependence, half_swap, is_for, symmetry}
+use Rattle.fact_tests.specs.Outputs.{IsAlike, IsDependence, IsSymmetry, dependence, half_swap, symmetry}
 use Rattle.claim_core.specs.Facts.{InSupport, IsSymmetric, IsSkew}
 
 -- an input is outside the support where both claims hold, and inside where one of them doesn't
@@ -101,7 +102,7 @@ symmetry_is n f i j false false one other = (refuted one, refuted other)
 -- what a fact's evidence says of its claim
 pub told_by : (graphs : Graphs) (claim : Claim) (evidence : Evidence) → IsGraph graphs.first → IsGraph graphs.second → IsClaim graphs claim
     → IsEvidence graphs claim evidence
-    → Decides (is_for evidence) (Holds graphs claim)
+    → Decides (shown_by claim evidence).holds (Holds graphs claim)
 told_by graphs claim (Fails vector) first second placed breaks =
     (λ is. absurd (false≢true is), λ holds. absurd (no_break (graph_of graphs claim.side) claim.output claim.shape holds (vector, breaks)))
 told_by graphs claim (HoldsBy log) first second placed refutes =
@@ -117,8 +118,8 @@ pub told : (graphs : Graphs) (facts : List Fact) (claim : Claim) (number : ℕ) 
     → AreFacts graphs facts
     → IsNumberOf facts claim number
     → fact ≡ get_or facts number fact
-    → Decides (is_for fact.evidence) (Holds graphs claim)
+    → Decides (decided_by fact).holds (Holds graphs claim)
 told graphs facts claim number fact first second lawful is same =
     let here : IsFact graphs fact = subst (IsFact graphs) (sym same) (lawful.each number fact is.within) in
     let of : fact.claim ≡ claim = ap (λ (fact : Fact). fact.claim) same ∙ is.claim_is fact in
-    subst (λ claim. Decides (is_for fact.evidence) (Holds graphs claim)) of (told_by graphs fact.claim fact.evidence first second here.placed here.evidence)
+    subst (λ claim. Decides (decided_by fact).holds (Holds graphs claim)) of (told_by graphs fact.claim fact.evidence first second here.placed here.evidence)

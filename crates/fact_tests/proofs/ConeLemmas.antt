@@ -1,5 +1,5 @@
 -- The clauses of a query's cones, and lines that say something new beside them.
-use Rattle.std.proofs.Common.{ℕ, ◌+◌, ◌<◌, List, [], ◌∷◌, ◌++◌, length, All, inl, inr, refl, arith}
+use Rattle.std.proofs.Common.{ℕ, ◌+◌, ◌<◌, List, [], ◌∷◌, ◌++◌, All, refl}
 use Rattle.std.specs.List.{AllByRecursion}
 use Rattle.std.proofs.lemmas.List.Elements.{All-from_recursion}
 use Rattle.circuits.specs.declared.netlist.Gate.{Gate}
@@ -12,25 +12,13 @@ use Rattle.net_core.specs.Sides.{graph_of}
 use Rattle.claim_core.specs.declared.query.Query.{Query}
 use Rattle.claim_core.specs.Queries.{IsQuery, circuit_of}
 use Rattle.claim_core.specs.Formulas.{query_clauses, gate_clauses, half_clauses, left_literals, right_literals}
-use Rattle.claim_core.specs.ConeClauses.{AllOfCones, IsConeId}
-use Rattle.claim_core.proofs.FormulaLemmas.{count_of}
+use Rattle.claim_core.specs.ConeClauses.{AllOfCones}
 use Rattle.oracle_core.specs.Work.{IsNewBeside}
-use Rattle.query_core.proofs.VariableLemmas.{reached_there}
+use Rattle.claim_core.proofs.ConeLaws.{cone_id_there}
 
 pub graph_is : (graphs : Graphs) (side : Side) → IsGraph graphs.first → IsGraph graphs.second → IsGraph (graph_of graphs side)
 graph_is graphs First first second = first
 graph_is graphs Second first second = second
-
-pub cone_id_below : (graphs : Graphs) (query : Query) (id : ℕ) → IsGraph graphs.first → IsGraph graphs.second → IsQuery graphs query → IsConeId graphs query id → id < length (query_clauses graphs query)
-cone_id_below graphs query id first second fits (inl zero_is) = omega (arith, zero_is, count_of graphs query)
-cone_id_below graphs query id first second fits (inr (inl reached)) =
-    let there = reached_there (circuit_of graphs query.left) query.left.output reached.gate (graph_is graphs query.left.side first second).ordered fits.left.output reached.reached in
-    omega (arith, there, reached.to, count_of graphs query)
-cone_id_below graphs query id first second fits (inr (inr (inl reached))) =
-    let there = reached_there (circuit_of graphs query.right) query.right.output reached.gate (graph_is graphs query.right.side first second).ordered fits.right.output reached.reached in
-    omega (arith, there, reached.to, count_of graphs query)
-cone_id_below graphs query id first second fits (inr (inr (inr (inl is)))) = omega (arith, is, count_of graphs query)
-cone_id_below graphs query id first second fits (inr (inr (inr (inr is)))) = omega (arith, is, count_of graphs query)
 
 -- no clause of a query is empty
 gates_some : (literals : List SatLit) (first : ℕ) (gates : List Gate) → AllByRecursion (IsNewBeside []) (gate_clauses literals first gates)
@@ -53,4 +41,4 @@ none_empty graphs query = All-from_recursion (IsNewBeside []) (query_clauses gra
 -- the empty line says something that no clause says
 pub empty_is_new : (graphs : Graphs) (query : Query) → IsGraph graphs.first → IsGraph graphs.second → IsQuery graphs query → AllOfCones graphs query (IsNewBeside [])
 empty_is_new graphs query first second fits id of_cone =
-    none_empty graphs query id [] (cone_id_below graphs query id first second fits of_cone)
+    none_empty graphs query id [] (cone_id_there graphs query id first second fits of_cone)

@@ -39,6 +39,7 @@ use Rattle.claim_core.proofs.FormulaLemmas.{count_of, first_output, second_outpu
 use Rattle.net_supports.specs.Supports.{only_input, output_reaches}
 use Rattle.fact_tests.specs.Supports.{IsOutside, closing_line}
 use Rattle.joint_hash.proofs.SharedLemmas.{same_literals}
+use Rattle.sim_signature.specs.Sightings.{first_of, last_of}
 
 -- ---- what reaches what
 
@@ -141,23 +142,12 @@ pub only_at : (n i k : ℕ) → k < n → k ≡ i → bit (only_input n i) k ≡
 only_at n i k below is =
     get_or-map-range_with_len (λ j. eqb j i) 0 n k k false below (omega arith) ∙ eq-eqb k i is
 
--- the inputs of a shape, twice the one where there is one alone
-abbrev pub first_of : Shape → ℕ
-first_of (Up i) = i
-first_of (Down i) = i
-first_of (Swap i j a b) = i
-
-abbrev pub second_of : Shape → ℕ
-second_of (Up i) = i
-second_of (Down i) = i
-second_of (Swap i j a b) = j
-
-pub apart_from : (k : ℕ) (shape : Shape) → k ≢ first_of shape → k ≢ second_of shape → IsApart k shape
+pub apart_from : (k : ℕ) (shape : Shape) → k ≢ first_of shape → k ≢ last_of shape → IsApart k shape
 apart_from k (Up i) one other = one
 apart_from k (Down i) one other = one
 apart_from k (Swap i j a b) one other = (one, other)
 
-feeds_covered : (n : ℕ) (shape : Shape) → Covered (false ∷ differing n shape) (false ∷ only_input n (first_of shape)) (false ∷ only_input n (second_of shape))
+feeds_covered : (n : ℕ) (shape : Shape) → Covered (false ∷ differing n shape) (false ∷ only_input n (first_of shape)) (false ∷ only_input n (last_of shape))
 feeds_covered n shape zero is = absurd (false≢true is)
 feeds_covered n shape (suc k) is =
     elim (cases_lt k n) [
@@ -166,8 +156,8 @@ feeds_covered n shape (suc k) is =
           elim (cases_eq k (first_of shape)) [
             | inl one ↦ inl (only_at n (first_of shape) k below one)
             | inr not_one ↦
-                elim (cases_eq k (second_of shape)) [
-                  | inl other ↦ inr (only_at n (second_of shape) k below other)
+                elim (cases_eq k (last_of shape)) [
+                  | inl other ↦ inr (only_at n (last_of shape) k below other)
                   | inr not_other ↦ absurd (false≢true (sym (same_feeds n k shape below (apart_from k shape not_one not_other)) ∙ is))
                 ]
           ]
@@ -176,7 +166,7 @@ feeds_covered n shape (suc k) is =
 pub length-only_input : (n i : ℕ) → length (only_input n i) ≡ n
 length-only_input n i = length-map-range_with_len (λ k. eqb k i) 0 n
 
-outside_both : (net : Net) (k : ℕ) (shape : Shape) → IsOutside net k shape → (output_reaches net k (first_of shape) ≡ false) × (output_reaches net k (second_of shape) ≡ false)
+outside_both : (net : Net) (k : ℕ) (shape : Shape) → IsOutside net k shape → (output_reaches net k (first_of shape) ≡ false) × (output_reaches net k (last_of shape) ≡ false)
 outside_both net k (Up i) outside = (outside, outside)
 outside_both net k (Down i) outside = (outside, outside)
 outside_both net k (Swap i j a b) outside = outside
@@ -186,7 +176,7 @@ pub unreached : (net : Net) (k : ℕ) (shape : Shape) → IsOutside net k shape 
 unreached net k shape outside =
     let n = net.inputs in
     let size = length-differing n shape in
-    let covered = covered_through (false ∷ differing n shape) (false ∷ only_input n (first_of shape)) (false ∷ only_input n (second_of shape)) net.gates (omega (arith, size, length-only_input n (first_of shape))) (omega (arith, size, length-only_input n (second_of shape))) (feeds_covered n shape) in
+    let covered = covered_through (false ∷ differing n shape) (false ∷ only_input n (first_of shape)) (false ∷ only_input n (last_of shape)) net.gates (omega (arith, size, length-only_input n (first_of shape))) (omega (arith, size, length-only_input n (last_of shape))) (feeds_covered n shape) in
     let both = outside_both net k shape outside in
     false_from_ne_true (bit (reaching (false ∷ differing n shape) net.gates) (output_signal net k)) (λ is. elim (covered (output_signal net k) is) [
       | inl p ↦ false≢true (sym both.0 ∙ p)

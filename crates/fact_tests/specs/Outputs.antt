@@ -5,8 +5,6 @@ use Rattle.net_core.specs.Sides.{Graphs}
 use Rattle.query_core.specs.Ledgers.{Ledgered}
 use Rattle.account_core.specs.Facts.{AreFacts}
 use Rattle.oracle_core.specs.Oracles.{Known, Suits}
-use Rattle.account_core.specs.declared.fact.Evidence.{Evidence}
-use Rattle.account_core.specs.declared.fact.Evidence.TheVariants.{Fails, Holds}
 use Rattle.claim_core.specs.declared.claims.Shape.{Shape}
 use Rattle.claim_core.specs.declared.claims.Shape.TheVariants.{Swap}
 use Rattle.claim_core.specs.Claims.{output_bit}
@@ -31,11 +29,6 @@ inputs_in graphs = graphs.first.inputs
 
 abbrev pub function_at : Graphs → ℕ → List Bool → Bool
 function_at graphs k = output_bit graphs.first k
-
--- whether evidence is for its claim
-abbrev pub is_for : Evidence → Bool
-is_for (Fails vector) = false
-is_for (Holds log) = true
 
 -- how a function depends on an input: None where it doesn't
 abbrev pub IsDependence : ℕ → (List Bool → Bool) → ℕ → Option Unate → Type 0

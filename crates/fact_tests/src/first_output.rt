@@ -4,10 +4,9 @@ ghost use Rattle.std.specs.Prelude.{◌≡◌, ◌<◌, IfOk, length};
 ghost use Rattle.std.specs.Bool.{Decides};
 ghost use Rattle.oracle_core.specs.Oracles.{Serves};
 ghost use Rattle.claim_core.specs.Claims.{IsPlaced, ShapeHolds};
-ghost use Rattle.fact_tests.specs.Outputs.{MayAsk, is_for};
+ghost use Rattle.fact_tests.specs.Outputs.{MayAsk};
 ghost use Rattle.net_supports.specs.Supports.{output_reaches};
 
-use account_core::Evidence;
 use cnf_core::Stop;
 use net_core::{Graphs, Side};
 use net_supports::Supports;
@@ -57,16 +56,6 @@ impl<'a> FirstOutput<'a> {
         };
         let number = oracle.claim(alloc, claim, ledger)?;
         let fact = &oracle.facts()[number as usize];
-        Ok(is_for(&fact.evidence))
-    }
-}
-
-/// Whether evidence is for its claim.
-fn is_for(evidence: &Evidence) -> bool
-    ensures { result ≡ is_for evidence.now }
-{
-    match evidence {
-        Evidence::Fails(_) => false,
-        Evidence::Holds(_) => true,
+        Ok(fact.holds())
     }
 }

@@ -12,7 +12,8 @@ use Rattle.gen_pair.specs.Drawing.{drawn, drawn_bit, generator_of}
 use Rattle.gen_pair.specs.Moved.{signed, moved_gate, AreMovedOutputs}
 use Rattle.gen_pair.specs.Shuffles.{shuffled, signed_places, hidden_ports, hidden_table}
 use Rattle.gen_pair.specs.Pairs.{ArePairOf}
-use Rattle.gen_pair.specs.Mixing.{Mixing, mixing, Making, with_and, with_multiplexer, at, mixed_once, mixed, joining, joined, making, with_output, made, window_of}
+use Rattle.gen_pair.specs.Mixing.{Mixing, mixing, Making, with_and, with_multiplexer, mixed_once, mixed, joining, joined, making, with_output, made, window_of}
+use Rattle.circuits.specs.Expansion.{stand_in}
 
 shuffled_suc : (k : ℕ) (places : List ℕ) (random : Lcg) → shuffled (suc k) places random ≡ shuffled k (swap places (k + 1) (drawn (k + 2) random).0) (drawn (k + 2) random).1
 unfolding shuffled
@@ -79,7 +80,7 @@ once_by window gates place second third sign left =
     let width = length window in
     let select = (place + 1 + second) % width in
     let other = (select + 1 + third) % width in
-    let made = with_multiplexer (at window select) (at window place) (signed sign (at window other)) gates in
+    let made = with_multiplexer (stand_in window select) (stand_in window place) (signed sign (stand_in window other)) gates in
     mixing (slice_set window place made.1) made.0 left
 
 pub mixed_by : (window : List Lit) (gates : List Gate) (random : Lcg) (d : Draws window gates random) → once_by window gates d.place d.second d.third d.sign d.left ≡ mixed_once (mixing window gates random)
@@ -107,11 +108,11 @@ mixed_more n start s t before step =
     let on : n + 1 ≡ suc n = omega arith in
     step ∙ ap mixed_once before ∙ sym (ap (λ k. mixed k start) on)
 
-pub joined_none : (window : List Lit) (gates : List Gate) (random : Lcg) → joined window 0 gates random ≡ joining (at window 0) gates random
+pub joined_none : (window : List Lit) (gates : List Gate) (random : Lcg) → joined window 0 gates random ≡ joining (stand_in window 0) gates random
 unfolding joined
 joined_none window gates random = refl
 
-pub joined_more : (window : List Lit) (t : ℕ) (g0 g1 g2 : List Gate) (start random left : Lcg) (literal next : Lit) (sign : Bool) → 0 < t → joining literal g1 random ≡ joined window (t - 1) g0 start → (sign, left) ≡ drawn_bit random → (g2, next) ≡ with_and literal (signed sign (at window t)) g1 → joining next g2 left ≡ joined window t g0 start
+pub joined_more : (window : List Lit) (t : ℕ) (g0 g1 g2 : List Gate) (start random left : Lcg) (literal next : Lit) (sign : Bool) → 0 < t → joining literal g1 random ≡ joined window (t - 1) g0 start → (sign, left) ≡ drawn_bit random → (g2, next) ≡ with_and literal (signed sign (stand_in window t)) g1 → joining next g2 left ≡ joined window t g0 start
 unfolding joined
 joined_more window t g0 g1 g2 start random left literal next sign some before bit made =
     let n = t - 1 in
@@ -119,14 +120,14 @@ joined_more window t g0 g1 g2 start random left literal next sign some before bi
     let here : t ≡ n + 1 = omega arith in
     let b = joined window n g0 start in
     let bit_is : (sign, left) ≡ drawn_bit b.random = bit ∙ ap (λ r. drawn_bit r) (ap (λ j. j.random) before) in
-    let made_is : (g2, next) ≡ with_and b.literal (signed (drawn_bit b.random).0 (at window (n + 1))) b.gates =
+    let made_is : (g2, next) ≡ with_and b.literal (signed (drawn_bit b.random).0 (stand_in window (n + 1))) b.gates =
     made
-    ∙ ap (λ l. with_and l (signed sign (at window t)) g1) (ap (λ j. j.literal) before)
-    ∙ ap (λ g. with_and b.literal (signed sign (at window t)) g) (ap (λ j. j.gates) before)
-    ∙ ap (λ (p : Bool × Lcg). with_and b.literal (signed p.0 (at window t)) b.gates) bit_is
-    ∙ ap (λ k. with_and b.literal (signed (drawn_bit b.random).0 (at window k)) b.gates) here in
+    ∙ ap (λ l. with_and l (signed sign (stand_in window t)) g1) (ap (λ j. j.literal) before)
+    ∙ ap (λ g. with_and b.literal (signed sign (stand_in window t)) g) (ap (λ j. j.gates) before)
+    ∙ ap (λ (p : Bool × Lcg). with_and b.literal (signed p.0 (stand_in window t)) b.gates) bit_is
+    ∙ ap (λ k. with_and b.literal (signed (drawn_bit b.random).0 (stand_in window k)) b.gates) here in
     ap (λ (p : List Gate × Lit). joining p.1 p.0 left) made_is
-    ∙ ap (λ (p : Bool × Lcg). joining (with_and b.literal (signed (drawn_bit b.random).0 (at window (n + 1))) b.gates).1 (with_and b.literal (signed (drawn_bit b.random).0 (at window (n + 1))) b.gates).0 p.1) bit_is
+    ∙ ap (λ (p : Bool × Lcg). joining (with_and b.literal (signed (drawn_bit b.random).0 (stand_in window (n + 1))) b.gates).1 (with_and b.literal (signed (drawn_bit b.random).0 (stand_in window (n + 1))) b.gates).0 p.1) bit_is
     ∙ sym (ap (λ k. joined window k g0 start) on)
 
 pub made_none : (random : Lcg) → made 0 random ≡ making [] [] random

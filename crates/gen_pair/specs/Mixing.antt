@@ -1,13 +1,14 @@
 -- The first netlist of a pair: for each output a window of inputs, mixed by multiplexers, and the AND of a few of its
 -- literals. All that is drawn comes from one generator, in order.
-use Rattle.std.specs.Prelude.{ℕ, zero, suc, ◌+◌, ◌-◌, ◌*◌, ◌%◌, List, [], ◌∷◌, ◌++◌, length, map, nat_lt, slice_index_or, slice_set, if◌then◌else◌}
+use Rattle.std.specs.Prelude.{ℕ, zero, suc, ◌+◌, ◌-◌, ◌*◌, ◌%◌, List, [], ◌∷◌, ◌++◌, length, map, nat_lt, slice_set, if◌then◌else◌}
 use Rattle.std.specs.List.{range_with_len}
 use Rattle.circuits.specs.declared.netlist.Lit.{Lit}
 use Rattle.circuits.specs.declared.netlist.Gate.{Gate}
-use Rattle.circuits.specs.Literals.{inverse, plain_literal, false_literal}
+use Rattle.circuits.specs.Literals.{inverse, plain_literal}
 use Rattle.rand_pcg.specs.Lcg.{Lcg}
 use Rattle.gen_pair.specs.Drawing.{drawn, drawn_bit}
 use Rattle.gen_pair.specs.Moved.{signed}
+use Rattle.circuits.specs.Expansion.{stand_in}
 
 -- the AND of two literals as the next gate, and its literal
 unfoldable pub with_and : Lit → Lit → List Gate → List Gate × Lit
@@ -30,9 +31,6 @@ pub record Mixing : Type 0 where
 abbrev pub mixing : List Lit → List Gate → Lcg → Mixing
 mixing window gates random = record { window = window; gates = gates; random = random }
 
-abbrev pub at : List Lit → ℕ → Lit
-at window place = slice_index_or window place false_literal
-
 -- one place of a window becomes a multiplexer of itself and two others; the three places and a sign are drawn
 unfoldable pub mixed_once : Mixing → Mixing
 mixed_once s =
@@ -43,7 +41,7 @@ mixed_once s =
     let sign = drawn_bit third.1 in
     let select = (place.0 + 1 + second.0) % width in
     let other = (select + 1 + third.0) % width in
-    let made = with_multiplexer (at s.window select) (at s.window place.0) (signed sign.0 (at s.window other)) s.gates in
+    let made = with_multiplexer (stand_in s.window select) (stand_in s.window place.0) (signed sign.0 (stand_in s.window other)) s.gates in
     mixing (slice_set s.window place.0 made.1) made.0 sign.1
 
 -- this many times
@@ -62,11 +60,11 @@ joining literal gates random = record { literal = literal; gates = gates; random
 
 -- the AND of the first literal of a window with the next n, each with a sign that is drawn
 unfoldable pub joined : List Lit → ℕ → List Gate → Lcg → Joining
-joined window zero gates random = joining (at window 0) gates random
+joined window zero gates random = joining (stand_in window 0) gates random
 joined window (suc n) gates random =
     let before = joined window n gates random in
     let sign = drawn_bit before.random in
-    let made = with_and before.literal (signed sign.0 (at window (n + 1))) before.gates in
+    let made = with_and before.literal (signed sign.0 (stand_in window (n + 1))) before.gates in
     joining made.1 made.0 sign.1
 
 -- the window of output k: inputs side by side, round the end

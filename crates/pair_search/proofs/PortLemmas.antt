@@ -1,5 +1,5 @@
 -- The ways that a port has left.
-use Rattle.std.proofs.Common.{◌≡◌, ◌⊎◌, ℕ, zero, suc, ◌+◌, ◌*◌, ◌<◌, ◌≤◌, Bool, true, false, List, [], ◌∷◌, length, map, filter, cond, get_or, Contains, Some, refl, sym, ap, subst, ◌∙◌, inl, inr, arith}
+use Rattle.std.proofs.Common.{◌≡◌, ◌⊎◌, ℕ, zero, suc, ◌+◌, ◌*◌, ◌<◌, ◌≤◌, Bool, true, false, List, [], ◌∷◌, length, get_or, Contains, Some, refl, sym, ap, subst, ◌∙◌, inl, inr, arith}
 use Rattle.std.proofs.lemmas.Bool.{cases_lt, cases_order, false≢true}
 use Rattle.std.proofs.lemmas.List.{get_or_default}
 use Rattle.std.proofs.lemmas.List.Elements.{All-contains}
@@ -17,6 +17,7 @@ use Rattle.class_refine.proofs.EntryLemmas.{at_of}
 use Rattle.conflict_core.specs.declared.port.Port.{Port}
 use Rattle.conflict_core.specs.Justified.{port_of}
 use Rattle.conflict_core.specs.Named.{EachWay, IsLeftOutOr}
+use Rattle.conflict_core.proofs.PivotLemmas.{held_with}
 
 -- one more way is deleted
 pub gone_more : (es : List Entry) (F : ℕ → Pair) (from at : ℕ) → ((k : ℕ) → from ≤ k → k < at → IsDeleted es (F k)) → IsDeleted es (F at) → (k : ℕ) → from ≤ k → k < at + 1 → IsDeleted es (F k)
@@ -41,9 +42,6 @@ last_way n m es port number way way_is kind_is port_is before after k below =
     by_order (inl same) = inl (ap (λ (w : Pair). Some w) (way_is ∙ ap (nth_way port.side port.kind port.number) (sym same)))
     by_order (inr (inl less)) = inr (before k (omega arith) less)
     by_order (inr (inr more)) = inr (after k (omega (arith, more)) inside)
-
-abbrev held_with : Entry → List Entry → Bool → List Pair
-held_with x es b = map (λ (e : Entry). e.pair) (cond b (x ∷ filter (λ (e : Entry). is_held e.fate) es) (filter (λ (e : Entry). is_held e.fate) es))
 
 wider : (x : Entry) (es : List Entry) (p : Pair) (b : Bool) → Contains (held_in es) p → Contains (held_with x es b) p
 wider x es p true there = contains_cons (held_in es) x.pair p there

@@ -1,5 +1,5 @@
 -- What one more entry leaves.
-use Rattle.std.proofs.Common.{◌≡◌, ◌≢◌, ◌⊎◌, ℕ, zero, suc, ◌<◌, ◌≤◌, false, true, cond, List, [], ◌∷◌, ◌++◌, length, get_or, take, All, Contains, refl, sym, ap, subst, ◌∙◌, inl, inr, arith}
+use Rattle.std.proofs.Common.{◌≡◌, ◌≢◌, ◌⊎◌, ℕ, zero, suc, ◌<◌, ◌≤◌, false, true, cond, List, [], ◌∷◌, ◌++◌, length, get_or, take, Contains, refl, sym, ap, subst, ◌∙◌, inl, inr, arith}
 use Rattle.std.proofs.lemmas.List.{append-nil, append_assoc, length_push}
 use Rattle.std.proofs.lemmas.List.Elements.{All-push, Contains-append_left}
 use Rattle.std.proofs.lemmas.List.Quantifiers.{all_pairs_push}
@@ -13,7 +13,6 @@ use Rattle.account_core.specs.Tallies.{port_on}
 use Rattle.account_core.specs.declared.step.Ban.{Ban}
 use Rattle.account_core.specs.Given.{Decided}
 use Rattle.account_core.specs.Ports.{Clash}
-use Rattle.account_core.specs.Shown.{IsEmptyBan}
 use Rattle.class_refine.specs.declared.entry.Entry.{Entry}
 use Rattle.class_refine.specs.declared.entry.Cause.TheVariants.{Choice, LastWay}
 use Rattle.class_refine.specs.declared.entry.Fate.{Fate}
@@ -221,17 +220,6 @@ pub zero_whole : (es lent : List Entry) → lent ≡ es → HasNoChoice lent 0 (
 zero_whole es lent same none =
     subst (λ (l : List Entry). level_zero l ≡ l) same (zero_all lent (λ k d below. not_chosen (get_or lent k d).fate (none.none k d (omega arith) below)))
 
--- a ban that needs no pair
-pub empty_ban : (bans : List Ban) (ban : ℕ) → Covers bans [] ban → IsEmptyBan bans ban
-empty_ban bans ban covers = record {
-  held = covers.held;
-  pairs = λ d. no_pairs (get_or bans ban d).pairs ((covers.within d).among);
-}
-  where
-    no_pairs : (pairs : List Pair) → All (Contains []) pairs → pairs ≡ []
-    no_pairs [] all = refl
-    no_pairs (x ∷ pairs) all = let there = all 0 x (omega arith) in absurd (omega (arith, there.1))
-
 fit_same : (graphs : Graphs) (n m n2 m2 : ℕ) → n2 ≡ n → m2 ≡ m → FitPorts graphs n m → FitPorts graphs n2 m2
 fit_same graphs n m n2 m2 n_is m_is fit = subst (λ k. FitPorts graphs k m2) (sym n_is) (subst (λ k. FitPorts graphs n k) (sym m_is) fit)
 
@@ -255,8 +243,3 @@ known_after bans before after p goes known = record {
   from = omega (arith, known.from, ports_after bans before after p.kind goes);
   to = omega (arith, known.to, ports_after bans before after p.kind goes);
 }
-
--- a pair's port of a circuit is there
-pub port_there : (n m : ℕ) (side : Side) (p : Pair) → IsPairOf n m p → port_on side p < ports_of n m p.kind
-port_there n m First p known = known.from
-port_there n m Second p known = known.to

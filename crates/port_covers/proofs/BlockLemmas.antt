@@ -3,10 +3,10 @@ use Rattle.std.proofs.Common.{◌≡◌, ℕ, ◌+◌, ◌<◌, Bool, true, fals
 use Rattle.std.proofs.lemmas.List.Elements.{All-append, All-cons, All-nil}
 use Rattle.circuits.specs.declared.port.Pair.{Pair}
 use Rattle.circuits.specs.declared.port.PortKind.{PortKind}
-use Rattle.account_core.specs.Covers.{way, ways}
+use Rattle.account_core.specs.Covers.{way, ways, row}
 use Rattle.ban_book.proofs.ListLemmas.{flat_more}
 use Rattle.port_covers.specs.declared.block.Block.{Block}
-use Rattle.port_covers.specs.Ways.{row, ways_in}
+use Rattle.port_covers.specs.Ways.{ways_in}
 use Rattle.port_covers.proofs.ListLemmas.{contains_cons}
 
 -- the ways to one port more

@@ -1,7 +1,7 @@
 -- The ways of ports, and what closes them (a value of a variable that is ruled out with its reason, as in conflict-directed
 -- backjumping: Prosser, Comput. Intell. 1993).
-use Rattle.std.specs.Prelude.{◌≡◌, ℕ, ◌+◌, ◌/◌, ◌%◌, ◌<◌, ◌==◌, List, [], ◌∷◌, ◌++◌, length, All, true, false, Option, Some}
-use Rattle.std.specs.List.{AllZip, flat_map, range_with_len}
+use Rattle.std.specs.Prelude.{◌≡◌, ℕ, ◌+◌, ◌/◌, ◌%◌, ◌<◌, ◌==◌, List, [], ◌∷◌, ◌++◌, length, All, Option, Some}
+use Rattle.std.specs.List.{AllZip, range_with_len}
 use Rattle.circuits.specs.declared.port.Pair.{Pair}
 use Rattle.circuits.specs.declared.port.PortKind.{PortKind}
 use Rattle.net_core.specs.Sides.{Graphs}
@@ -28,10 +28,6 @@ second_port Second port other = port
 abbrev pub nth_way : Side → PortKind → ℕ → ℕ → Pair
 nth_way side kind port number =
     way kind (first_port side port (number / 2)) (second_port side port (number / 2)) (number % 2 == 1)
-
--- the ways to pair one port with each of some others, plain before negated
-abbrev pub row : PortKind → ℕ → List ℕ → List Pair
-row kind from to = flat_map (λ t. way kind from t false ∷ way kind from t true ∷ []) to
 
 -- all ways to pair a port of the one circuit with one of the other
 abbrev pub ways_in : Block → List Pair

@@ -2,9 +2,9 @@
 
 ghost use Rattle.std.specs.Prelude.{◌≡◌, ◌+◌, ◌<◌, ◌++◌, All, IfOk, OnOk};
 ghost use Rattle.std.specs.List.{range_with_len};
-ghost use Rattle.account_core.specs.Covers.{ways};
+ghost use Rattle.account_core.specs.Covers.{ways, row};
 ghost use Rattle.account_core.specs.Tallies.{Ascend};
-ghost use Rattle.port_covers.specs.Ways.{block_of, ports_tried, row, ways_in};
+ghost use Rattle.port_covers.specs.Ways.{block_of, ports_tried, ways_in};
 
 use account_core::way;
 use circuits::{Pair, PortKind};

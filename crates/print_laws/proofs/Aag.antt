@@ -91,7 +91,7 @@ outputs_read net ordered k d h = omega (arith, ordered.outputs k d h)
 abbrev ins : Net → List (List ℕ)
 ins net = input_rows net.inputs
 
-abbrev outs : Net → List (List ℕ)
+abbrev pub outs : Net → List (List ℕ)
 outs net = map output_row net.outputs
 
 abbrev gates : Net → List (List ℕ)

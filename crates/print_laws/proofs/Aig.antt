@@ -21,13 +21,10 @@ use Rattle.print_laws.specs.Printable.{IsWithinLimits, IsPrintable}
 use Rattle.print_laws.proofs.Fitting.{below, IsSection, outputs_section}
 use Rattle.print_laws.proofs.Deltas.{operands_of, gates_begin}
 use Rattle.print_laws.proofs.OperandOrder.{ordered_too}
-use Rattle.print_laws.proofs.Aag.{greatest_of, header_of_net, outputs_read, circuit_of, symbols_read, IsFile, file_begins, file_body, file_rest}
+use Rattle.print_laws.proofs.Aag.{greatest_of, header_of_net, outputs_read, circuit_of, symbols_read, IsFile, file_begins, file_body, file_rest, outs}
 
 abbrev aig_header : Net → AigerHeader
 aig_header net = header_of_net true net
-
-abbrev outs : Net → List (List ℕ)
-outs net = map output_row net.outputs
 
 -- what stands after the lines
 abbrev back : Named → List ℕ

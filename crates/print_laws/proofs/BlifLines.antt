@@ -16,10 +16,10 @@ use Rattle.blif_reader.specs.declared.directive.Directive.{Directive}
 use Rattle.blif_reader.specs.declared.directive.Directive.TheVariants.{Names, End, Row}
 use Rattle.blif_reader.specs.Directives.{directive_of, is_row, is_names, is_end}
 use Rattle.blif_reader.specs.Firsts.{NoneIs}
-use Rattle.blif_reader.specs.Rows.{operand_count, has_widths, has_good_bytes, rows_before, opening, row_fault, fault_in_cover, differs_from, output_byte}
+use Rattle.blif_reader.specs.Rows.{operand_count, has_widths, has_good_bytes, rows_before, opening, row_fault, fault_in_cover, differs_from, output_byte, rows_of}
 use Rattle.blif_reader.specs.Names.{ports_on, port_words, operands, defined_on, defined_words, read_on, read_words}
 use Rattle.blif_reader.specs.Faults.{has_line, fault_before_end, fault_after_end, is_faulty}
-use Rattle.blif_reader.specs.Covers.{trit_of, signal_named, leading_rows, cover_of, covers_of}
+use Rattle.blif_reader.specs.Covers.{trit_of, signal_named, cover_of, covers_of}
 use Rattle.blif_reader.proofs.FirstLemmas.{NoneIs-push}
 use Rattle.blif_reader.proofs.SurveyLemmas.{reversed_push, not_row, rows_of, opening_of}
 use Rattle.blif_reader.proofs.BuildingLemmas.{covers_skip, covers_take, no_rows, one_row}
@@ -91,7 +91,7 @@ pair n (OfOutput k output) at =
     record { names_line = refl; row_line = row.0; long = refl; widths = refl; good = row.1 }
 
 -- no rows stand at the front of covers
-pub none_ahead : (n : ℕ) (covers : List Printed) (at : ℕ) → leading_rows (covers_at n covers at) ≡ []
+pub none_ahead : (n : ℕ) (covers : List Printed) (at : ℕ) → rows_of (covers_at n covers at) ≡ []
 none_ahead n [] at = refl
 none_ahead n (cover ∷ covers) at =
     no_rows (line_at n cover at) (row_at n cover at ∷ covers_at n covers (end_of n cover at)) (ap is_row (pair n cover at).names_line)
@@ -119,7 +119,7 @@ covers_are all n bound (cover ∷ covers) here reads at =
     let row = row_at n cover at in
     let left = covers_at n covers (end_of n cover at) in
     let is = pair n cover at in
-    let rows : leading_rows (row ∷ left) ≡ row ∷ [] = one_row row left (ap is_row is.row_line) ∙ ap (λ rs. row ∷ rs) (none_ahead n covers (end_of n cover at)) in
+    let rows : rows_of (row ∷ left) ≡ row ∷ [] = one_row row left (ap is_row is.row_line) ∙ ap (λ rs. row ∷ rs) (none_ahead n covers (end_of n cover at)) in
     covers_take all line (row ∷ left) (ap is_names is.names_line)
     ∙ ap₂ (λ (d : Def) (ds : List Def). d ∷ ds)
     (ap (cover_of all line) rows ∙ cover_is all n bound cover at here (All-head (ReadsBelow bound) cover covers reads))

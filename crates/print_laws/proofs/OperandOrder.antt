@@ -3,16 +3,13 @@ use Rattle.std.proofs.Common.{◌≡◌, ℕ, ◌+◌, ◌<◌, min, max, Bool, 
 use Rattle.std.proofs.lemmas.Bool.{cases_lt}
 use Rattle.std.proofs.lemmas.List.{length-map, get_or-map}
 use Rattle.circuits.specs.declared.netlist.Gate.{Gate}
-use Rattle.circuits.specs.declared.netlist.Lit.{Lit}
 use Rattle.circuits.specs.Literals.{signal_of, literal_bit}
 use Rattle.circuits.specs.Netlists.{Net, IsOrdered, gate_bit, with_gates, function_of, output_bits}
 use Rattle.circuits.specs.Functions.{Computes, as_circuit}
 use Rattle.circuits.proofs.AsCircuit.{as_circuit-computed}
 use Rattle.print_laws.specs.Ordered.{greater_first, with_greater_first}
 use Rattle.std.proofs.Math.Bool.{and_comm}
-
-lit_from : ℕ → Lit
-lit_from number = record { 0 = number }
+use Rattle.aiger_reader.specs.Bodies.{lit_from}
 
 -- the greater first is one order of the two or the other
 in_order_or_not : (gate : Gate) (P : Gate → Type 0) → P gate → P (record { a = gate.b; b = gate.a }) → P (greater_first gate)

@@ -30,10 +30,11 @@ use Rattle.learn_solver.proofs.SolverLemmas.{line_from}
 use Rattle.learn_solver.proofs.StepLemmas.{asking_charged, extended_charged, last_added, stopped_one}
 use Rattle.ask_core.proofs.AskLemmas.{IsOfCones}
 use Rattle.joint_hash.proofs.LineLemmas.{no_lemmas}
-use Rattle.fact_tests.proofs.ConeLemmas.{cone_id_below, none_empty}
+use Rattle.fact_tests.proofs.ConeLemmas.{none_empty}
 use Rattle.table_oracle.specs.declared.splitting.Splitting.{Splitting}
 use Rattle.table_oracle.specs.Splits.{AllExcluded, IsBeginning, IsCovering, IsExcluded, IsNew, IsSplitting, clauses_in, excluding, solving_of}
 use Rattle.table_oracle.proofs.ExcludingLemmas.{excluding_known, excluding_once}
+use Rattle.claim_core.proofs.ConeLaws.{cone_id_there}
 
 -- the first n clauses all say something that this one doesn't
 abbrev pub AreNewUpTo : List (List SatLit) → List SatLit → ℕ → Type 0
@@ -174,7 +175,7 @@ of_cones graphs query asking lines is none first second fits = record {
   formula = ap (λ (a : Asking). formula_of a.graphs a.query) is;
   ids = λ id cone.
       let count = length (query_clauses graphs query) in
-      let below = cone_id_below graphs query id first second fits cone in
+      let below = cone_id_there graphs query id first second fits cone in
       subst (λ (a : Asking). Contains (range_with_len 0 (length (query_clauses a.graphs a.query))) id) (sym is) (id, omega (arith, below, length-range_with_len 0 count), get_or-range_with_len 0 count id id below ∙ own id);
   lines = none;
   derived = (no_lemmas (formula_of graphs query) [] refl).derived;

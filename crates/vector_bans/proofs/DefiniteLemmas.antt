@@ -7,9 +7,8 @@ use Rattle.circuits.specs.Literals.{bit, differ, signal_of, is_negated, literal_
 use Rattle.circuits.specs.Netlists.{Net, IsOrdered, gate_bit, with_gates, function_of}
 use Rattle.circuits.proofs.Valuations.{ReadsBelow, first_operand, second_operand, ReadsBelow-tail, ReadsBelow-start, length-with_gates}
 use Rattle.word_sim.specs.declared.tri.Tri.TheVariants.{X}
-use Rattle.word_sim.specs.ThreeValues.{tri_and, tri_literal, tri_gate, with_tri_gates, tri_outputs}
+use Rattle.word_sim.specs.ThreeValues.{tri_and, tri_literal, tri_gate, with_tri_gates, tri_outputs, of_bit}
 use Rattle.account_core.specs.Vectors.{signed, value_at}
-use Rattle.vector_bans.specs.Differences.{of_bit}
 
 of_and : (a b : Bool) → tri_and (of_bit a) (of_bit b) ≡ of_bit (a && b)
 of_and true true = refl

@@ -20,7 +20,7 @@ use Rattle.net_core.specs.Graph.{IsGraph}
 use Rattle.claim_core.specs.Images.{HasPair, Extends, entries_of, pair_of}
 use Rattle.word_sim.specs.declared.tri.Tri.{Tri}
 use Rattle.word_sim.specs.declared.tri.Tri.TheVariants.{X}
-use Rattle.word_sim.specs.ThreeValues.{tri_outputs}
+use Rattle.word_sim.specs.ThreeValues.{tri_outputs, of_bit}
 use Rattle.account_core.specs.Ports.{IsKnown, AreOrdered, StandInOrder}
 use Rattle.oracle_core.specs.Oracles.{IsDifference}
 use Rattle.account_core.specs.Vectors.{first_value, second_value, signed, value_at, AreSent}
@@ -29,7 +29,7 @@ use Rattle.account_core.specs.Given.{Given}
 use Rattle.account_core.specs.Steps.{IsValidBan}
 use Rattle.account_core.proofs.SentOnly.{sent_only}
 use Rattle.port_sides.specs.Held.{IsOf, IsWhole}
-use Rattle.vector_bans.specs.Differences.{of_bit, pair_from, pairs_from, IsShown}
+use Rattle.vector_bans.specs.Differences.{pair_from, pairs_from, IsShown}
 use Rattle.port_covers.proofs.ListLemmas.{contained_of_any}
 use Rattle.claim_rows.proofs.MismatchLemmas.{pair_of-one}
 use Rattle.vector_bans.proofs.ShownLemmas.{input_output}

@@ -12,11 +12,12 @@ use Rattle.account_core.specs.Ports.{AreOrdered, StandInOrder}
 use Rattle.word_sim.specs.declared.tri.Tri.{Tri}
 use Rattle.port_sides.specs.Held.{AreHeld, IsPart}
 use Rattle.claim_rows.specs.Rows.{HasOneOutput}
-use Rattle.vector_bans.specs.Differences.{of_bit, AreHeldInputs, IsShown, IsWrong}
+use Rattle.vector_bans.specs.Differences.{AreHeldInputs, IsShown, IsWrong}
 use Rattle.vector_bans.proofs.DefiniteLemmas.{of_bit_definite, of_output}
 use Rattle.port_covers.proofs.BookLemmas.{part_known}
 use Rattle.vector_bans.proofs.ResortLemmas.{first_there}
 use Rattle.vector_bans.proofs.ShownLemmas.{input_output}
+use Rattle.word_sim.specs.ThreeValues.{of_bit}
 
 -- held pairs of inputs, and one of an output that a vector shows to be wrong
 pub shown_held : (graphs : Graphs) (held pairs : List Pair) (pair : Pair) (x : List Bool) (values : List Tri) → AreHeld graphs held → IsGraph graphs.first → IsPart held pairs → Contains held pair → HasOneOutput pairs pair → length x ≡ graphs.first.inputs → values ≡ map of_bit x → IsWrong graphs pairs pair values → IsShown graphs pairs pair values pairs

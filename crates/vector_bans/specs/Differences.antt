@@ -1,5 +1,5 @@
 -- Vectors on which an output differs from its partner, as values of a ban (three values: Eichelberger, IBM J. Res. Dev. 1965).
-use Rattle.std.specs.Prelude.{◌≡◌, ◌≢◌, ◌<◌, ℕ, Bool, true, false, List, length, map, remove, All, Contains, slice_index_or}
+use Rattle.std.specs.Prelude.{◌≡◌, ◌≢◌, ◌<◌, ℕ, Bool, List, length, map, remove, All, Contains, slice_index_or}
 use Rattle.std.specs.List.{range_with_len}
 use Rattle.circuits.specs.Bijections.{place_of, sign_of}
 use Rattle.circuits.specs.declared.port.Pair.{Pair}
@@ -7,17 +7,12 @@ use Rattle.circuits.specs.declared.port.PortKind.{PortKind}
 use Rattle.circuits.specs.declared.port.PortKind.TheVariants.{Input}
 use Rattle.net_core.specs.Sides.{Graphs}
 use Rattle.word_sim.specs.declared.tri.Tri.{Tri}
-use Rattle.word_sim.specs.declared.tri.Tri.TheVariants.{Zero, One, X}
+use Rattle.word_sim.specs.declared.tri.Tri.TheVariants.{X}
 use Rattle.account_core.specs.Ports.{AreOrdered, IsKnown}
 use Rattle.account_core.specs.Vectors.{first_value, second_value, signed}
 use Rattle.port_sides.specs.Held.{IsPart}
 use Rattle.claim_rows.specs.Rows.{HasOneOutput}
 use Rattle.vector_bans.specs.declared.difference.Shown.{Shown}
-
--- a bit as a value
-abbrev pub of_bit : Bool → Tri
-of_bit true = One
-of_bit false = Zero
 
 -- the pair of a port whose entries are these
 abbrev pub pair_from : PortKind → List (ℕ × Bool) → ℕ → Pair

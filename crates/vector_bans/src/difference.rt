@@ -10,8 +10,8 @@ ghost use Rattle.oracle_core.specs.Oracles.{IsDifference};
 ghost use Rattle.account_core.specs.Ports.{AreOrdered, IsKnown};
 ghost use Rattle.account_core.specs.Vectors.{signed, value_at, values_sent};
 ghost use Rattle.ban_book.specs.Covering.{Covers};
-ghost use Rattle.word_sim.specs.ThreeValues.{tri_outputs};
-ghost use Rattle.vector_bans.specs.Differences.{of_bit, pair_from, pairs_from, AreShown, IsLeftOut, IsShown, IsWrong, MayTry};
+ghost use Rattle.word_sim.specs.ThreeValues.{tri_outputs, of_bit};
+ghost use Rattle.vector_bans.specs.Differences.{pair_from, pairs_from, AreShown, IsLeftOut, IsShown, IsWrong, MayTry};
 ghost use Rattle.port_sides.specs.Held.{IsWhole};
 ghost use Rattle.fact_bans.specs.Serving.{HoldsBans, MayHold};
 

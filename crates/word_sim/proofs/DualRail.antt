@@ -9,8 +9,8 @@ use Rattle.word_sim.specs.declared.rails.Rails.{Rails}
 use Rattle.word_sim.specs.declared.tri.Tri.{Tri}
 use Rattle.word_sim.specs.declared.tri.Tri.TheVariants.{Zero, One, X}
 use Rattle.word_sim.specs.Columns.{word_bit, word_of}
-use Rattle.word_sim.specs.Rails.{Rail, rail_and, rail_at, rail_not, rail_of, rail_values, rails, rails_at, signed_rail, signed_rails, value_of}
-use Rattle.word_sim.specs.ThreeValues.{tri_and, tri_not, tris}
+use Rattle.word_sim.specs.Rails.{Rail, rail_and, rail_at, rail_not, rail_of, rail_values, rails, rails_at, signed_rail, signed_rails}
+use Rattle.word_sim.specs.ThreeValues.{tri_and, tri_not, tris, of_bit}
 use Rattle.word_sim.proofs.Lanes.{and-bit, or-bit, zero-bit}
 
 rail_of-not : (value : Tri) → rail_of (tri_not value) ≡ rail_not (rail_of value)
@@ -41,7 +41,7 @@ tri-rails = record { absent = refl; signed = λ value negated. rail_of-signed ne
 abbrev pub make : Bool → Bool → Rail
 make a b = record { one = a; zero = b }
 
-pub known-rail : (b z : Bool) → z ≡ differ b true → make b z ≡ rail_of (value_of b)
+pub known-rail : (b z : Bool) → z ≡ differ b true → make b z ≡ rail_of (of_bit b)
 known-rail true z is = ap (make true) is
 known-rail false z is = ap (make false) is
 

@@ -17,11 +17,6 @@ rail_of Zero = record { one = false; zero = true }
 rail_of One = record { one = true; zero = false }
 rail_of X = record { one = false; zero = false }
 
--- the value that is a bit
-abbrev pub value_of : Bool → Tri
-value_of true = One
-value_of false = Zero
-
 -- a signal's two bits on the vector at bit v of word w, and those of each signal
 abbrev pub rail_at : ℕ → ℕ → Rails → Rail
 rail_at w v rails = record { one = word_bit v (word_of w rails.ones); zero = word_bit v (word_of w rails.zeros) }

@@ -8,6 +8,11 @@ use Rattle.net_core.specs.Values.{Operations, with_values}
 use Rattle.word_sim.specs.declared.tri.Tri.{Tri}
 use Rattle.word_sim.specs.declared.tri.Tri.TheVariants.{Zero, One, X}
 
+-- the value that is a bit
+abbrev pub of_bit : Bool → Tri
+of_bit true = One
+of_bit false = Zero
+
 -- NOT exchanges 0 and 1, and keeps X
 abbrev pub tri_not : Tri → Tri
 tri_not Zero = One

@@ -5,8 +5,8 @@ ghost use Rattle.net_core.specs.Values.{each_lane};
 ghost use Rattle.word_sim.specs.declared.tri.Tri.{Tri as AnyTri};
 ghost use Rattle.word_sim.specs.declared.tri.Tri.TheVariants.{X};
 ghost use Rattle.word_sim.specs.Columns.{word_bit, word_of};
-ghost use Rattle.word_sim.specs.Rails.{rail_at, rail_of, rails_at, value_of};
-ghost use Rattle.word_sim.specs.ThreeValues.{tri_outputs};
+ghost use Rattle.word_sim.specs.Rails.{rail_at, rail_of, rails_at};
+ghost use Rattle.word_sim.specs.ThreeValues.{of_bit, tri_outputs};
 
 use crate::blocks::signed_lanes;
 use net_core::{Graph, SignalValue, eval_outputs};
@@ -36,7 +36,7 @@ impl Rails {
 
     /// The bits of a block.
     pub fn known(block: u64x8) -> Rails
-        ensures { (w v : ℕ) → w < 8 → v < 64 → rail_at w v result ≡ rail_of (value_of (word_bit v (word_of w block))) }
+        ensures { (w v : ℕ) → w < 8 → v < 64 → rail_at w v result ≡ rail_of (of_bit (word_bit v (word_of w block))) }
     {
         Rails {
             ones: block,

@@ -1,8 +1,7 @@
 use Rattle.std.proofs.Common.{◌↔◌, ◌++◌, List, drop}
 use Rattle.std.specs.List.{AllZip}
 use Rattle.circuits.specs.declared.port.Pair.{Pair}
-use Rattle.account_core.specs.Covers.{IsReference}
-use Rattle.ban_check.specs.Counted.{row}
+use Rattle.account_core.specs.Covers.{IsReference, row}
 use Rattle.ban_check.proofs.covers.after_row.Given as goal
 
 abbrev pub invariant-loop-other : goal.invariant-loop-other

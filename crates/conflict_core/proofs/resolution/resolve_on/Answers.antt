@@ -7,11 +7,11 @@ use Rattle.class_refine.specs.declared.entry.Fate.TheVariants.{Held}
 use Rattle.class_refine.specs.declared.entry.Cause.TheVariants.{LastWay}
 use Rattle.class_refine.specs.Trails.{held_in}
 use Rattle.conflict_core.specs.Named.{IsLeftOutOr, IsNamedIn}
-use Rattle.conflict_core.proofs.ConflictLemmas.{covers_over}
 use Rattle.conflict_core.proofs.JustifiedLemmas.{ways_before}
 use Rattle.conflict_core.proofs.PivotLemmas.{held_first, held_known}
 use Rattle.conflict_core.proofs.ResolveLemmas.{part_without}
 use Rattle.conflict_core.proofs.resolution.resolve_on.Goals as goal
+use Rattle.ban_book.proofs.BookLemmas.{covers_wider}
 
 pub cover_port-requires-clause-held : goal.cover_port-requires-clause-held
 cover_port-requires-clause-held c =
@@ -36,4 +36,4 @@ cover_port-requires-clause-part c = record {
 
 pub cover_port-requires-clause-resolved : goal.cover_port-requires-clause-resolved
 cover_port-requires-clause-resolved c =
-    covers_over c.args.book.now c.args.conflict.pairs.items (c.held_at-way.result ∷ c.without-pairs.result.items) c.args.conflict.ban c.without-pairs.ensures.others c.requires.conflict.covers
+    covers_wider c.args.book.now c.args.conflict.pairs.items (c.held_at-way.result ∷ c.without-pairs.result.items) c.args.conflict.ban c.without-pairs.ensures.others c.requires.conflict.covers

@@ -4,8 +4,9 @@ use Rattle.circuits.specs.declared.port.PortKind.TheVariants.{Output}
 use Rattle.account_core.specs.Ports.{IsKnown}
 use Rattle.fact_bans.specs.Referred.{AreReferred}
 use Rattle.fact_bans.proofs.HoldingLemmas.{held_more, held_one, held_same, holds_err, holds_ok, holds_stop}
-use Rattle.fact_bans.proofs.ReferLemmas.{closed_of, empty_of, nothing_known, nothing_ordered, ways_known, ways_of_outputs}
+use Rattle.fact_bans.proofs.ReferLemmas.{closed_of, nothing_known, nothing_ordered, ways_known, ways_of_outputs}
 use Rattle.fact_bans.proofs.refusal.refuse_by.Goals as goal
+use Rattle.ban_book.proofs.BookLemmas.{empty_ban}
 
 pub returns-in_err-from-clause-holds : goal.returns-in_err-from-clause-holds
 returns-in_err-from-clause-holds g c =
@@ -68,4 +69,4 @@ returns-clause-holds g c =
     holds_ok _ _ _ _ _ _ _ _ _ refl (held_more _ _ _ _ _ _ _ _ (held_one _ _ _ _ _ _ _ _ c.in_ok-refs.ensures.holds) c.in_ok-number.ensures.more)
 
 pub returns-clause-empty : goal.returns-clause-empty
-returns-clause-empty g c = empty_of c.hold_cover.new.book c.in_ok-number.number c.in_ok-number.ensures.covers
+returns-clause-empty g c = empty_ban c.hold_cover.new.book c.in_ok-number.number c.in_ok-number.ensures.covers

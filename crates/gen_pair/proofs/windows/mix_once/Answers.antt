@@ -1,9 +1,10 @@
 use Rattle.std.proofs.Common.{◌+◌, ◌%◌, List, length, slice_set, ap, ◌∙◌}
 use Rattle.circuits.specs.declared.netlist.Lit.{Lit}
 use Rattle.circuits.specs.declared.netlist.Gate.{Gate}
-use Rattle.gen_pair.specs.Mixing.{mixing, at, with_multiplexer}
+use Rattle.gen_pair.specs.Mixing.{mixing, with_multiplexer}
 use Rattle.gen_pair.proofs.Drawn.{Draws, mixed_by}
 use Rattle.gen_pair.proofs.windows.mix_once.Goals as goal
+use Rattle.circuits.specs.Expansion.{stand_in}
 
 pub returns-clause-made : goal.returns-clause-made
 returns-clause-made c =
@@ -25,6 +26,6 @@ returns-clause-made c =
       third_is = c.draw-2.ensures.drawn;
       sign_is = c.draw_bit.ensures;
     } in
-    let made = c.in_ok-mixed.ensures.made ∙ ap (λ l. with_multiplexer (at window select) (at window place) l gates) c.signed-high.ensures in
+    let made = c.in_ok-mixed.ensures.made ∙ ap (λ l. with_multiplexer (stand_in window select) (stand_in window place) l gates) c.signed-high.ensures in
     ap (λ (p : List Gate × Lit). mixing (slice_set window place p.1) p.0 c.draw_bit.new.random) made
     ∙ mixed_by window gates c.args.random.now draws

@@ -1,6 +1,6 @@
 use Rattle.conflict_core.proofs.GroundedLemmas.{learns_none, stay_none}
-use Rattle.pair_search.proofs.StepLemmas.{empty_ban}
 use Rattle.pair_search.proofs.back.turn_back.Goals as goal
+use Rattle.ban_book.proofs.BookLemmas.{empty_ban}
 
 pub returns-in-Refusal-clause-refusal : goal.returns-in-Refusal-clause-refusal
 returns-in-Refusal-clause-refusal c = empty_ban c.learn.new.book c.in-Refusal.ban (rw c.in-Refusal.is at c.in_ok-ban.ensures.learned)

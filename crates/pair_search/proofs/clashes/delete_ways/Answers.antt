@@ -1,5 +1,6 @@
 use Rattle.std.proofs.Common.{◌∙◌, sym, arith}
-use Rattle.pair_search.proofs.StepLemmas.{port_there, ports_after, propagates_none, propagates_two, stays_held}
+use Rattle.class_refine.proofs.TableLemmas.{in_range}
+use Rattle.pair_search.proofs.StepLemmas.{ports_after, propagates_none, propagates_two, stays_held}
 use Rattle.pair_search.proofs.clashes.delete_ways.Goals as goal
 
 pub loop-number-init : goal.loop-number-init
@@ -8,7 +9,7 @@ loop-number-init c = propagates_none c.args.bans.now c.args.domains.now c.requir
 pub way_of-way-requires-clause-there : goal.way_of-way-requires-clause-there
 way_of-way-requires-clause-there c =
     let d = c.args.domains.now in
-    omega (arith, port_there d.inputs d.outputs c.args.side c.args.pair c.requires.known, c.port_on.ensures, ports_after c.args.bans.now d c.loop-number.domains c.args.pair.kind c.loop-number.invariant)
+    omega (arith, in_range d.inputs d.outputs c.args.pair c.requires.known c.args.side, c.port_on.ensures, ports_after c.args.bans.now d c.loop-number.domains c.args.pair.kind c.loop-number.invariant)
 
 pub way_of-way-requires-clause-below : goal.way_of-way-requires-clause-below
 way_of-way-requires-clause-below c =

@@ -1,8 +1,8 @@
 use Rattle.std.proofs.Common.{◌++◌, ap, sym, ◌∙◌, append-nil}
 use Rattle.std.proofs.lemmas.List.{take_all}
-use Rattle.port_covers.specs.Ways.{row}
 use Rattle.port_covers.proofs.BlockLemmas.{row_more}
 use Rattle.port_covers.proofs.block.add_row.Goals as goal
+use Rattle.account_core.specs.Covers.{row}
 
 pub loop-port-init : goal.loop-port-init
 loop-port-init c = sym (append-nil c.args.list.now.items)

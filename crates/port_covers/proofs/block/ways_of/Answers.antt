@@ -1,8 +1,7 @@
 use Rattle.std.proofs.Common.{ap, ◌∙◌}
 use Rattle.std.proofs.lemmas.List.{take_all}
-use Rattle.account_core.specs.Covers.{ways}
+use Rattle.account_core.specs.Covers.{ways, row}
 use Rattle.ban_book.proofs.ListLemmas.{flat_taken}
-use Rattle.port_covers.specs.Ways.{row}
 use Rattle.port_covers.proofs.block.ways_of.Goals as goal
 
 pub loop-port-preserved : goal.loop-port-preserved

@@ -1,7 +1,7 @@
 use Rattle.std.proofs.Common.{◌++◌, ◌∷◌, [], ◌+◌, ◌∙◌, ap, map, drop, false, arith}
-use Rattle.vector_bans.specs.Differences.{of_bit}
 use Rattle.port_covers.proofs.ListLemmas.{made_more}
 use Rattle.vector_bans.proofs.difference.definite.Goals as goal
+use Rattle.word_sim.specs.ThreeValues.{of_bit}
 
 pub loop-place-preserved : goal.loop-place-preserved
 loop-place-preserved c =

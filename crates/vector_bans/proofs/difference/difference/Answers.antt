@@ -3,10 +3,11 @@ use Rattle.std.specs.Prelude.{Contains}
 use Rattle.circuits.specs.declared.port.PortKind.TheVariants.{Input, Output}
 use Rattle.account_core.specs.Ports.{IsKnown}
 use Rattle.port_covers.proofs.ListLemmas.{among_more}
-use Rattle.vector_bans.specs.Differences.{of_bit, pair_from, pairs_from}
+use Rattle.vector_bans.specs.Differences.{pair_from, pairs_from}
 use Rattle.vector_bans.proofs.DifferLemmas.{pair_known, shown_whole, shown_as, among_held}
 use Rattle.vector_bans.proofs.ShownLemmas.{shown_made}
 use Rattle.vector_bans.proofs.difference.difference.Goals as goal
+use Rattle.word_sim.specs.ThreeValues.{of_bit}
 
 pub leave_out-requires-clause-known : goal.leave_out-requires-clause-known
 leave_out-requires-clause-known c =

@@ -2,8 +2,8 @@ use Rattle.std.proofs.Common.{ℕ}
 use Rattle.std.proofs.lemmas.Result.{IfOk-weaker}
 use Rattle.ban_book.specs.Covering.{Covers}
 use Rattle.fact_bans.proofs.HoldingLemmas.{held_same, holds_stop}
-use Rattle.fact_bans.proofs.WiderLemmas.{covers_wider}
 use Rattle.vector_bans.proofs.difference.exclude.Goals as goal
+use Rattle.ban_book.proofs.BookLemmas.{covers_wider}
 
 pub returns-in_err-shown-clause-holds : goal.returns-in_err-shown-clause-holds
 returns-in_err-shown-clause-holds g c =

@@ -1,8 +1,8 @@
 use Rattle.std.proofs.Common.{refl}
 use Rattle.fact_bans.proofs.HoldingLemmas.{held_one, held_same, holds_err, holds_ok, holds_stop}
-use Rattle.fact_bans.proofs.WiderLemmas.{covers_wider}
 use Rattle.vector_bans.proofs.ShownLemmas.{shown_itself}
 use Rattle.vector_bans.proofs.foresight.foresee.Goals as goal
+use Rattle.ban_book.proofs.BookLemmas.{covers_wider}
 
 pub returns-in_err-shown-clause-holds : goal.returns-in_err-shown-clause-holds
 returns-in_err-shown-clause-holds g c =

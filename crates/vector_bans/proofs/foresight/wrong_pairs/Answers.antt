@@ -4,10 +4,10 @@ use Rattle.circuits.specs.declared.port.Pair.{Pair}
 use Rattle.std.proofs.lemmas.List.{length-map}
 use Rattle.circuits.specs.Netlists.{Net}
 use Rattle.account_core.specs.Vectors.{value_at}
-use Rattle.word_sim.specs.ThreeValues.{tri_outputs}
+use Rattle.word_sim.specs.ThreeValues.{tri_outputs, of_bit}
 use Rattle.account_core.specs.Ports.{AreOrdered, IsKnown}
 use Rattle.word_sim.specs.declared.tri.Tri.{Tri}
-use Rattle.vector_bans.specs.Differences.{IsWrong, of_bit}
+use Rattle.vector_bans.specs.Differences.{IsWrong}
 use Rattle.port_covers.proofs.BookLemmas.{part_known}
 use Rattle.vector_bans.proofs.ForesightLemmas.{shown_held}
 use Rattle.vector_bans.proofs.ResortLemmas.{second_there}

@@ -16,4 +16,4 @@ returns-clause-told g c =
     let fact = c.index-facts-number.result in
     let lawful = subst (λ graphs. AreFacts graphs known.facts) (c.claim.ensures.serves.grows.graphs ∙ c.requires.may.graphs_are) c.facts.ensures.lawful in
     let same = c.index-facts-number.is ∙ ap (λ facts. get_or facts c.in_ok-number.number fact) c.facts.ensures.value in
-    subst (λ answer. Decides answer (Holds graphs claim)) (sym c.is_for.ensures) (told graphs known.facts claim c.in_ok-number.number fact c.requires.may.first c.requires.may.second lawful c.in_ok-number.ensures.number same)
+    subst (λ answer. Decides answer (Holds graphs claim)) (sym c.holds.ensures) (told graphs known.facts claim c.in_ok-number.number fact c.requires.may.first c.requires.may.second lawful c.in_ok-number.ensures.number same)
