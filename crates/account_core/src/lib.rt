@@ -9,5 +9,5 @@ pub mod step_laws;
 
 pub use conclusion::Conclusion;
 pub use fact::{Evidence, Fact, FactHead};
-pub use ports::{have_as_many, ports_in, way};
+pub use ports::{have_as_many, other_side, port_on, ports_in, way};
 pub use step::{Ban, Step, Tallied};

@@ -4,7 +4,7 @@ use crate::patterns::Patterns;
 use crate::state::State;
 use flip_sim::{FlipSim, Lanes, ones_in};
 use net_core::Side;
-use port_cells::{Cells, literal_of, mix_lanes, port_at};
+use port_cells::{Cells, cell_at, literal_of, mix_lanes, port_at};
 use std::alloc::{AllocError, Global};
 use word_sim::mix;
 
@@ -101,13 +101,6 @@ pub(crate) fn own_class(inputs: &[usize], input: u32) -> u64 {
     let plain = cell_at(inputs, literal_of(input, false));
     let inverted = cell_at(inputs, literal_of(input, true));
     plain.min(inverted)
-}
-
-fn cell_at(cells: &[usize], literal: usize) -> u64 {
-    match cells.get(literal) {
-        Some(cell) => *cell as u64,
-        None => 0,
-    }
 }
 
 fn put_key(literal: usize, key: u64, keys: &mut [u64]) {

@@ -13,6 +13,7 @@ ghost use Rattle.conflict_core.specs.Justified.{IsTrail};
 ghost use Rattle.conflict_core.specs.declared.learned.LearnedBan.TheVariants as learned;
 ghost use Rattle.conflict_core.specs.Pivots.{IsPivot};
 
+use account_core::port_on;
 use crate::conflict::{Conflict, cover_port};
 use crate::learned::{Back, LearnedBan};
 use crate::mismatch::Mismatches;
@@ -21,7 +22,7 @@ use ban_book::BanBook;
 use circuits::Pair;
 use class_refine::{Cause, Domains, Entry, Fate};
 use net_core::Side;
-use port_sides::{PairableGraphs, port_on};
+use port_sides::PairableGraphs;
 use std::alloc::{AllocError, Global};
 
 // What is done about the latest pair of a conflict.

@@ -2,10 +2,9 @@
 
 use crate::sampling::Flips;
 use crate::seen::Seen;
-use account_core::Tallied;
+use account_core::{Tallied, other_side, port_on};
 use circuits::Pair;
 use net_core::Side;
-use port_sides::{other_side, port_on};
 use std::alloc::{AllocError, Global};
 
 /// Which claims a tally asks: of one output, that of a side, one claim of each of some inputs, which should hold, or fail;

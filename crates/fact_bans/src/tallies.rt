@@ -11,6 +11,7 @@ ghost use Rattle.oracle_core.specs.Oracles.{Serves, Suits};
 ghost use Rattle.claim_rows.specs.Listed.{AreLists};
 ghost use Rattle.fact_bans.specs.Serving.{HoldsBans, MayHold};
 
+use account_core::{other_side, port_on};
 use crate::lists::{Wanted, list};
 use crate::plan::Plan;
 use crate::seen::Seen;
@@ -20,7 +21,7 @@ use claim_rows::{Lists, tally_ban};
 use cnf_core::Stop;
 use net_core::Side;
 use oracle_core::Oracle;
-use port_sides::{PairableGraphs, other_side, port_on};
+use port_sides::PairableGraphs;
 use query_core::Ledger;
 use std::alloc::Global;
 

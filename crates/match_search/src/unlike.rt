@@ -9,7 +9,7 @@ ghost use Rattle.conflict_core.specs.Grounded.{IsGrounded};
 ghost use Rattle.oracle_core.specs.Oracles.{Serves, Suits};
 ghost use Rattle.match_search.specs.States.{Deletes, MayDelete};
 
-use account_core::Ban;
+use account_core::{Ban, port_on};
 use circuits::{Pair, PortKind};
 use class_refine::{Domains, Reason};
 use cnf_core::Stop;
@@ -17,7 +17,7 @@ use fact_bans::{Seen, Unlike, tell_apart};
 use net_core::Side;
 use oracle_core::Oracle;
 use pair_search::is_open;
-use port_sides::{PairableGraphs, port_on};
+use port_sides::PairableGraphs;
 use query_core::Ledger;
 use std::alloc::{AllocError, Global};
 

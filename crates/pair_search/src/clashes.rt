@@ -7,12 +7,11 @@ ghost use Rattle.conflict_core.specs.Justified.{IsJustifiedTrail};
 ghost use Rattle.pair_search.specs.Progress.{Propagates};
 
 use crate::ports::way_of;
-use account_core::Ban;
+use account_core::{Ban, port_on};
 use circuits::Pair;
 use class_refine::{Domains, Reason};
 use conflict_core::Port;
 use net_core::Side;
-use port_sides::port_on;
 use std::alloc::AllocError;
 
 /// Deletes the open ways of the port that a held pair has of a circuit: each of them clashes with it.

@@ -11,12 +11,11 @@ use crate::impasse::Impasse;
 use crate::ports::apply_port;
 use crate::queue::Queue;
 use crate::units::{apply, is_held, is_known};
-use account_core::Ban;
+use account_core::{Ban, port_on};
 use circuits::Pair;
 use class_refine::{Domains, Entry, Fate};
 use conflict_core::Port;
 use net_core::Side;
-use port_sides::port_on;
 use std::alloc::{AllocError, Global};
 
 /// Where it doesn't go on, if that was found.

@@ -9,6 +9,6 @@ mod profiles;
 
 pub use cells::{Cells, literal_of, port_at};
 pub use counts::{Counts, Influence, Tally};
-pub use links::{input_keys, output_keys};
+pub use links::{cell_at, input_keys, output_keys};
 pub use mixing::mix_lanes;
 pub use profiles::{Profile, Slack, input_profiles, near_keys, output_profiles};

@@ -66,7 +66,8 @@ fn part_of(influence: Influence, negated: bool, cells: &[usize]) -> u64 {
     one.wrapping_add(other)
 }
 
-fn cell_at(cells: &[usize], literal: usize) -> u64 {
+/// The cell of a literal, 0 where there is none.
+pub fn cell_at(cells: &[usize], literal: usize) -> u64 {
     match cells.get(literal) {
         Some(cell) => *cell as u64,
         None => 0,

@@ -6,11 +6,10 @@ ghost use Rattle.account_core.specs.Covers.{ways, row};
 ghost use Rattle.account_core.specs.Tallies.{Ascend};
 ghost use Rattle.port_covers.specs.Ways.{block_of, ports_tried, ways_in};
 
-use account_core::way;
+use account_core::{other_side, way};
 use circuits::{Pair, PortKind};
 use items::Items;
 use net_core::Side;
-use port_sides::other_side;
 use std::alloc::{AllocError, Global};
 
 /// Ports of the first circuit, and ports of the second, of one kind. Where they are more than either circuit has, one of

@@ -1,8 +1,6 @@
-//! Two circuits whose ports can be paired, a pair's port of either side, and what pairs are that are held together.
+//! Two circuits whose ports can be paired, and what pairs are that are held together.
 #![tactic(auto)]
 
 mod pairable;
-mod side;
 
 pub use pairable::PairableGraphs;
-pub use side::{other_side, port_on};

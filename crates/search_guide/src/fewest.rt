@@ -3,6 +3,7 @@
 ghost use Rattle.std.specs.Prelude.{◌<◌};
 ghost use Rattle.class_refine.specs.Trails.{ports_of};
 
+use account_core::port_on;
 use crate::reads::Reads;
 use crate::weights::Weights;
 use circuits::{Pair, PortKind};
@@ -10,7 +11,6 @@ use class_refine::Domains;
 use conflict_core::Port;
 use items::Items;
 use net_core::Side;
-use port_sides::port_on;
 use std::alloc::{AllocError, Global};
 
 // A port, how many ways it has left, and its weight.

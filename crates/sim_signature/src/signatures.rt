@@ -9,7 +9,7 @@ ghost use Rattle.sim_signature.specs.Signatures.{AreOf, Covers, HasAllVectors, I
 
 use crate::change::{Change, ends_of, is_inverted};
 use crate::columns::columns;
-use crate::lanes::{bit_at, first_vector, picked};
+use crate::lanes::{bit_at, picked};
 use crate::vectors::{near_vectors, vectors};
 use bit_list::Bits;
 use claim_core::Shape;
@@ -19,6 +19,7 @@ use rand_pcg::Pcg32;
 use std::alloc::{AllocError, Global};
 use std::marker::Model;
 use std::simd::prelude::*;
+use word_sim::first_bit;
 
 /// What some outputs of a circuit are on 512 vectors, and on these with each input inverted in turn: their signatures, by
 /// which claims about them are seen broken.
@@ -272,7 +273,7 @@ fn vector_in(
     ensures one { IfOk result (λ found. IfSome found (IsOneOf inputs.now lanes change)) }
     ensures some { IfOk result (λ found. (w v : ℕ) → w < 8 → v < 64 → block_bit w v lanes ≡ true → IsSome found) }
 {
-    match first_vector(lanes) {
+    match first_bit(lanes) {
         None => Ok(None),
         Some((word, lane)) => Ok(Some(vector_at(alloc, inputs, word, lane, change)?)),
     }

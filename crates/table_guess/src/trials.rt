@@ -1,6 +1,6 @@
 //! Vectors that pairs are tried on, before anything is asked.
 
-ghost use Rattle.std.specs.Prelude.{◌≡◌, ◌+◌, ◌<◌, ◌≤◌, ◌%◌, All, Contains, IfOk, IfSome, OnOk, length};
+ghost use Rattle.std.specs.Prelude.{◌≡◌, ◌+◌, ◌<◌, ◌≤◌, ◌%◌, All, IfOk, IfSome, OnOk, length};
 ghost use Rattle.circuits.specs.declared.port.PortKind.TheVariants.{Input, Output};
 ghost use Rattle.account_core.specs.Ports.{IsKnown};
 ghost use Rattle.table_guess.specs.Trials.{AreComputed, AreTrials, IsSuspect, IsVectorOf};
@@ -13,7 +13,7 @@ use net_core::Graph;
 use port_sides::PairableGraphs;
 use std::alloc::{AllocError, Global};
 use std::simd::prelude::*;
-use word_sim::{Rails, Words, and_lanes, rails_eval, simulate};
+use word_sim::{Rails, Words, and_lanes, first_bit, rails_eval, simulate};
 
 /// How many words are evaluated at once.
 const BLOCK: usize = 8;
@@ -179,29 +179,6 @@ fn wrong_vector(
 // The vectors on which a signal is known and hasn't these bits.
 fn unlike(signal: Rails, bits: u64x8) -> u64x8 {
     and_lanes(signal.zeros, false, bits, false) | and_lanes(signal.ones, false, bits, true)
-}
-
-// The first word with a bit that is 1, and its lowest one.
-fn first_bit(block: u64x8) -> Option<(usize, u32)>
-    ensures word { IfSome result (λ place. place.0 < 8) }
-    ensures lane { IfSome result (λ place. place.1 < 64) }
-{
-    for word in 0..BLOCK {
-        if let Some(lane) = first_lane(block[word]) {
-            return Some((word, lane));
-        }
-    }
-    None
-}
-
-// The lowest bit that is 1.
-fn first_lane(word: u64) -> Option<u32>
-    ensures { IfSome result (λ lane. lane < 64) }
-{
-    if word == 0 {
-        return None;
-    }
-    Some(word.trailing_zeros())
 }
 
 // Gives the inputs that are paired what their partners have on the vectors of eight words.

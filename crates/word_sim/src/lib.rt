@@ -11,7 +11,7 @@ mod three_values;
 mod tri;
 mod words;
 
-pub use blocks::{and_lanes, literal_block, signed_lanes};
+pub use blocks::{and_lanes, first_bit, literal_block, signed_lanes, word_at};
 pub use digits::alternating;
 pub use mixing::mix;
 pub use rails::{Rails, rails_eval};

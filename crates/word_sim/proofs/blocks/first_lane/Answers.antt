@@ -1,7 +1,7 @@
 -- The lowest bit that is 1 is the number of zeros below it.
 use Rattle.std.proofs.Common.{◌<◌, ap, eqb, arith, w64}
 use Rattle.std.proofs.lemmas.Nat.Bits.{bit_at-trailing_zeros}
-use Rattle.sim_signature.proofs.lanes.first_lane.Goals as goal
+use Rattle.word_sim.proofs.blocks.first_lane.Goals as goal
 
 pub returns : goal.returns
 returns c =
