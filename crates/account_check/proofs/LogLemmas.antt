@@ -5,7 +5,7 @@ use Rattle.std.proofs.lemmas.Bool.{cases_lt}
 use Rattle.std.proofs.lemmas.List.{map-append}
 use Rattle.std.proofs.lemmas.List.Folds.{list_any-append}
 use Rattle.circuits.specs.Matches.{HavePorts, IsMatchOfFunctions}
-use Rattle.circuits.proofs.Expansions.{or_false}
+use Rattle.std.proofs.Math.Bool.{or-false}
 use Rattle.cnf_core.specs.declared.literal.SatLit.{SatLit}
 use Rattle.cnf_core.specs.declared.log.LogLine.{LogLine}
 use Rattle.cnf_core.specs.Derivations.{is_empty, line_fault}
@@ -47,7 +47,7 @@ refuted_by graphs query taken so_far closed = record {
 -- whether the empty line is among the lines with one more
 pub empty_more : (taken : List (List SatLit)) (clause : List SatLit) → list_any is_empty taken ≡ false → list_any is_empty (taken ++ clause ∷ []) ≡ is_empty clause
 empty_more taken clause so_far =
-    list_any-append is_empty taken (clause ∷ []) ∙ (ap (λ x. x || list_any is_empty (clause ∷ [])) so_far ∙ or_false (is_empty clause))
+    list_any-append is_empty taken (clause ∷ []) ∙ (ap (λ x. x || list_any is_empty (clause ∷ [])) so_far ∙ or-false (is_empty clause))
 
 -- one more log refutes its query
 pub refuted_more : (graphs : Graphs) (matching : Matching) (c : ℕ) → AreRefuted graphs matching c → IsRefuted graphs (log_query graphs matching c) → AreRefuted graphs matching (c + 1)

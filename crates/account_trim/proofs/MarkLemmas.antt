@@ -9,7 +9,7 @@ use Rattle.std.proofs.lemmas.List.Elements.{All-append, All-cons, All-nil, Conta
 use Rattle.circuits.specs.Literals.{bit}
 use Rattle.account_trim.specs.Marks.{Adds}
 use Rattle.account_trim.specs.Names.{AreAmong, AreMarked}
-use Rattle.account_trim.proofs.NumberLemmas.{All-back, All-front}
+use Rattle.circuits.proofs.Lists.{All-front, All-back}
 
 one_contained : (n : ℕ) → Contains (n ∷ []) n
 one_contained n = (0, omega arith, refl)

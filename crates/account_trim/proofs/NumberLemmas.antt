@@ -4,13 +4,14 @@ use Rattle.std.specs.Prelude.{option_to_list}
 use Rattle.std.specs.List.{flat_map, range_with_len}
 use Rattle.std.specs.Option.{option_map}
 use Rattle.std.proofs.lemmas.List.FromFn.{get_or-map-range_with_len, map-range_with_len_more}
-use Rattle.std.proofs.lemmas.List.Elements.{All-cons, All-head, All-nil, All-tail}
+use Rattle.std.proofs.lemmas.List.Elements.{All-head, All-tail}
 use Rattle.account_core.specs.declared.step.Ban.{Ban}
 use Rattle.account_core.specs.declared.step.Step.{Step}
 use Rattle.account_core.specs.declared.step.Step.TheVariants.{Vector, Mismatch, Tally, Cover}
 use Rattle.account_trim.specs.Names.{bans_named, facts_named}
 use Rattle.account_trim.specs.Numbered.{at, numbered, numbered_ban}
 use Rattle.account_trim.specs.Trims.{new_numbers, number_of, renumbered, renumbered_ban}
+use Rattle.circuits.proofs.Lists.{All-front, All-back}
 
 -- one number more
 pub new_more : (marks : List Bool) (i : ℕ) (numbers more : List ℕ) (next : ℕ) → next ≡ number_of marks i → numbers ≡ map (number_of marks) (range_with_len 0 i) → more ≡ numbers ++ next ∷ [] → more ≡ map (number_of marks) (range_with_len 0 (i + 1))
@@ -28,15 +29,6 @@ map_at_new marks [] each = refl
 map_at_new marks (k ∷ places) each =
     ap (λ n. n ∷ map (at (new_numbers marks)) places) (at_new marks k (All-head (λ k. k < length marks) k places each))
     ∙ ap (λ ns. number_of marks k ∷ ns) (map_at_new marks places (All-tail (λ k. k < length marks) k places each))
-
--- the parts of what holds of both
-pub All-front : {X : Type 0} (P : X → Type 0) (xs ys : List X) → All P (xs ++ ys) → All P xs
-All-front {X} P [] ys each = All-nil P
-All-front {X} P (x ∷ xs) ys each = All-cons P x xs (All-head P x (xs ++ ys) each) (All-front P xs ys (All-tail P x (xs ++ ys) each))
-
-pub All-back : {X : Type 0} (P : X → Type 0) (xs ys : List X) → All P (xs ++ ys) → All P ys
-All-back {X} P [] ys each = each
-All-back {X} P (x ∷ xs) ys each = All-back P xs ys (All-tail P x (xs ++ ys) each)
 
 referred_new : (marks : List Bool) (reference : Option ℕ) → All (λ k. k < length marks) (option_to_list reference) → option_map (at (new_numbers marks)) reference ≡ option_map (number_of marks) reference
 referred_new marks None each = refl

@@ -24,7 +24,7 @@ use Rattle.account_trim.specs.declared.trimming.Core.{Core}
 use Rattle.account_trim.specs.Names.{HasMarked, ReferBack, bans_named, facts_named}
 use Rattle.account_trim.specs.Trims.{IsTrimmed, kept, number_of, renumbered, renumbered_ban}
 use Rattle.account_trim.proofs.KeptLemmas.{All-kept, AllPairs-kept, kept_at, kept_below, kept_is, kept_take, number_of-take, place_of, IsPlace}
-use Rattle.account_trim.proofs.NumberLemmas.{All-back, All-front}
+use Rattle.circuits.proofs.Lists.{All-front, All-back}
 
 -- what was given under a number is given under the new one
 abbrev pub CarriesFact : Given → Given → List Bool → ℕ → Type 0

@@ -3,6 +3,7 @@ use Rattle.std.proofs.Common.{◌≡◌, ℕ, zero, suc, ◌+◌, ◌<◌, ◌�
 use Rattle.std.proofs.lemmas.Bool.{cases_lt}
 use Rattle.std.proofs.lemmas.Bool.Decides.{eqb_tells}
 use Rattle.std.proofs.lemmas.List.Elements.{All-nil, All-cons, All-head, All-tail}
+use Rattle.circuits.proofs.Lists.{cons_cases}
 
 -- it holds, or it doesn't
 abbrev pub Told : Type 0 → Type 0
@@ -51,10 +52,6 @@ told_list (x ∷ xs) [] = inr (λ e. cc)
 told_list (x ∷ xs) (y ∷ ys) =
     told_by (λ both. cc (both.0, both.1)) (λ e. (cc, cc)) (told_both (told_same x y) (told_list xs ys))
 
-contains_cases : (x v : ℕ) (vs : List ℕ) → Contains (x ∷ vs) v → (x ≡ v) ⊎ Contains vs v
-contains_cases x v vs (zero, below, is) = inl is
-contains_cases x v vs (suc k, below, is) = inr (k, omega (arith, below), is)
-
 pub told_contains : (vs : List ℕ) (v : ℕ) → Told (Contains vs v)
 told_contains [] v = inr (λ c. omega (arith, c.1))
 told_contains (x ∷ vs) v =
@@ -62,7 +59,7 @@ told_contains (x ∷ vs) v =
       | inl e ↦ inl (zero, omega arith, e)
       | inr apart ↦ elim (told_contains vs v) [
         | inl c ↦ inl (suc c.0, omega (arith, c.1), c.2)
-        | inr none ↦ inr (λ c. elim (contains_cases x v vs c) [ inl e ↦ apart e | inr more ↦ none more ])
+        | inr none ↦ inr (λ c. elim (cons_cases vs x v c) [ inl e ↦ apart e | inr more ↦ none more ])
       ]
     ]
 

@@ -3,7 +3,7 @@ use Rattle.std.proofs.Common.{◌≡◌, ℕ, ◌+◌, ◌<◌, ◌≤◌, Bool,
 use Rattle.std.specs.List.{list_any}
 use Rattle.std.proofs.lemmas.Bool.{both_ways}
 use Rattle.std.proofs.lemmas.List.Folds.{list_any_at}
-use Rattle.std.proofs.lemmas.List.{get_or-map, get_or-append-add, length-append, length-map, map-append}
+use Rattle.std.proofs.lemmas.List.{get_or-map, length-map, map-append}
 use Rattle.std.proofs.lemmas.List.Elements.{Contains-append_left}
 use Rattle.std.proofs.lemmas.List.FromFn.{length-map-range_with_len, map-range_with_len_more}
 use Rattle.circuits.specs.Literals.{bit}
@@ -28,8 +28,8 @@ use Rattle.learn_solver.specs.Solvers.{IsExtended, Solving, wanted}
 use Rattle.learn_solver.specs.Solvers.{IsStopped as IsSolverStopped}
 use Rattle.dense_solver.specs.Renamings.{AreShort}
 use Rattle.dense_solver.specs.Solved.{start_of, with_lines_of}
-use Rattle.dense_solver.proofs.FullLemmas.{front_all}
 use Rattle.ask_core.specs.Answers.{IsAskedIn, IsAskedWith, IsStopped, IsStoppedAfter, IsStoppedWith}
+use Rattle.circuits.proofs.Lists.{All-front, All-back}
 
 pub vector_more : (n : ℕ) (values : List Bool) → vector_in (n + 1) values ≡ vector_in n values ++ bit values (1 + n) ∷ []
 vector_more n values = map-range_with_len_more (λ i. bit values (1 + i)) 0 n n (omega arith)
@@ -42,11 +42,6 @@ wanted-each : (P : List SatLit → Type 0) (formula : Formula) (ids : List ℕ) 
 wanted-each P formula ids id all (k, within, is) =
     let here : k < length (wanted formula ids) = omega (arith, within, length-map ids (clause_at formula.clauses)) in
     subst (λ j. P (clause_at formula.clauses j)) is (subst P (get_or-map (clause_at formula.clauses) ids k id [] within) (all k [] here))
-
--- what holds of all holds of those after some
-after-all : (P : List SatLit → Type 0) (xs ys : List (List SatLit)) → All P (xs ++ ys) → All P ys
-after-all P xs ys all k d within =
-    subst P (get_or-append-add xs ys k d) (all (length xs + k) d (omega (arith, within, length-append xs ys)))
 
 -- A solver for the clauses of a query's cones, with lemmas.
 pub record IsOfCones (graphs : Graphs) (query : Query) (lemmas : List LogLine) (s : Solving) : Type 0 where
@@ -76,8 +71,8 @@ asked_with graphs query lemmas s new old first after of there opened_is extended
       let P : List SatLit → Type 0 = λ c. has_all (slice_index_or new.lines k d).clause c ≡ false in
       record {
         derived = ap (λ f. line_fault f (clauses_of (take k new.lines)) (slice_index_or new.lines k d)) (sym of.formula) ∙ added.derived;
-        fresh = all-cones P graphs query lemmas s of (front_all P (wanted s.formula s.ids) (clauses_of (take k new.lines)) added.fresh);
-        unlike_earlier = after-all P (wanted s.formula s.ids) (clauses_of (take k new.lines)) added.fresh;
+        fresh = all-cones P graphs query lemmas s of (All-front P (wanted s.formula s.ids) (clauses_of (take k new.lines)) added.fresh);
+        unlike_earlier = All-back P (wanted s.formula s.ids) (clauses_of (take k new.lines)) added.fresh;
       };
   budget = extended.budget ∙ ap (λ (l : Ledgered). l.budget) opened_is;
   asked = asked_after first after new.lines (is_opened first there) (extended.opened ∙ is_opened first there) extended.lines_are extended.others ∙ ap (λ (l : Ledgered). with_lines new.lines l.asked) opened_is;

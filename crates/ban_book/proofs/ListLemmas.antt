@@ -1,12 +1,12 @@
 -- Lists that grow at their end.
-use Rattle.std.proofs.Common.{◌≡◌, ℕ, ◌+◌, ◌<◌, List, [], ◌∷◌, ◌++◌, length, take, get_or, All, sym, ap, ◌∙◌, subst, append_assoc, append-nil, arith}
+use Rattle.std.proofs.Common.{◌≡◌, ℕ, ◌+◌, ◌<◌, List, [], ◌∷◌, ◌++◌, length, take, get_or, All, sym, ap, ◌∙◌, subst, append_assoc, arith}
 use Rattle.std.specs.List.{AllZip, flat_map}
 use Rattle.std.proofs.lemmas.List.{take_more}
 use Rattle.std.proofs.lemmas.List.Elements.{All-push}
 use Rattle.std.proofs.lemmas.List.Quantifiers.{all_pairs_push}
-use Rattle.std.proofs.lemmas.Grind.{flat_map-append}
 use Rattle.std.proofs.lemmas.Slice.Zip.{AllZip-long}
 use Rattle.account_core.specs.Tallies.{Ascend}
+use Rattle.circuits.proofs.Lists.{flat_push}
 
 pub zip_append : {A B : Type 0} (R : A → B → Type 0) (xs : List A) (ys : List B) (vs : List A) (ws : List B) → AllZip R xs ys → AllZip R vs ws → AllZip R (xs ++ vs) (ys ++ ws)
 zip_append R [] [] vs ws one other = other
@@ -16,9 +16,6 @@ zip_append R (x ∷ xs) (y ∷ ys) vs ws one other = (one.0, zip_append R xs ys 
 
 pub zip_length : {A B : Type 0} (R : A → B → Type 0) (xs : List A) (ys : List B) → AllZip R xs ys → length xs ≡ length ys
 zip_length R xs ys are = sym (AllZip-long R xs ys are)
-
-pub flat_push : {A B : Type 0} (f : A → List B) (xs : List A) (x : A) → flat_map f (xs ++ x ∷ []) ≡ flat_map f xs ++ f x
-flat_push f xs x = flat_map-append f xs (x ∷ []) ∙ ap (λ ys. flat_map f xs ++ ys) (append-nil (f x))
 
 -- numbers below one that comes after them ascend
 pub ascend_push : (numbers : List ℕ) (next : ℕ) → Ascend numbers → All (λ number. number < next) numbers → Ascend (numbers ++ next ∷ [])

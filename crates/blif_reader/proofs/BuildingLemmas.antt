@@ -10,7 +10,7 @@ use Rattle.text_core.specs.Piece.{Piece}
 use Rattle.circuits.specs.declared.definition.Trit.{Trit}
 use Rattle.circuits.specs.declared.definition.Def.{Def}
 use Rattle.circuits.specs.declared.definition.Def.TheVariants.{Cover}
-use Rattle.circuits.proofs.Expansions.{and_true}
+use Rattle.std.proofs.Math.Bool.{and-true}
 use Rattle.net_file.specs.declared.fault.NetKind.{NetKind}
 use Rattle.net_file.specs.declared.fault.NetKind.TheVariants as fault
 use Rattle.blif_reader.specs.declared.directive.Directive.{Directive}
@@ -132,7 +132,7 @@ covers_take names line left h =
 ended : (names : List ℕ) (rows : List (List Trit)) (on : Bool) (defs : List Def) (lead : List (List Piece)) → lead ≡ [] → Cover names (rows ++ map trits_of lead) (on && are_on lead) ∷ defs ≡ Cover names rows on ∷ defs
 ended names rows on defs lead h =
     ap (λ (l : List (List Piece)). Cover names (rows ++ map trits_of l) (on && are_on l) ∷ defs) h
-    ∙ (ap (λ rs. Cover names rs (on && true) ∷ defs) (append-nil rows) ∙ ap (λ t. Cover names rows t ∷ defs) (and_true on))
+    ∙ (ap (λ rs. Cover names rs (on && true) ∷ defs) (append-nil rows) ∙ ap (λ t. Cover names rows t ∷ defs) (and-true on))
 
 -- a line that is no row closes the cover
 closing : (names : List (List ℕ)) (cover : Option CoverSoFar) (line : List Piece) (left : List (List Piece)) → is_row (directive_of line) ≡ false → continued names cover (line ∷ left) ≡ closed cover ++ covers_of names (line ∷ left)

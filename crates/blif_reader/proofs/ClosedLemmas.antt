@@ -5,7 +5,7 @@ use Rattle.std.specs.List.{position_or_len}
 use Rattle.std.specs.Str.{bytes_eq}
 use Rattle.std.proofs.lemmas.Bool.Decides.{nat_tests}
 use Rattle.std.proofs.lemmas.Slice.Eq.{bytes_eq-Decides}
-use Rattle.std.proofs.lemmas.List.{length-append, length-map, get_or_append_left, get_or-append-add}
+use Rattle.std.proofs.lemmas.List.{length-append, length-map}
 use Rattle.std.proofs.lemmas.List.Elements.{All-nil, All-cons, All-append, All-map, All-weaker}
 use Rattle.text_core.specs.Piece.{Piece}
 use Rattle.circuits.specs.declared.port.PortKind.{PortKind}
@@ -29,6 +29,7 @@ use Rattle.blif_reader.proofs.FirstLemmas.{found-seam}
 use Rattle.blif_reader.proofs.SurveyLemmas.{reversed_push, not_row, row_more, opening_of, not_ended}
 use Rattle.blif_reader.proofs.NumberLemmas.{any_place}
 use Rattle.blif_reader.proofs.BuildingLemmas.{covers_skip, covers_take, no_rows, one_row}
+use Rattle.circuits.proofs.Lists.{All-front, All-back}
 
 -- a name that is known has a signal after the constant
 pub known_signal : (names : List (List ℕ)) (word : Piece) → IsKnownIn names word → signal_named names word < 1 + length names
@@ -38,15 +39,6 @@ known_signal names word k =
   where
     below : (n m : ℕ) → nat_lt n m ≡ true → 1 + n < 1 + m
     below n m h = grind (arith, nat_tests)
-
--- what holds of two lists in a row holds of each
-All-front : {X : Type 0} (P : X → Type 0) (xs ys : List X) → All P (xs ++ ys) → All P xs
-All-front P xs ys all k d h =
-    subst P (get_or_append_left xs ys d k h) (all k d (omega (arith, h, length-append xs ys)))
-
-All-after : {X : Type 0} (P : X → Type 0) (xs ys : List X) → All P (xs ++ ys) → All P ys
-All-after P xs ys all k d h =
-    subst P (get_or-append-add xs ys k d) (all (length xs + k) d (omega (arith, h, length-append xs ys)))
 
 -- what a list of definitions has for each
 abbrev NamesBelow : ℕ → Def → Type 0
@@ -71,7 +63,7 @@ known_by_test false names line left e known rest =
 known_covers : (names : List (List ℕ)) (lines : List (List Piece)) → All (IsKnownIn names) (read_words lines) → All (NamesBelow (1 + length names)) (covers_of names lines)
 known_covers names [] known = All-nil (NamesBelow (1 + length names))
 known_covers names (line ∷ lines) known =
-    known_by_test (is_names (directive_of line)) names line lines refl (All-front (IsKnownIn names) (read_on (directive_of line) line) (read_words lines) known) (known_covers names lines (All-after (IsKnownIn names) (read_on (directive_of line) line) (read_words lines) known))
+    known_by_test (is_names (directive_of line)) names line lines refl (All-front (IsKnownIn names) (read_on (directive_of line) line) (read_words lines) known) (known_covers names lines (All-back (IsKnownIn names) (read_on (directive_of line) line) (read_words lines) known))
 
 -- as many definitions as defined names
 count_by_directive : (names : List (List ℕ)) (line : List Piece) (left : List (List Piece)) (directive : Directive) → directive_of line ≡ directive → length (covers_of names left) ≡ length (defined_words left) → length (covers_of names (line ∷ left)) ≡ length (defined_on directive line ++ defined_words left)
@@ -175,7 +167,7 @@ outputs_by_directive names other line known = All-nil (IsKnownIn names)
 known_outputs : (names : List (List ℕ)) (lines : List (List Piece)) → All (IsKnownIn names) (read_words lines) → All (IsKnownIn names) (outputs_in lines)
 known_outputs names [] known = All-nil (IsKnownIn names)
 known_outputs names (line ∷ lines) known =
-    All-append (IsKnownIn names) (outputs_by (directive_of line) line) (outputs_in lines) (outputs_by_directive names (directive_of line) line (All-front (IsKnownIn names) (read_on (directive_of line) line) (read_words lines) known)) (known_outputs names lines (All-after (IsKnownIn names) (read_on (directive_of line) line) (read_words lines) known))
+    All-append (IsKnownIn names) (outputs_by (directive_of line) line) (outputs_in lines) (outputs_by_directive names (directive_of line) line (All-front (IsKnownIn names) (read_on (directive_of line) line) (read_words lines) known)) (known_outputs names lines (All-back (IsKnownIn names) (read_on (directive_of line) line) (read_words lines) known))
 
 -- the words of output ports are those of the output lines
 filter_same : (kind : PortKind) (words : List Piece) (rest : List Port) → map (λ (p : Port). p.word) (filter (λ (p : Port). is_same_kind p.kind Output) (named_ports kind words ++ rest)) ≡ cond (is_same_kind kind Output) words [] ++ map (λ (p : Port). p.word) (filter (λ (p : Port). is_same_kind p.kind Output) rest)

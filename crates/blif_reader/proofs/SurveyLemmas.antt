@@ -1,9 +1,8 @@
 -- For `survey`: what is known of lines goes on to one line more.
 use Rattle.std.proofs.Common.{◌≡◌, ◌==◌, ℕ, Bool, true, false, not, ◌||◌, cond, List, [], ◌∷◌, ◌++◌, length, get_or, All, Option, Some, None, refl, ap, sym, subst, ◌∙◌, append_assoc, eqb-true}
 use Rattle.std.specs.Prelude.{reverse, is_some}
-use Rattle.std.specs.List.{list_any, flat_map}
-use Rattle.std.proofs.lemmas.List.{reverse-append, append-nil}
-use Rattle.std.proofs.lemmas.Grind.{flat_map-append}
+use Rattle.std.specs.List.{list_any}
+use Rattle.std.proofs.lemmas.List.{reverse-append}
 use Rattle.std.proofs.lemmas.List.Folds.{list_any-append}
 use Rattle.std.proofs.Math.Bool.{or_self}
 use Rattle.std.proofs.Math.Seq.{get_or-append_seam}
@@ -24,13 +23,14 @@ use Rattle.blif_reader.specs.Surveys.{is_mixed, fault_by_cover, fault_known, fau
 pub use Rattle.blif_reader.specs.Rows.{rows_of, opening_of}
 use Rattle.blif_reader.proofs.BuildingLemmas.{no_rows, one_row}
 use Rattle.blif_reader.proofs.FirstLemmas.{found-seam, NoneIs-push, IsFirst-seam}
-use Rattle.circuits.proofs.Expansions.{or_false}
+use Rattle.std.proofs.Math.Bool.{or-false}
 use borrow.Author.Tests.{not-false}
+use Rattle.circuits.proofs.Lists.{flat_push}
 
 differs-all : (byte other : ℕ) (row : List Piece) (rows : List (List Piece)) → All (λ r. output_byte r ≡ other) (row ∷ rows) → list_any (differs_from byte) (row ∷ rows) ≡ not (other == byte)
 differs-all byte other row [] all =
     let head = All-head (λ r. output_byte r ≡ other) row [] all in
-    ap (λ n. not (n == byte) || false) head ∙ or_false (not (other == byte))
+    ap (λ n. not (n == byte) || false) head ∙ or-false (not (other == byte))
 differs-all byte other row (next ∷ rows) all =
     let head = All-head (λ r. output_byte r ≡ other) row (next ∷ rows) all in
     let tail = differs-all byte other next rows (All-tail (λ r. output_byte r ≡ other) row (next ∷ rows) all) in
@@ -130,12 +130,9 @@ row_known : (survey : Survey) (line : List Piece) (directive : Directive) → fa
 row_known survey line directive h r =
     not_ended survey.ended fault.Directive (fault_by_cover survey.cover line) (ap (fault_of survey line) (sym r) ∙ h)
 
-flat_map-push : {X A : Type 0} (f : X → List A) (xs : List X) (x : X) → flat_map f (xs ++ x ∷ []) ≡ flat_map f xs ++ f x
-flat_map-push f xs x = flat_map-append f xs (x ∷ []) ∙ ap (λ ys. flat_map f xs ++ ys) (append-nil (f x))
-
 has_line-push : (is_it : Directive → Bool) (earlier : List (List Piece)) (line : List Piece) → has_line is_it (earlier ++ line ∷ []) ≡ (has_line is_it earlier || is_it (directive_of line))
 has_line-push is_it earlier line =
-    list_any-append (λ l. is_it (directive_of l)) earlier (line ∷ []) ∙ ap (λ t. has_line is_it earlier || t) (or_false (is_it (directive_of line)))
+    list_any-append (λ l. is_it (directive_of l)) earlier (line ∷ []) ∙ ap (λ t. has_line is_it earlier || t) (or-false (is_it (directive_of line)))
 
 -- one line more is known
 pub surveyed_more : (earlier : List (List Piece)) (line : List Piece) (old new : Survey) → IsSurveyed earlier old → Advances (directive_of line) line old new → IsSurveyed (earlier ++ line ∷ []) new
@@ -143,8 +140,8 @@ surveyed_more earlier line old new s a =
     let directive = directive_of line in
     record {
       sound = NoneIs-push is_faulty earlier line s.sound (ap is_some (sym (fault_same earlier line old s) ∙ a.no_fault));
-      ports = a.ports ∙ (ap (λ ps. ps ++ ports_on directive line) s.ports ∙ sym (flat_map-push (λ l. ports_on (directive_of l) l) earlier line));
-      defined = a.defined ∙ (ap (λ ps. ps ++ defined_on directive line) s.defined ∙ sym (flat_map-push (λ l. defined_on (directive_of l) l) earlier line));
+      ports = a.ports ∙ (ap (λ ps. ps ++ ports_on directive line) s.ports ∙ sym (flat_push (λ l. ports_on (directive_of l) l) earlier line));
+      defined = a.defined ∙ (ap (λ ps. ps ++ defined_on directive line) s.defined ∙ sym (flat_push (λ l. defined_on (directive_of l) l) earlier line));
       model = a.model ∙ (ap (λ t. t || is_model directive) s.model ∙ sym (has_line-push is_model earlier line));
       inputs = a.inputs ∙ (ap (λ t. t || is_inputs directive) s.inputs ∙ sym (has_line-push is_inputs earlier line));
       outputs = a.outputs ∙ (ap (λ t. t || is_outputs directive) s.outputs ∙ sym (has_line-push is_outputs earlier line));

@@ -5,6 +5,7 @@ use Rattle.std.proofs.lemmas.Bool.Decides.{eqb_tells}
 use Rattle.std.proofs.lemmas.List.{length_push, get_or_append_left, get_or_push}
 use Rattle.std.proofs.lemmas.List.Elements.{All-nil, All-cons, All-map, All-tail}
 use Rattle.std.specs.List.{list_all, list_any}
+use Rattle.std.proofs.Math.Bool.{and-true, or-false, or_assoc}
 use Rattle.circuits.specs.declared.netlist.Lit.{Lit}
 use Rattle.circuits.specs.declared.netlist.Gate.{Gate}
 use Rattle.circuits.specs.declared.definition.Trit.{Trit}
@@ -33,17 +34,16 @@ differ_not true false = refl
 differ_not false true = refl
 differ_not false false = refl
 
-pub and_true : (a : Bool) → (a && true) ≡ a
-and_true true = refl
-and_true false = refl
-
-pub or_false : (a : Bool) → (a || false) ≡ a
-or_false true = refl
-or_false false = refl
-
-pub or_assoc : (a b c : Bool) → (a || b || c) ≡ (a || (b || c))
-or_assoc true b c = refl
-or_assoc false b c = refl
+-- a sign that comes twice
+pub differ_both : (a b s : Bool) → differ (differ a s) (differ b s) ≡ differ a b
+differ_both true true true = refl
+differ_both true true false = refl
+differ_both true false true = refl
+differ_both true false false = refl
+differ_both false true true = refl
+differ_both false true false = refl
+differ_both false false true = refl
+differ_both false false false = refl
 
 pub not_and_not : (a b : Bool) → not (not a && not b) ≡ (a || b)
 not_and_not true b = refl
@@ -159,7 +159,7 @@ IsMade-and x g p l b c is h bit_l = record {
 }
 
 pub IsMade-each : (x : List Bool) (g : List Gate) (p : Made) (ls : List Lit) (b : Bool) → IsMade x g p b → All (IsRead x g) ls → IsMade x g (and_each (1 + length x) p ls) (b && list_all (literal_bit (bits x g)) ls)
-IsMade-each x g p [] b is all = subst (IsMade x g p) (sym (and_true b)) is
+IsMade-each x g p [] b is all = subst (IsMade x g p) (sym (and-true b)) is
 IsMade-each x g p (l ∷ ls) b is all =
     let read = all 0 l (omega arith) in
     let more = IsMade-and x g p l b (literal_bit (bits x g) l) is (omega (arith, read, is.longer)) (kept_bit x g p b l is read) in
@@ -227,7 +227,7 @@ map-agree f h (x ∷ xs) same =
     ap₂ (λ a b. a ∷ b) (same 0 x (omega arith)) (map-agree f h xs (All-tail (λ x. f x ≡ h x) x xs same))
 
 pub IsMade-or_each : (x : List Bool) (g : List Gate) (names : List Lit) (s : Made) (rows : List (List Trit)) (b : Bool) → IsMade x g s b → All (IsRead x g) names → IsMade x g (or_each (1 + length x) names s rows) (b || list_any (row_fits (bits_of x g names)) rows)
-IsMade-or_each x g names s [] b is all = subst (IsMade x g s) (sym (or_false b)) is
+IsMade-or_each x g names s [] b is all = subst (IsMade x g s) (sym (or-false b)) is
 IsMade-or_each x g names s (row ∷ rows) b is all =
     let fits = row_fits (bits_of x g names) row in
     let next = or_with (1 + length x) s.value (row_made (1 + length x) names s.gates row) in

@@ -12,3 +12,4 @@ pub mod Looped
 pub mod AsCircuit
 pub mod MatchLaws
 pub mod EachLemmas
+pub mod Lists

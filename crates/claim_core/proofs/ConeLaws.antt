@@ -8,7 +8,7 @@ use Rattle.circuits.specs.declared.netlist.Gate.{Gate}
 use Rattle.circuits.specs.Literals.{bit, differ, signal_of, is_negated as inverts, literal_bit as signal_bit}
 use Rattle.circuits.specs.Netlists.{Net, IsOrdered, signals_of, valuation_of, function_of}
 use Rattle.circuits.proofs.Valuations.{valuation_of-fits}
-use Rattle.circuits.proofs.Expansions.{or_false}
+use Rattle.std.proofs.Math.Bool.{or-false}
 use Rattle.cnf_core.specs.declared.literal.SatLit.{SatLit}
 use Rattle.cnf_core.specs.Clauses.{Meets, clause_at, is_met, literal_bit}
 use Rattle.net_core.specs.Sides.{Graphs}
@@ -119,7 +119,7 @@ cone_vector_there graphs query a first second fits meets =
     let last = 1 + 3 * (left_gates graphs query + right_gates graphs query) in
     let left_count : length lefts ≡ 3 * left_gates graphs query = gate_clause_count ls (left.inputs + 1) left.gates in
     let right_count : length rights ≡ 3 * right_gates graphs query = gate_clause_count rs (right.inputs + 1) right.gates in
-    let start : bit a 0 ≡ true = is_itself (bit a 0) ∙ (sym (literal_of_bit a 0 true) ∙ (sym (or_false (literal_bit a (record { 0 = 0 }))) ∙ meets 0 (inl refl))) in
+    let start : bit a 0 ≡ true = is_itself (bit a 0) ∙ (sym (literal_of_bit a 0 true) ∙ (sym (or-false (literal_bit a (record { 0 = 0 }))) ∙ meets 0 (inl refl))) in
     let left_half : IsHalfMet a n left query.left.feed (left_variables graphs query) query.left.output = record {
       first = start;
       ordered = ordered_side graphs query.left.side first second;

@@ -11,7 +11,7 @@ use Rattle.circuits.specs.Bijections.{IsSignedBijection, Moves, moved, place_of,
 use Rattle.circuits.specs.Matches.{IsMatchOfFunctions}
 use Rattle.circuits.specs.declared.port.PortKind.TheVariants.{Input, Output}
 use Rattle.circuits.specs.declared.port.Pair.{Pair}
-use Rattle.circuits.proofs.Expansions.{differ_false, differ_true}
+use Rattle.circuits.proofs.Expansions.{differ_false, differ_true, differ_both}
 use Rattle.circuits.proofs.Places.{length-moved, moved-moves, moved-only}
 use Rattle.net_core.specs.Sides.{Graphs}
 use Rattle.net_core.specs.declared.graphs.Side.{Side}
@@ -111,17 +111,6 @@ record IsMovedShape (p : List (ℕ × Bool)) (exchanged : Bool) (n : ℕ) (shape
   moves : (opposite : Bool) (x : List Bool) → length x ≡ n → set_to (differ opposite exchanged) image (moved p x) ≡ moved p (set_to opposite shape x)
   placed : IsPlaced n image
 
--- a sign that comes twice, and two in either order
-both_signed : (b c s : Bool) → differ (differ b s) (differ c s) ≡ differ b c
-both_signed true true true = refl
-both_signed true true false = refl
-both_signed true false true = refl
-both_signed true false false = refl
-both_signed false true true = refl
-both_signed false true false = refl
-both_signed false false true = refl
-both_signed false false false = refl
-
 in_order : (b s t : Bool) → differ (differ b s) t ≡ differ (differ b t) s
 in_order true true true = refl
 in_order true true false = refl
@@ -135,7 +124,7 @@ in_order false false false = refl
 -- an input is set before the move, or its place after it
 put : (p : List (ℕ × Bool)) (exchanged opposite : Bool) (i : ℕ) (a : Bool) (pair : Pair) (x : List Bool) → IsSignedBijection (length x) p → IsEntry p i pair → with_input pair.to (differ (moved_value exchanged pair a) (differ opposite exchanged)) (moved p x) ≡ moved p (with_input i (differ a opposite) x)
 put p exchanged opposite i a pair x bijection entry =
-    let value = both_signed (differ a pair.flip) opposite exchanged ∙ (in_order a pair.flip opposite ∙ ap (differ (differ a opposite)) (sym entry.sign)) in
+    let value = differ_both (differ a pair.flip) opposite exchanged ∙ (in_order a pair.flip opposite ∙ ap (differ (differ a opposite)) (sym entry.sign)) in
     ap (λ b. with_input pair.to b (moved p x)) value
     ∙ (ap (λ place. with_input place (differ (differ a opposite) (sign_of p i)) (moved p x)) (sym entry.place) ∙ sym (moved-set p x i (differ a opposite) bijection entry.there))
 

@@ -1,5 +1,5 @@
 -- What is kept, with one entry more and one less.
-use Rattle.std.proofs.Common.{◌≡◌, ◌≢◌, ℕ, ◌+◌, ◌-◌, ◌*◌, ◌^◌, ◌<◌, ◌≤◌, ◌&&◌, not, true, false, take, drop, List, [], ◌∷◌, ◌++◌, length, get_or, set, All, AllPairs, Contains, Option, Some, None, refl, sym, ap, subst, ◌∙◌, inl, inr, arith}
+use Rattle.std.proofs.Common.{◌≡◌, ◌≢◌, ℕ, ◌+◌, ◌-◌, ◌*◌, ◌^◌, ◌<◌, ◌≤◌, ◌&&◌, not, true, false, take, List, [], ◌∷◌, ◌++◌, length, get_or, set, All, AllPairs, Contains, Option, Some, None, refl, sym, ap, subst, ◌∙◌, inl, inr, arith}
 use Rattle.std.proofs.lemmas.Bool.{cases_Bool, cases_eq, false≢true}
 use Rattle.std.proofs.lemmas.List.{get_or_append_left, get_or_at, get_or-set_other, get_or-set_same, length-set, length_push, take_at, take-take}
 use Rattle.std.proofs.lemmas.List.Elements.{All-push, Contains-append_left, Contains-push, Contains-push_cases}
@@ -279,10 +279,6 @@ kept_undeleted n m es e ws ps hs gs are is = record {
   holders_are = holders_by n m (es ++ e ∷ []) es hs (held_same es e is) are.holders_are;
   gone_are = counts_fewer n m es e gs (All-last (λ (x : Entry). IsPairOf n m x.pair) es e are.entries_are.known) is are.gone_are;
 }
-
--- a table that was lent to be written to, once it is given back
-pub given_back : {X : Type 0} (size : ℕ) (old lent now : List X) → lent ≡ old → length now ≡ length lent → length old ≡ size → take size (now ++ drop (length now) old) ≡ now
-given_back size old lent now value same full = take_at now (drop (length now) old) size (same ∙ (ap length value ∙ full))
 
 -- a count fits
 pub few_gone : (n m : ℕ) (es : List Entry) (gs : List ℕ) (side : Side) (kind : PortKind) (port : ℕ) → AreCounts n m es gs → length es < 2 ^ 63 → port < ports_of n m kind → get_or gs (port_number n m side kind port) 0 < 2 ^ 63

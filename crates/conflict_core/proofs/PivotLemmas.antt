@@ -4,7 +4,7 @@ use Rattle.std.proofs.lemmas.Bool.{cases_lt, false≢true}
 use Rattle.std.proofs.lemmas.List.{get_or_default, get_or-take, length-take-le, take_more}
 use Rattle.std.proofs.lemmas.List.Elements.{All-contains, All-weaker, Contains-push_cases}
 use Rattle.circuits.specs.declared.port.Pair.{Pair}
-use Rattle.port_covers.proofs.ListLemmas.{cons_more, contains_cons}
+use Rattle.port_covers.proofs.ListLemmas.{cons_more}
 use Rattle.net_core.specs.Sides.{Graphs}
 use Rattle.account_core.specs.Ports.{IsKnown}
 use Rattle.port_sides.specs.Held.{AreApart, AreHeld}
@@ -26,6 +26,7 @@ use Rattle.conflict_core.proofs.ConflictLemmas.{known_of}
 use Rattle.conflict_core.proofs.JustifiedLemmas.{held_before, held_front_of}
 use Rattle.conflict_core.proofs.ResolveLemmas.{up_to_last}
 use Rattle.ban_book.proofs.BookLemmas.{covers_wider}
+use Rattle.circuits.proofs.Lists.{contains_cons}
 
 -- An entry by which a pair is held.
 pub record IsSource (es : List Entry) (p : Pair) (e : Entry) : Type 0 where

@@ -7,7 +7,7 @@ use Rattle.std.proofs.lemmas.List.Edits.{length-remove, get_or-remove_below, get
 use Rattle.std.proofs.lemmas.List.Elements.{All-append, All-contains_itself, All-drop, All-take}
 use Rattle.circuits.specs.declared.port.Pair.{Pair}
 use Rattle.account_core.specs.Ports.{AreOrdered, StandInOrder}
-use Rattle.port_covers.proofs.ListLemmas.{contains_cons}
+use Rattle.circuits.proofs.Lists.{contains_cons}
 
 -- what is left was there
 pub rest_among : (pairs : List Pair) (place : ℕ) → All (Contains pairs) (remove pairs place)

@@ -1,13 +1,12 @@
 -- Clauses that are collected, their variables that are listed, and the places of these.
-use Rattle.std.proofs.Common.{◌≡◌, ◌≢◌, if◌then◌else◌, ℕ, ◌+◌, ◌-◌, ◌<◌, ◌≤◌, ◌^◌, eqb, ne_eqb, Bool, true, false, List, [], ◌∷◌, ◌++◌, length, map, take, replicate, All, Contains, slice_index_or, slice_set, inl, inr, refl, sym, ◌∙◌, ap, subst, arith}
-use Rattle.std.specs.List.{IsDistinct, list_any, range_with_len}
+use Rattle.std.proofs.Common.{◌≡◌, ◌≢◌, if◌then◌else◌, ℕ, ◌+◌, ◌-◌, ◌<◌, ◌≤◌, ◌^◌, eqb, Bool, true, false, List, [], ◌∷◌, ◌++◌, length, map, take, replicate, All, Contains, slice_index_or, slice_set, inl, inr, refl, sym, ◌∙◌, ap, subst, arith}
+use Rattle.std.specs.List.{IsDistinct, range_with_len}
 use Rattle.std.specs.List.Sorted.{IsPermutation}
 use Rattle.std.proofs.lemmas.Bool.{cases_eq, cases_lt, eq-eqb, false≢true}
 use Rattle.std.proofs.lemmas.Bool.Decides.{eqb_tells}
 use Rattle.std.proofs.lemmas.Cmp.{nat_eq_equiv}
 use Rattle.std.proofs.lemmas.List.{append_assoc, get_or_append_left, get_or_at, get_or_default, get_or-append_right, get_or-map, get_or-set_same, get_or-set_other, length-append, length-map, length-replicate, length-set, map-append, take_more}
 use Rattle.std.proofs.lemmas.List.FromFn.{fill_by_all, get_or-map-range_with_len, length-map-range_with_len, map-range_with_len_more}
-use Rattle.std.proofs.lemmas.List.Folds.{list_any_none}
 use Rattle.std.proofs.lemmas.List.Elements.{All-map, All-push, Contains-append_left, Contains-push}
 use Rattle.std.proofs.lemmas.List.Sorted.{All-permutation, Contains-permutation}
 use Rattle.std.proofs.lemmas.Map.Keys.{IsDistinct-push, IsDistinct-IsPermutation, apart_from_distinct}
@@ -20,6 +19,7 @@ use Rattle.cnf_core.specs.Derivations.{clauses_of}
 use Rattle.dense_solver.specs.Renamings.{AreListed, AreMarks, AreNames, AreOver, ArePlaces, AreTurned, IsNamed, IsOver, IsRenaming, numbers_of, renamed}
 use Rattle.number_marks.proofs.MarkLemmas.{marked_where}
 use Rattle.learn_solver.proofs.AnalysisLemmas.{unmarked_bit}
+use Rattle.circuits.proofs.Lists.{not_among}
 
 -- the first names have their places
 pub record IsPlacing (variables : ℕ) (names places : List ℕ) (count : ℕ) : Type 0 where
@@ -86,11 +86,6 @@ turned_more names clauses i dense new t clause d is within clause_is filled back
         ap (λ (x : Clause3). map (renamed names) (literals_of x)) (get_or_at dense t [] c k (is.size ∙ sym last)) ∙ (back ∙ (clause_is ∙ (ap literals_of (get_or_default clauses i d e within) ∙ ap (λ j. literals_of (slice_index_or clauses j e)) (sym last))))
   ];
 })
-
--- what isn't marked isn't listed
-not_among : (marked : List Bool) (v : ℕ) (names : List ℕ) → bit marked v ≡ false → All (λ w. bit marked w ≡ true) names → list_any (eqb v) names ≡ false
-not_among marked v names unmarked all =
-    list_any_none (eqb v) names (λ k d within. ne_eqb v (slice_index_or names k d) (λ e. false≢true (sym unmarked ∙ (ap (bit marked) e ∙ all k d within))))
 
 -- one variable more is listed and marked
 pub marks_more : (n : ℕ) (names new : List ℕ) (marked : List Bool) (v : ℕ) → AreMarks n names marked → v < length marked → v < 2 ^ 63 → bit marked v ≡ false → new ≡ names ++ v ∷ [] → AreMarks n new (slice_set marked v true)

@@ -1,7 +1,7 @@
 -- What was learned over names, told in terms of the formula.
 use Rattle.std.proofs.Common.{◌≡◌, ℕ, zero, suc, ◌+◌, ◌-◌, ◌<◌, ◌≤◌, ◌^◌, ◌||◌, not, Bool, true, false, List, [], ◌∷◌, ◌++◌, length, map, take, All, Result, Ok, Err, IfOk, IfErr, slice_index_or, refl, sym, ◌∙◌, ap, subst, arith}
 use Rattle.std.specs.List.{list_any}
-use Rattle.std.proofs.lemmas.List.{append_assoc, get_or_append_left, get_or-append_right, get_or-map, get_or-take, length-append, length-map, length-take-le, map-append, take-map, take-take, take_at}
+use Rattle.std.proofs.lemmas.List.{append_assoc, get_or-append_right, get_or-map, get_or-take, length-append, length-map, length-take-le, map-append, take-map, take-take, take_at}
 use Rattle.std.proofs.lemmas.List.Folds.{list_any-append}
 use Rattle.std.proofs.lemmas.List.Elements.{All-append, All-map, All-tail}
 use Rattle.circuits.specs.Literals.{bit, differ}
@@ -25,6 +25,7 @@ use Rattle.dense_solver.proofs.RenameLemmas.{has_all_renamed, met_renamed}
 use Rattle.cnf_core.proofs.LiteralLemmas.{variable_of-literal}
 use Rattle.dense_solver.proofs.LineLemmas.{clauses_after, empties_renamed, is_negated-literal, line_translated, names_rename}
 use Rattle.std.proofs.Math.Bool.{not-not}
+use Rattle.circuits.proofs.Lists.{All-front}
 
 -- learned lines are over the names
 pub learned_known : (small : Formula) (n : ℕ) (lines : List LogLine) → AreLearned small lines → small.variables ≡ n → All (AreKnown n) (clauses_of lines)
@@ -75,11 +76,6 @@ translating small names numbers full ids lemmas renaming whole short derived = r
   filled = none_empty (clauses_of lemmas) short;
   derived = derived;
 }
-
--- what holds of all holds of those in front
-pub front_all : (P : List SatLit → Type 0) (xs ys : List (List SatLit)) → All P (xs ++ ys) → All P xs
-front_all P xs ys all k d within =
-    subst P (get_or_append_left xs ys d k within) (all k d (omega (arith, within, length-append xs ys)))
 
 module _ (small : Formula) (names numbers : List ℕ) (full : Formula) (ids : List ℕ) (lemmas : List LogLine) (is : IsTranslating small names numbers full ids lemmas) where
   abbrev t : LogLine → LogLine
@@ -154,7 +150,7 @@ module _ (small : Formula) (names numbers : List ℕ) (full : Formula) (ids : Li
       let r = renamed names in
       let all : All (λ c. is_met bits c ≡ true) (map (map r) small.clauses) = All-map (λ c. is_met bits c ≡ true) (map r) small.clauses (λ k d below. met_renamed (length names) r values bits (bit_spread values bits told) (slice_index_or small.clauses k d) (is.renaming.known k d below) ∙ found.1 k d below) in
       let both : All (λ c. is_met bits c ≡ true) (map (clause_at full.clauses) ids ++ clauses_of lemmas) = subst (All (λ c. is_met bits c ≡ true)) (sym is.whole) all in
-      record { variables = told.size; meets = front_all (λ c. is_met bits c ≡ true) (map (clause_at full.clauses) ids) (clauses_of lemmas) both }
+      record { variables = told.size; meets = All-front (λ c. is_met bits c ≡ true) (map (clause_at full.clauses) ids) (clauses_of lemmas) both }
   verdict_of {O} lines before after Refuted (Logged whole) learned first charged found told =
       let extended = charged_extended lines before after learned first charged in
       let ls : after.lines ≡ lemmas ++ map t lines = ap (λ (x : Charging O). x.lines) charged.charged ∙ ap (λ xs. xs ++ map t lines) first in

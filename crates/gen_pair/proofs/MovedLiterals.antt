@@ -9,6 +9,7 @@ use Rattle.circuits.specs.Netlists.{gate_bit}
 use Rattle.circuits.specs.Bijections.{Moves, place_of, sign_of}
 use Rattle.gen_pair.specs.Moved.{input_literal, moved_literal, moved_gate}
 use Rattle.std.proofs.Math.Bool.{and_comm}
+use Rattle.circuits.proofs.Expansions.{differ_both}
 
 pub moved_constant : (p : List (ℕ × Bool)) (lit : Lit) → signal_of lit ≡ 0 → moved_literal p lit ≡ lit
 moved_constant p lit h = rw (eq-eqb (signal_of lit) 0 h) refl
@@ -31,17 +32,6 @@ input_bit : (w : List Bool) (place : ℕ) (negated : Bool) → literal_bit w (in
 input_bit w place negated =
     ap (λ s. differ (bit w s) (is_negated (input_literal place negated))) (input_signal place negated)
     ∙ ap (differ (bit w (place + 1))) (input_negated place negated)
-
--- a sign that is taken twice is none
-twice : (b s n : Bool) → differ (differ b s) (differ n s) ≡ differ b n
-twice true true true = refl
-twice true true false = refl
-twice true false true = refl
-twice true false false = refl
-twice false true true = refl
-twice false true false = refl
-twice false false true = refl
-twice false false false = refl
 
 -- Under these bits each literal has the bit of the one that it becomes.
 pub record AreAlike (p : List (ℕ × Bool)) (v w : List Bool) : Type 0 where
@@ -84,7 +74,7 @@ alike_inputs p x y entries places moves = record {
             ∙ input_bit (false ∷ y) place (differ neg sign)
             ∙ ap (λ s. differ (bit (false ∷ y) s) (differ neg sign)) after
             ∙ ap (λ b. differ b (differ neg sign)) (moves.bits i (omega (arith, some, few)))
-            ∙ twice (bit x i) sign neg
+            ∙ differ_both (bit x i) sign neg
             ∙ sym (ap (λ s. differ (bit (false ∷ x) s) neg) at)
         | inr none ↦
             let constant : signal_of lit ≡ 0 = omega (arith, none) in

@@ -1,5 +1,5 @@
 -- The gates to which a signal leads are those that the search finds.
-use Rattle.std.proofs.Common.{◌≡◌, ◌⊎◌, ◌↔◌, ℕ, zero, suc, ◌+◌, ◌-◌, ◌<◌, ◌≤◌, ◌||◌, eqb, Bool, true, false, List, [], ◌∷◌, ◌++◌, length, set, replicate, All, AllPairs, Contains, slice_index_or, inl, inr, refl, sym, ap, subst, ◌∙◌, arith}
+use Rattle.std.proofs.Common.{◌≡◌, ◌⊎◌, ◌↔◌, ℕ, zero, suc, ◌+◌, ◌-◌, ◌<◌, ◌≤◌, ◌||◌, eqb, Bool, true, false, List, [], ◌∷◌, ◌++◌, length, set, replicate, All, AllPairs, Contains, slice_index_or, inl, inr, sym, ap, subst, ◌∙◌, arith}
 use Rattle.std.specs.List.{IsDistinct, list_any}
 use Rattle.std.specs.List.Sorted.{IsPermutation, IsNonDecreasingBy, IsSorted}
 use Rattle.std.specs.Ordering.{nat_cmp}
@@ -16,6 +16,7 @@ use Rattle.circuits.specs.Literals.{bit, signal_of}
 use Rattle.circuits.specs.Netlists.{Net}
 use Rattle.net_core.specs.Graph.{AreInOrder}
 use Rattle.net_core.specs.Cones.{AreFound, AreReachedFrom, HasOperands, IsFoundBy, IsMarked, IsSearched, Leads, ReachesGate, output_signal}
+use Rattle.circuits.proofs.Lists.{not_among}
 
 -- a marked place is one of the list's
 pub within_bit : (marks : List Bool) (s : ℕ) → bit marks s ≡ true → s < length marks
@@ -49,15 +50,6 @@ none_found count = record {
   marked = λ k d within. absurd (omega (arith, within));
   distinct = tt;
 }
-
--- what isn't marked isn't listed
-not_among : (marks : List Bool) (t : ℕ) (found : List ℕ) → bit marks t ≡ false → All (λ u. bit marks u ≡ true) found → list_any (eqb t) found ≡ false
-not_among marks t [] unmarked all = refl
-not_among marks t (u ∷ found) unmarked all =
-    elim (eqb_tells t u) [
-      | inl (same, e) ↦ absurd (false≢true (sym unmarked ∙ (ap (bit marks) e ∙ All-head (λ v. bit marks v ≡ true) u found all)))
-      | inr (other, apart) ↦ ap (λ b. b || list_any (eqb t) found) other ∙ not_among marks t found unmarked (All-tail (λ v. bit marks v ≡ true) u found all)
-    ]
 
 -- the gate of one signal more
 found_by : (count first s : ℕ) (marks new_marks : List Bool) (found new_found : List ℕ) → s < first + count → IsFoundBy first s marks found new_marks new_found → AreFound count marks found → AreFound count new_marks new_found

@@ -11,8 +11,8 @@ use Rattle.account_core.specs.Ports.{AreOrdered, IsKnown, StandInOrder}
 use Rattle.claim_rows.specs.Rows.{HasOneOutput}
 use Rattle.claim_rows.proofs.MismatchLemmas.{input_before}
 use Rattle.port_sides.specs.Held.{AddsHeld, AreHeld, IsPart}
-use Rattle.port_covers.proofs.ListLemmas.{contains_cons}
 use Rattle.pair_refine.specs.Rows.{AreInputs, AreInputsOf}
+use Rattle.circuits.proofs.Lists.{contains_cons}
 
 pub kinds_differ : Input ≢ Output
 kinds_differ e = cc

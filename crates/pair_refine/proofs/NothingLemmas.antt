@@ -19,9 +19,10 @@ use Rattle.claim_rows.specs.Shown.{IsShownBan}
 use Rattle.claim_rows.proofs.AlikeLemmas.{IsCarried, carried_by, one_back}
 use Rattle.claim_rows.proofs.MismatchLemmas.{one_image, pair_of-one}
 use Rattle.port_sides.specs.Held.{AreHeld}
-use Rattle.port_covers.proofs.ListLemmas.{among_more, cons_cases}
+use Rattle.port_covers.proofs.ListLemmas.{among_more}
 use Rattle.pair_refine.specs.Rows.{AreInputsOf, ShowNothingAt}
 use Rattle.pair_refine.proofs.InputLemmas.{inputs_known, kinds_differ, one_input, ordered_with}
+use Rattle.circuits.proofs.Lists.{cons_cases}
 
 -- A list in order that has an input's pair and an output's, and of which facts show nothing.
 record IsCleared (graphs : Graphs) (facts : List Decided) (input output : Pair) : Type 0 where

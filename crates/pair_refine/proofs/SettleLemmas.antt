@@ -22,7 +22,7 @@ use Rattle.class_refine.proofs.NumberLemmas.{same_pair}
 use Rattle.conflict_core.specs.Named.{deleted}
 use Rattle.port_sides.specs.Held.{AreApart}
 use Rattle.port_covers.specs.Ways.{nth_way}
-use Rattle.port_covers.proofs.ListLemmas.{among_more, cons_cases, contained_of_any}
+use Rattle.port_covers.proofs.ListLemmas.{among_more, contained_of_any}
 use Rattle.port_covers.proofs.OrderLemmas.{held_apart}
 use Rattle.pair_search.proofs.PortLemmas.{held_by}
 use Rattle.pair_refine.specs.declared.grounds.Grounds.{Grounds}
@@ -32,6 +32,7 @@ use Rattle.pair_refine.specs.Settling.{IsClear, IsSettled, Settled, Settles}
 use Rattle.pair_refine.specs.Stable.{HaveNoBan, HaveNoSwapMismatch}
 use Rattle.pair_refine.proofs.SwapLemmas.{no_swap_beside}
 use Rattle.pair_refine.proofs.TrailLemmas.{refines_none, refines_then}
+use Rattle.circuits.proofs.Lists.{cons_cases}
 
 -- whether two pairs are one
 kind_or_not : (a b : PortKind) → (a ≡ b) ⊎ (a ≢ b)

@@ -8,7 +8,6 @@ use Rattle.circuits.specs.declared.port.PortKind.{PortKind}
 use Rattle.net_core.specs.declared.graphs.Side.{Side}
 use Rattle.account_core.specs.Tallies.{port_on}
 use Rattle.port_covers.specs.Ways.{nth_way}
-use Rattle.port_covers.proofs.ListLemmas.{contains_cons}
 use Rattle.class_refine.specs.declared.entry.Entry.{Entry}
 use Rattle.class_refine.specs.declared.entry.Fate.{Fate}
 use Rattle.class_refine.specs.declared.entry.Fate.TheVariants.{Held, Deleted}
@@ -18,6 +17,7 @@ use Rattle.conflict_core.specs.declared.port.Port.{Port}
 use Rattle.conflict_core.specs.Justified.{port_of}
 use Rattle.conflict_core.specs.Named.{EachWay, IsLeftOutOr}
 use Rattle.conflict_core.proofs.PivotLemmas.{held_with}
+use Rattle.circuits.proofs.Lists.{contains_cons}
 
 -- one more way is deleted
 pub gone_more : (es : List Entry) (F : ℕ → Pair) (from at : ℕ) → ((k : ℕ) → from ≤ k → k < at → IsDeleted es (F k)) → IsDeleted es (F at) → (k : ℕ) → from ≤ k → k < at + 1 → IsDeleted es (F k)

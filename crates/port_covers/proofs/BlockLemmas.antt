@@ -7,7 +7,7 @@ use Rattle.account_core.specs.Covers.{way, ways, row}
 use Rattle.ban_book.proofs.ListLemmas.{flat_more}
 use Rattle.port_covers.specs.declared.block.Block.{Block}
 use Rattle.port_covers.specs.Ways.{ways_in}
-use Rattle.port_covers.proofs.ListLemmas.{contains_cons}
+use Rattle.circuits.proofs.Lists.{contains_cons}
 
 -- the ways to one port more
 pub row_more : (kind : PortKind) (from : ℕ) (to : List ℕ) (index d : ℕ) (before now mid after : List Pair) (plain negated : Pair) → index < length to → now ≡ before ++ row kind from (take index to) → plain ≡ way kind from (get_or to index d) false → negated ≡ way kind from (get_or to index d) true → mid ≡ now ++ plain ∷ [] → after ≡ mid ++ negated ∷ [] → after ≡ before ++ row kind from (take (index + 1) to)

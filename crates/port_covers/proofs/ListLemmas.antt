@@ -1,12 +1,12 @@
 -- Lemmas of lists over plain variables.
-use Rattle.std.proofs.Common.{◌≡◌, ◌⊎◌, ℕ, zero, suc, ◌+◌, ◌-◌, ◌<◌, ◌≤◌, List, [], ◌∷◌, ◌++◌, length, map, take, drop, get_or, All, AllPairs, Any, refl, sym, ap, subst, ◌∙◌, inl, inr, arith, ext_get_or}
+use Rattle.std.proofs.Common.{◌≡◌, ◌⊎◌, ℕ, ◌+◌, ◌-◌, ◌<◌, ◌≤◌, List, [], ◌∷◌, ◌++◌, length, map, take, drop, get_or, All, AllPairs, Any, refl, sym, ap, subst, ◌∙◌, inl, inr, arith}
 use Rattle.std.specs.Prelude.{Contains}
-use Rattle.std.specs.List.{insert, range_with_len}
+use Rattle.std.specs.List.{insert}
 use Rattle.std.proofs.lemmas.List.Elements.{Contains-append_left, Contains-append_right, Contains-append_cases, All-contains}
-use Rattle.std.proofs.lemmas.Bool.{cases_lt, cases_order}
-use Rattle.std.proofs.lemmas.List.{get_or_default, get_or_append_left, get_or_push, length_push, drop_more, append_assoc, take-append-drop}
+use Rattle.std.proofs.lemmas.Bool.{cases_order}
+use Rattle.std.proofs.lemmas.List.{get_or_default, drop_more, append_assoc, take-append-drop}
 use Rattle.std.proofs.lemmas.List.Edits.{length-insert, get_or-insert_below, get_or-insert_at, get_or-insert_above}
-use Rattle.std.proofs.lemmas.List.FromFn.{length-range_with_len, get_or-range_with_len}
+use Rattle.circuits.proofs.Lists.{contains_cons, cons_cases}
 
 pub none_of_any : {X : Type 0} (P : X → Type 0) (xs : List X) → All (λ x. P x → ⊥) xs → Any P xs → ⊥
 none_of_any P xs none any = none any.0 any.1 any.2 (subst P (sym any.3) any.4)
@@ -67,13 +67,6 @@ in_front xs i x held = subst (λ l. Contains l x) (take-append-drop i xs) (Conta
 from_rest : {X : Type 0} (xs : List X) (i : ℕ) (x : X) → Contains (drop i xs) x → Contains xs x
 from_rest xs i x held = subst (λ l. Contains l x) (take-append-drop i xs) (Contains-append_right (take i xs) (drop i xs) x held)
 
-pub contains_cons : {X : Type 0} (xs : List X) (y x : X) → Contains xs x → Contains (y ∷ xs) x
-contains_cons xs y x held = (suc held.0, omega (arith, held.1), held.2)
-
-pub cons_cases : {X : Type 0} (xs : List X) (y x : X) → Contains (y ∷ xs) x → (y ≡ x) ⊎ Contains xs x
-cons_cases xs y x (zero, below, is) = inl is
-cons_cases xs y x (suc k, below, is) = inr (k, omega (arith, below), is)
-
 -- what a list contains with one more element at a place
 pub insert_stays : {X : Type 0} (xs : List X) (i : ℕ) (y x : X) → Contains xs x → Contains (insert xs i y) x
 insert_stays xs i y x held =
@@ -91,20 +84,6 @@ insert_cases xs i y x held =
       | inl first ↦ inl (in_front xs i x first)
       | inr last ↦ elim (cons_cases (drop i xs) y x last) [ inl same ↦ inr (sym same) | inr later ↦ inl (from_rest xs i x later) ]
     ]
-
-pub range_more : (n : ℕ) → range_with_len 0 (n + 1) ≡ range_with_len 0 n ++ n ∷ []
-range_more n =
-    ext_get_or 0 (range_with_len 0 (n + 1)) (range_with_len 0 n ++ n ∷ []) (omega (arith, length-range_with_len 0 (n + 1), length_push (range_with_len 0 n) n, length-range_with_len 0 n)) (λ k below.
-    let here : k < n + 1 = omega (arith, below, length-range_with_len 0 (n + 1)) in
-    let e : get_or (range_with_len 0 (n + 1)) k 0 ≡ k = omega (arith, get_or-range_with_len 0 (n + 1) k 0 here) in
-    e ∙ sym (at k (cases_lt k n) here))
-  where
-    at : (k : ℕ) → (k < n) ⊎ (n ≤ k) → k < n + 1 → get_or (range_with_len 0 n ++ n ∷ []) k 0 ≡ k
-    at k (inl less) here =
-        get_or_append_left (range_with_len 0 n) (n ∷ []) 0 k (omega (arith, less, length-range_with_len 0 n)) ∙ omega (arith, get_or-range_with_len 0 n k 0 less)
-    at k (inr past) here =
-        let e : k ≡ n = omega (arith, past, here) in
-        get_or_push (range_with_len 0 n) n 0 k (omega (arith, e, length-range_with_len 0 n)) ∙ sym e
 
 -- what is made so far, continued by what is left, gives the whole
 pub made_more : {X Y : Type 0} (f : X → Y) (xs : List X) (made : List Y) (i : ℕ) (d : X) → i < length xs → made ++ map f (drop i xs) ≡ map f xs → (made ++ f (get_or xs i d) ∷ []) ++ map f (drop (i + 1) xs) ≡ map f xs

@@ -8,6 +8,7 @@ use Rattle.claim_core.specs.declared.query.Query.{Query}
 use Rattle.claim_core.specs.Queries.{circuit_of}
 use Rattle.claim_core.specs.ConeClauses.{AreConeIds, AreReached, IsConeId, IsOfReachedGate, gate_ids, left_gates, right_gates}
 use Rattle.claim_core.proofs.FormulaLemmas.{count_of}
+use Rattle.circuits.proofs.Lists.{cons_cases, contains_cons}
 
 -- numbers from `low` on ascend, and stay below `high`
 abbrev Ascends : ℕ → ℕ → List ℕ → Type 0
@@ -62,13 +63,6 @@ ids_ascend first low high (t ∷ gates) ascends =
 
 contains-head : (x : ℕ) (xs : List ℕ) (y : ℕ) → y ≡ x → Contains (x ∷ xs) y
 contains-head x xs y same = (0, omega arith, sym same)
-
-contains-tail : (x : ℕ) (xs : List ℕ) (y : ℕ) → Contains xs y → Contains (x ∷ xs) y
-contains-tail x xs y has = (suc has.0, omega (arith, has.1), has.2)
-
-contains-cases : (x : ℕ) (xs : List ℕ) (y : ℕ) → Contains (x ∷ xs) y → (y ≡ x) ⊎ Contains xs y
-contains-cases x xs y (zero, within, is) = inl (sym is)
-contains-cases x xs y (suc k, within, is) = inr (k, omega (arith, within), is)
 
 -- the three numbers of the gate at place k stand from place 3k on
 ids_count : (first : ℕ) (gates : List ℕ) → length (gate_ids first gates) ≡ 3 * length gates
@@ -150,8 +144,8 @@ cone_ids_are graphs query left right of_left of_right = record {
 
     to_cone : (id : ℕ) → Contains all id → IsConeId graphs query id
     to_cone id has =
-        elim (contains-cases 0 (lefts ++ (rights ++ outputs)) id has) [
-          | inl e ↦ inl e
+        elim (cons_cases (lefts ++ (rights ++ outputs)) 0 id has) [
+          | inl e ↦ inl (sym e)
           | inr more ↦
               elim (Contains-append_cases lefts (rights ++ outputs) id more) [
                 | inl in_left ↦ inr (inl ((reached_ids (circuit_of graphs query.left) query.left.output 1 left id of_left).0 in_left))
@@ -165,21 +159,21 @@ cone_ids_are graphs query left right of_left of_right = record {
       where
         one_output : (id : ℕ) → Contains outputs id → (id ≡ 1 + 3 * (l + r)) ⊎ (id ≡ 2 + 3 * (l + r))
         one_output id has =
-            elim (contains-cases (1 + 3 * (l + r)) ((2 + 3 * (l + r)) ∷ []) id has) [
-              | inl e ↦ inl e
-              | inr more ↦ elim (contains-cases (2 + 3 * (l + r)) [] id more) [ inl e ↦ inr e | inr none ↦ absurd (omega (arith, none.1)) ]
+            elim (cons_cases ((2 + 3 * (l + r)) ∷ []) (1 + 3 * (l + r)) id has) [
+              | inl e ↦ inl (sym e)
+              | inr more ↦ elim (cons_cases [] (2 + 3 * (l + r)) id more) [ inl e ↦ inr (sym e) | inr none ↦ absurd (omega (arith, none.1)) ]
             ]
 
     from_cone : (id : ℕ) → IsConeId graphs query id → Contains all id
     from_cone id (inl e) = contains-head 0 (lefts ++ (rights ++ outputs)) id e
     from_cone id (inr (inl of)) =
-        contains-tail 0 (lefts ++ (rights ++ outputs)) id (Contains-append_left lefts (rights ++ outputs) id ((reached_ids (circuit_of graphs query.left) query.left.output 1 left id of_left).1 of))
+        contains_cons (lefts ++ (rights ++ outputs)) 0 id (Contains-append_left lefts (rights ++ outputs) id ((reached_ids (circuit_of graphs query.left) query.left.output 1 left id of_left).1 of))
     from_cone id (inr (inr (inl of))) =
-        contains-tail 0 (lefts ++ (rights ++ outputs)) id (Contains-append_right lefts (rights ++ outputs) id (Contains-append_left rights outputs id ((reached_ids (circuit_of graphs query.right) query.right.output (1 + 3 * l) right id of_right).1 of)))
+        contains_cons (lefts ++ (rights ++ outputs)) 0 id (Contains-append_right lefts (rights ++ outputs) id (Contains-append_left rights outputs id ((reached_ids (circuit_of graphs query.right) query.right.output (1 + 3 * l) right id of_right).1 of)))
     from_cone id (inr (inr (inr (inl e)))) =
-        contains-tail 0 (lefts ++ (rights ++ outputs)) id (Contains-append_right lefts (rights ++ outputs) id (Contains-append_right rights outputs id (contains-head (1 + 3 * (l + r)) ((2 + 3 * (l + r)) ∷ []) id e)))
+        contains_cons (lefts ++ (rights ++ outputs)) 0 id (Contains-append_right lefts (rights ++ outputs) id (Contains-append_right rights outputs id (contains-head (1 + 3 * (l + r)) ((2 + 3 * (l + r)) ∷ []) id e)))
     from_cone id (inr (inr (inr (inr e)))) =
-        contains-tail 0 (lefts ++ (rights ++ outputs)) id (Contains-append_right lefts (rights ++ outputs) id (Contains-append_right rights outputs id (contains-tail (1 + 3 * (l + r)) ((2 + 3 * (l + r)) ∷ []) id (contains-head (2 + 3 * (l + r)) [] id e))))
+        contains_cons (lefts ++ (rights ++ outputs)) 0 id (Contains-append_right lefts (rights ++ outputs) id (Contains-append_right rights outputs id (contains_cons ((2 + 3 * (l + r)) ∷ []) (1 + 3 * (l + r)) id (contains-head (2 + 3 * (l + r)) [] id e))))
 
 -- the same, as they are added one after the other
 pub built_are : (graphs : Graphs) (query : Query) (left right ids : List ℕ) (first last : ℕ) → AreReached (circuit_of graphs query.left) query.left.output left → AreReached (circuit_of graphs query.right) query.right.output right → first ≡ 1 + 3 * left_gates graphs query → last ≡ 1 + 3 * (left_gates graphs query + right_gates graphs query) → ids ≡ ((((0 ∷ []) ++ gate_ids 1 left) ++ gate_ids first right) ++ last ∷ []) ++ (last + 1) ∷ [] → AreConeIds graphs query ids

@@ -3,8 +3,8 @@ use Rattle.std.proofs.Common.{◌<◌, All, length, subst, sym}
 use Rattle.account_trim.specs.Marks.{Adds}
 use Rattle.account_trim.specs.Names.{facts_named}
 use Rattle.account_trim.proofs.MarkLemmas.{adds_then, still_below}
-use Rattle.account_trim.proofs.NumberLemmas.{All-back}
 use Rattle.account_trim.proofs.marking.mark_facts.Goals as goal
+use Rattle.circuits.proofs.Lists.{All-back}
 
 pub mark_all-requires-in-Tally-2 : goal.mark_all-requires-in-Tally-2
 mark_all-requires-in-Tally-2 c =

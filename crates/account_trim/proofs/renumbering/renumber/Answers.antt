@@ -1,8 +1,8 @@
 -- The second list of a tally.
 use Rattle.std.proofs.Common.{◌<◌, All, length, subst, sym}
 use Rattle.account_trim.specs.Names.{facts_named}
-use Rattle.account_trim.proofs.NumberLemmas.{All-back}
 use Rattle.account_trim.proofs.renumbering.renumber.Goals as goal
+use Rattle.circuits.proofs.Lists.{All-back}
 
 pub put_numbers-requires-in-Tally : goal.put_numbers-requires-in-Tally
 put_numbers-requires-in-Tally c =

@@ -1,6 +1,6 @@
 use Rattle.std.proofs.Common.{[], ◌∷◌, ◌++◌, ap, sym, ◌∙◌}
-use Rattle.gen_pair.proofs.Shuffled.{range_more}
 use Rattle.gen_pair.proofs.hidden.numbers.Goals as goal
+use Rattle.circuits.proofs.Lists.{range_more}
 
 pub loop-number-preserved : goal.loop-number-preserved
 loop-number-preserved c =

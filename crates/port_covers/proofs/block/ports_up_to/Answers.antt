@@ -1,6 +1,6 @@
 use Rattle.std.proofs.Common.{◌++◌, ◌∷◌, [], ◌∙◌, sym, ap}
-use Rattle.port_covers.proofs.ListLemmas.{range_more}
 use Rattle.port_covers.proofs.block.ports_up_to.Goals as goal
+use Rattle.circuits.proofs.Lists.{range_more}
 
 pub loop-port-preserved : goal.loop-port-preserved
 loop-port-preserved c =

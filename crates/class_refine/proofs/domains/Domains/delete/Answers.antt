@@ -7,8 +7,9 @@ use Rattle.class_refine.specs.Kept.{IsKept}
 use Rattle.class_refine.specs.Numbers.{at_ports, pair_number, port_number}
 use Rattle.class_refine.specs.Trails.{Domained, IsOpen, IsPairOf}
 use Rattle.class_refine.proofs.TableLemmas.{counted_size}
-use Rattle.class_refine.proofs.KeptLemmas.{few_gone, given_back, kept_deleted}
+use Rattle.class_refine.proofs.KeptLemmas.{few_gone, kept_deleted}
 use Rattle.class_refine.proofs.domains.Domains.delete.Goals as goal
+use Rattle.circuits.proofs.Lists.{given_back}
 
 pub count_at_ports-requires-clause-first : goal.count_at_ports-requires-clause-first
 count_at_ports-requires-clause-first c =

@@ -8,8 +8,9 @@ use Rattle.class_refine.specs.Kept.{IsKept}
 use Rattle.class_refine.specs.Numbers.{pair_number}
 use Rattle.class_refine.specs.Trails.{Domained, IsFreePort, IsOpen, IsPairOf}
 use Rattle.class_refine.proofs.TableLemmas.{both, both_size}
-use Rattle.class_refine.proofs.KeptLemmas.{given_back, kept_held}
+use Rattle.class_refine.proofs.KeptLemmas.{kept_held}
 use Rattle.class_refine.proofs.domains.Domains.hold.Goals as goal
+use Rattle.circuits.proofs.Lists.{given_back}
 
 pub invariant_of-self-2 : goal.invariant_of-self-2
 invariant_of-self-2 c =

@@ -6,8 +6,9 @@ use Rattle.class_refine.specs.Kept.{IsKept}
 use Rattle.class_refine.specs.Numbers.{at_ports}
 use Rattle.class_refine.specs.Trails.{AreEntries, is_held}
 use Rattle.class_refine.proofs.TableLemmas.{both, both_size, counted_size}
-use Rattle.class_refine.proofs.KeptLemmas.{given_back, kept_undeleted, kept_unheld, last_known}
+use Rattle.class_refine.proofs.KeptLemmas.{kept_undeleted, kept_unheld, last_known}
 use Rattle.class_refine.proofs.domains.Domains.open_last.Goals as goal
+use Rattle.circuits.proofs.Lists.{given_back}
 
 pub invariant_of-self : goal.invariant_of-self
 invariant_of-self c =

@@ -5,8 +5,8 @@ use Rattle.trail_core.specs.declared.assigned.Assigned.{Assigned}
 use Rattle.trail_core.specs.Trails.{IsCutAt, Trailing}
 use Rattle.trail_core.specs.Places.{IsKept, IsUnset}
 use Rattle.trail_core.proofs.CutLemmas.{kept_cut, kept_is_filter}
-use Rattle.trail_core.proofs.TrailLemmas.{given_back}
 use Rattle.trail_core.proofs.trail.Trail.back_to.Goals as goal
+use Rattle.circuits.proofs.Lists.{given_back}
 
 pub invariant_of-self : goal.invariant_of-self
 invariant_of-self c =

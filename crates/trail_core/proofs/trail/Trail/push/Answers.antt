@@ -4,8 +4,9 @@ use Rattle.std.proofs.lemmas.List.{length-set}
 use Rattle.cnf_core.specs.Clauses.{variable_of}
 use Rattle.trail_core.specs.Trails.{IsFree, Trailing}
 use Rattle.trail_core.specs.Places.{IsKept}
-use Rattle.trail_core.proofs.TrailLemmas.{fewer, given_back, kept_more}
+use Rattle.trail_core.proofs.TrailLemmas.{fewer, kept_more}
 use Rattle.trail_core.proofs.trail.Trail.push.Goals as goal
+use Rattle.circuits.proofs.Lists.{given_back}
 
 pub put-requires-clause-room : goal.put-requires-clause-room
 put-requires-clause-room c =
