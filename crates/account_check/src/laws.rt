@@ -51,7 +51,7 @@ pub fn accepted_refusal_is_right()
         → ⊥ }
 {}
 
-/// Where an account of a table is accepted, whoever wrote it, the table is a match of the circuits' functions.
+/// Where an account of a match is accepted, whoever wrote it, the matching is a match of the circuits' functions.
 pub fn accepted_match_is_right()
     ensures { (graphs : TwoGraphs) (bytes : List ℕ) (table : Table)
         → IsGraph graphs.first → IsGraph graphs.second

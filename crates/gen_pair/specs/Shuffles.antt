@@ -26,7 +26,7 @@ hidden_ports n random =
     let places = shuffled (n - 1) (range_with_len 0 n) random in
     signed_places places.0 n places.1
 
--- the table of 64 inputs and 32 outputs: the inputs first, then the outputs
+-- the matching of 64 inputs and 32 outputs: the inputs first, then the outputs
 unfoldable pub hidden_table : Lcg → (List (ℕ × Bool) × List (ℕ × Bool)) × Lcg
 hidden_table random =
     let inputs = hidden_ports 64 random in

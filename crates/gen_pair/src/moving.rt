@@ -10,7 +10,7 @@ ghost use Rattle.gen_pair.specs.Moved.{signed, moved_literal, moved_gate, AreMov
 use net_core::{Gate, Graph, Lit, Matching};
 use std::alloc::{AllocError, Global};
 
-/// The graph whose ports are those of `graph`, moved as the table says. The table is a match of the two.
+/// The graph whose ports are those of `graph`, moved as the matching says, which is a match of the two.
 pub(crate) fn moved_graph(
     alloc: Global,
     graph: &Graph,

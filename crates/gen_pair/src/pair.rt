@@ -19,7 +19,7 @@ use net_file::Named;
 use rand_pcg::Lcg64Xsh32;
 use std::alloc::{AllocError, Global};
 
-/// Two netlists with names of their ports, and a table that matches them.
+/// Two netlists with names of their ports, and a match of them.
 #[derive(Debug, Drop)]
 pub struct GenPair {
     pub first: Named,

@@ -1,4 +1,4 @@
-//! Tables from cells.
+//! Matchings from cells.
 
 ghost use Rattle.std.specs.Prelude.{◌≡◌, IfOk, IfSome, length};
 ghost use Rattle.circuits.specs.Matches.{HavePorts};
@@ -11,7 +11,7 @@ use port_cells::{Cells, port_at};
 use port_sides::PairableGraphs;
 use std::alloc::{AllocError, Global};
 
-/// The table of cells, if they make one: within a cell the first literal goes to the first, and so on.
+/// The matching of cells, if they make one: within a cell the first literal goes to the first, and so on.
 pub(crate) fn matching_of(
     alloc: Global,
     graphs: &PairableGraphs<'_>,
