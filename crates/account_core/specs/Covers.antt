@@ -11,7 +11,7 @@ use Rattle.account_core.specs.Tallies.{Ascend}
 abbrev pub way : PortKind → ℕ → ℕ → Bool → Pair
 way kind from to flip = record { kind = kind; from = from; to = to; flip = flip }
 
--- all ways to pair a port of `from` with one of `to`: in the order of `from`, for each in that of `to`, plain before negated
+-- all ways to pair a port of `from` with one of `to`: in the order of `from`, for each in that of `to`, plain before inverted
 abbrev pub ways : PortKind → List ℕ → List ℕ → List Pair
 ways kind from to = flat_map (λ f. flat_map (λ t. way kind f t false ∷ way kind f t true ∷ []) to) from
 

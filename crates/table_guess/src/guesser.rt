@@ -275,9 +275,9 @@ impl<'a> Guesser<'a> {
         Ok(None)
     }
 
-    // Searches with all open signs plain in the first round: without that 60 pairs without negated ports take 18 s in place of
-    // 5, and three of them aren't guessed. Then with signs that vectors decide, in every other round (in all rounds none of 29
-    // pairs changes), and then with them open.
+    // Searches with all open signs plain in the first round: without that 60 pairs without negated ports take 18 s instead of 5,
+    // and three of them aren't guessed. Then with signs that vectors decide, in every other round (in all rounds none of 29 pairs
+    // changes), and then with them open.
     fn search_round(
         &mut self,
         alloc: Global,
