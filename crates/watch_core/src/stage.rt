@@ -27,7 +27,7 @@ impl fmt::Display for Stage {
             Stage::Checking { left, bytes } => {
                 write!(f, "checking the account, {left} of {bytes} bytes left")
             }
-            Stage::Guessing { guesses } => write!(f, "guessing a table, {guesses} tried"),
+            Stage::Guessing { guesses } => write!(f, "guessing a matching, {guesses} tried"),
             Stage::Proving { output, outputs } => write!(f, "proving output {output} of {outputs}"),
             Stage::Deciding { claims } => write!(f, "deciding claims, {claims} decided"),
             Stage::Banning { bans } => write!(f, "searching pairs, {bans} bans held"),
