@@ -1,4 +1,4 @@
-//! Tables guessed.
+//! Matchings guessed.
 
 use anyhow::{Result, bail};
 use net_core::Graphs;
