@@ -246,7 +246,7 @@ impl<'a> Guesser<'a> {
         effort: Effort,
     ) -> Result<Option<Matching>, AllocError>
         ensures { IfOk result (λ found. IfSome found
-            (λ table. HavePorts graphs.now.first graphs.now.second table.inputs table.outputs)) }
+            (λ matching. HavePorts graphs.now.first graphs.now.second matching.inputs matching.outputs)) }
     {
         self.effort = effort;
         let root = State::new(alloc, self.first.graph())?;

@@ -18,16 +18,16 @@ pub(crate) fn matching_of(
     state: &State,
 ) -> Result<Option<Matching>, AllocError>
     ensures { IfOk result (λ found. IfSome found
-        (λ table. HavePorts graphs.now.first graphs.now.second table.inputs table.outputs)) }
+        (λ matching. HavePorts graphs.now.first graphs.now.second matching.inputs matching.outputs)) }
 {
     let inputs = graphs.ports(PortKind::Input);
     let outputs = graphs.ports(PortKind::Output);
-    let table = Matching {
+    let matching = Matching {
         inputs: entries(alloc, &state.inputs)?,
         outputs: entries(alloc, &state.outputs)?,
     };
-    if table.check_shape(inputs, outputs) {
-        return Ok(Some(table));
+    if matching.check_shape(inputs, outputs) {
+        return Ok(Some(matching));
     }
     Ok(None)
 }
