@@ -1,5 +1,5 @@
-"""Writes an account for two netlists, AIGER or BLIF: `npnp 1`, a port table, for each output and either value a log that refutes the
-question whether its partner differs, and `end`. The table is what is given as `i0+2 i1-0 .. o0-1 ..`, in an account's form,
+"""Writes an account for two netlists, AIGER or BLIF: `npnp 1`, a matching, for each output and either value a log that refutes the
+question whether its partner differs, and `end`. The matching is what is given as `i0+2 i1-0 .. o0-1 ..`, in an account's form,
 each kind in ascending order; without it the ports correspond by position.
 
     account_of.py FIRST SECOND ACCOUNT [PAIRS]

@@ -8,7 +8,7 @@ import random
 import sys
 import tempfile
 import netlists
-from measured_run import table_in, timed
+from measured_run import matching_in, timed
 
 READ = 11  # inputs of an output: one more than a place below 1,024 has bits
 
@@ -45,7 +45,7 @@ def row(program, count, draws, limit, folder):
         return f"{sizes}  late", True
     if status != 0:
         return f"{sizes}  {printed.strip()}", False
-    is_equal = netlists.seem_equal(netlists.renamed(first, *table_in(printed, first)), second, draws)
+    is_equal = netlists.seem_equal(netlists.renamed(first, *matching_in(printed, first)), second, draws)
     checked, _, check_seconds, _ = timed(limit, folder, program, "check", *names)
     right = is_equal and checked.startswith("accepted match\n")
     return f"{sizes}{seconds:>10.2f}{memory / 1024:>8.0f}{check_seconds:>10.2f}{os.path.getsize(names[2]):>12,}", right

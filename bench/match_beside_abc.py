@@ -14,7 +14,7 @@ import netlists
 from account_of import in_order
 from circuits import CIRCUITS
 from match_report import report
-from measured_run import limits, table_in, timed
+from measured_run import limits, matching_in, timed
 
 SLOWER = "balance; rewrite; refactor; balance; rewrite; rewrite -z; balance; refactor -z; rewrite -z; balance"
 MAPPED = "strash; dch; if -K 5; strash; dc2; resub -K 8; rewrite -z; balance"
@@ -112,13 +112,13 @@ class Bench:
     # ---- what is answered
 
     def is_match(self, first, second, printed):
-        """Whether a printed table makes the netlists equal: on all vectors where they are few, else as ABC finds, and where it doesn't
+        """Whether a printed port table makes the netlists equal: on all vectors where they are few, else as ABC finds, and where it doesn't
         in 10 seconds, on vectors that are drawn; and by which of these it was seen."""
-        tables = table_in(printed, first)
-        for table in tables:
-            if None in table or sorted(to for to, _ in table) != list(range(len(table))):
+        matching = matching_in(printed, first)
+        for ways in matching:
+            if None in ways or sorted(to for to, _ in ways) != list(range(len(ways))):
                 return False, "shape"
-        turned = netlists.renamed(first, *tables)
+        turned = netlists.renamed(first, *matching)
         if not netlists.seem_equal(turned, second, random.Random(1)):
             return False, "vectors"
         if first[0] <= netlists.ALL:

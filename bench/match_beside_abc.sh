@@ -1,5 +1,5 @@
 #!/usr/bin/env bash
-# Pairs of circuits of which the answer is known, through a program: `match` finds a table or says that there is none, and `check`
+# Pairs of circuits of which the answer is known, through a program: `match` finds a match or says that there is none, and `check`
 # accepts the account. bench/circuits.py has the circuits, of 2 to 256 inputs and of up to 5,000 gates, made by Yosys, most in two architectures. The
 # second of a pair is
 #   permuted   the first as ABC resynthesized it, its ports permuted;
@@ -8,8 +8,8 @@
 #   gate       a near miss: resynthesized, an operand of a gate negated, its ports permuted;
 #   output     a near miss: an output replaced by another function with the same support and weight (an exclusive or with a
 #              product before an input), or, of some graphs, another graph with the same degrees; its ports permuted and negated.
-# Each table is held against the netlists, on all vectors to 16 inputs, else by ABC's `cec`. That a near miss has no match is known
-# by counts that matches preserve, by trying all tables to 5 inputs, or by construction; where it isn't known, an accepted account
+# Each match is held against the netlists, on all vectors to 16 inputs, else by ABC's `cec`. That a near miss has no match is known
+# by counts that matches preserve, by trying all matchings to 5 inputs, or by construction; where it isn't known, an accepted account
 # counts alone. ABC's `bm` (Katebi and Markov, DATE 2010), which knows permutations alone, is run on the pairs of `permuted` and
 # `gate`. Limits and seconds are of processor time. Prints the seconds by circuit (m: matched, n: none) and a summary; with more than one program a
 # comparison too. With a file of results it goes on where it was stopped. Needs Debian's yosys and berkeley-abc. Not part of the gate.

@@ -4,7 +4,7 @@ KINDS = ("permuted", "negated", "other", "gate", "output")
 MATCHES, MISSES = ("permuted", "negated", "other"), ("gate", "output")
 WHY = {"supports": "supports", "unateness": "unateness", "symmetries": "symmetries", "counts": "counts of an output", "joint counts": "counts of outputs together",
        "drawn": "counts on drawn vectors",
-       "twin": "another graph", "tried": "all tables tried, none or a match", "unknown": "not known"}
+       "twin": "another graph", "tried": "all matchings tried, none or a match", "unknown": "not known"}
 START = {"bm": 0.028, "match": 0.003}  # processor seconds that a program takes to start
 LEAST = 0.01  # less than that isn't told apart
 SIZES = ((8, "to 8"), (16, "to 16"), (32, "to 32"), (64, "to 64"), (128, "to 128"), (256, "to 256"))

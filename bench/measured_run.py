@@ -1,4 +1,4 @@
-"""Runs a program for a limit of processor seconds, and reads the table that it prints."""
+"""Runs a program for a limit of processor seconds, and reads the port table that it prints."""
 import os
 import resource
 import signal
@@ -28,8 +28,8 @@ def timed(seconds, folder, *command):
     return printed, None if late else os.waitstatus_to_exitcode(status), took, used.ru_maxrss
 
 
-def table_in(printed, net):
-    """The table of a report, as bijections of the inputs and the outputs."""
+def matching_in(printed, net):
+    """The matching whose port table a report has, as bijections of the inputs and the outputs."""
     found = {"input": [None] * net[0], "output": [None] * len(net[2])}
     for line in printed.splitlines()[1:]:
         left, right = line.split(" = ")

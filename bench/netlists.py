@@ -283,7 +283,7 @@ def known_apart(first, second, outputs, rng):
 
 
 def match_by_trying(first, second):
-    """Whether some table makes two netlists of few inputs equal, by trying every signed bijection of the inputs."""
+    """Whether some matching makes two netlists of few inputs equal, by trying every signed bijection of the inputs."""
     count = first[0]
     words, every = all_vectors(count)
     least = lambda it: min(it, it ^ every)

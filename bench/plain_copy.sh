@@ -2,11 +2,11 @@
 # Makes a *plain copy*: the crates of the search as one program in plain Rust, without contracts and proofs. What runs is the same, so that a
 # change can be measured in minutes before it is proved; nothing is promised of what it answers. rustc takes a minute or two. The copy is
 # FOLDER/plain, its sources FOLDER/src, of which bench/plain has what no crate has. It is asked
-#   plain guess FIRST SECOND SEED           the first phase alone: `guess` and a table that may be a match, or `nothing`
-#   plain search FIRST SECOND SEED          the second phase alone: `match` and a table, or `none`
+#   plain guess FIRST SECOND SEED           the first phase alone: `guess` and the port table of a matching that may be a match, or `nothing`
+#   plain search FIRST SECOND SEED          the second phase alone: `match` and its port table, or `none`
 #   plain decide FIRST SECOND SEED          both, as `npnp match` asks them
-#   plain table FIRST SECOND SEED TABLE     whether a table is a match: `match`, or `differs`. TABLE has a line for each port, inputs
-#                                           before outputs: the place where it goes, and 1 where it is negated there, else 0
+#   plain matching FIRST SECOND SEED FILE   whether a matching is a match: `match`, or `differs`. FILE has a line for each port, inputs
+#                                           before outputs: the place where it goes, and 1 where it is inverted there, else 0
 #   plain ask FIRST SECOND OUTPUT VALUE BUDGET   as `workbench ask`, but lines aren't derived again
 #   plain claims FILE ROUNDS                as `workbench claims`: of each output and each of its inputs whether the output may fall where the
 #                                           input goes up, in some rounds, each time anew

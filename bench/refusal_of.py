@@ -1,10 +1,10 @@
-"""Writes an account that refuses two small netlists, AIGER or BLIF, by trying all port tables: facts, bans by vectors,
+"""Writes an account that refuses two small netlists, AIGER or BLIF, by trying all matchings: facts, bans by vectors,
 mismatches, tallies and covers, and the conclusion. It shares nothing with the program: claims are decided by all vectors,
 and logs are made by splitting on each input. docs/FORMATS.md says what the lines mean.
 
     refusal_of.py FIRST SECOND ACCOUNT [SEED]
 
-SEED draws which kind of reason is tried first. Ends with status 1, and without a conclusion in the account, where some table is a match.
+SEED draws which kind of reason is tried first. Ends with status 1, and without a conclusion in the account, where some matching is a match.
 """
 import itertools
 import random
@@ -202,7 +202,7 @@ class Search:
         return None
 
     def vector(self, held):
-        """A ban of a whole table by a vector, with as few bits and pairs as do; None where the table is a match."""
+        """A ban of a whole matching by a vector, with as few bits and pairs as do; None where it is a match."""
         inputs, outputs = ([it for it in held if it[0] == kind] for kind in "io")
         for code, row in enumerate(self.first.table):
             bits = [code >> i & 1 for i in range(self.first.inputs)]

@@ -4,7 +4,7 @@
 
 For each pair without a match the account of refusal_of.py has to be accepted. For each pair, also one that has matches, the
 account with one word changed has to be refused, or to be still right: what is left of it is read again here, and each ban
-of it is held against all tables. Prints how many there were of each. Needs the program (./npnp builds it).
+of it is held against all matchings. Prints how many there were of each. Needs the program (./npnp builds it).
 """
 import itertools
 import os
@@ -46,7 +46,7 @@ def moved(draws, inputs, gates, outputs):
 
 
 def all_matches(first, second):
-    """All tables that are matches, each as a set of pairs."""
+    """All matchings that are matches, each as a set of pairs."""
     n, m = first.inputs, len(first.outputs)
     for places, signs in itertools.product(itertools.permutations(range(n)), itertools.product((0, 1), repeat=n)):
         order = [sum((code >> i & 1 ^ signs[i]) << places[i] for i in range(n)) for code in range(1 << n)]

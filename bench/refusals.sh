@@ -1,5 +1,5 @@
 #!/usr/bin/env bash
-# Accounts of refusals for small netlists drawn by a seed, made by trying all tables, through the built program: each is
+# Accounts of refusals for small netlists drawn by a seed, made by trying all matchings, through the built program: each is
 # accepted, and each with one word changed is refused or still right (bench/refusals.py says how that is seen). Prints the
 # counts. Not part of the gate.
 #

@@ -22,7 +22,7 @@ shows() { # WHAT WANTED PRINTED: whether the text that is wanted is in what was 
 begun=$(date +%s%N)
 report=$("$npnp" match "$here/oai221.blif" "$here/oai221_lost.blif" "$work/account")
 milliseconds=$((($(date +%s%N) - begun) / 1000000))
-shows 'the first command finds the table' 'matched' "$report"
+shows 'the first command finds the match' 'matched' "$report"
 [ "$milliseconds" -lt 1000 ] || failed=1
 echo "the first command took $milliseconds ms"
 shows 'the version names the kit' 'rattle-kit' "$("$npnp" --version)"

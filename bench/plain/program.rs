@@ -41,15 +41,15 @@ pub fn main() -> Answer {
         ["ask", first, second, output, value, budget] => on_pair(first, second, "0", |graphs, _| {
             ask_output(graphs, output.parse()?, value == "1", budget.parse()?)
         }),
-        ["table", first, second, seed, table] => {
-            let table = std::fs::read_to_string(table)?;
+        ["matching", first, second, seed, file] => {
+            let matching = std::fs::read_to_string(file)?;
             on_pair(first, second, seed, |graphs, seed| {
-                prove(graphs, seed, &table)
+                prove(graphs, seed, &matching)
             })
         }
         ["claims", netlist, rounds] => claims(netlist, rounds.parse()?),
         _ => Err(
-            "plain guess|search|decide FIRST SECOND SEED, plain table FIRST SECOND SEED TABLE, \
+            "plain guess|search|decide FIRST SECOND SEED, plain matching FIRST SECOND SEED FILE, \
              plain ask FIRST SECOND OUTPUT VALUE BUDGET, or plain claims FILE ROUNDS"
                 .into(),
         ),
@@ -143,14 +143,14 @@ fn expect(holds: bool, or: &str) -> Answer {
     if holds { Ok(()) } else { Err(or.into()) }
 }
 
-/// The first phase alone: prints a table that may be a match, or that there is none.
+/// The first phase alone: prints a matching that may be a match, or that there is none.
 fn guess(graphs: &PairableGraphs, seed: u64) -> Answer {
     let mut guesser = Guesser::new(Global, graphs, seed).map_err(refused)?;
     match guesser
         .guess(Global, graphs, Effort::Whole)
         .map_err(refused)?
     {
-        Some(table) => print_table("guess", &table),
+        Some(matching) => print_port_table("guess", &matching),
         None => println!("nothing"),
     }
     Ok(())
@@ -175,33 +175,33 @@ fn refused(cause: impl std::fmt::Debug) -> io::Error {
     io::Error::other(format!("{cause:?}"))
 }
 
-/// Compares the outputs by a table: a line for each port, inputs before outputs, with the place where it goes and 1 where it is
-/// negated.
-fn prove(graphs: &PairableGraphs, seed: u64, table: &str) -> Answer {
+/// Compares the outputs by a matching: a line for each port, inputs before outputs, with the place where it goes and 1 where it
+/// is inverted.
+fn prove(graphs: &PairableGraphs, seed: u64, matching: &str) -> Answer {
     let mut ways = Vec::new(Global);
-    for line in table.lines() {
+    for line in matching.lines() {
         let way = numbers_in(Some(line))?;
-        expect(way.len() == 2, "a line of the table hasn't two numbers")?;
+        expect(way.len() == 2, "a line of the matching hasn't two numbers")?;
         ways.0.push((way[0], way[1] == 1));
     }
     let inputs = graphs.first().inputs() as usize;
     expect(
         ways.len() == inputs + graphs.first().outputs().len(),
-        "the table has another length",
+        "the matching has another length",
     )?;
     let outputs = Items(ways.0.split_off(inputs));
-    let table = Matching {
+    let matching = Matching {
         inputs: Items(ways.0),
         outputs,
     };
     expect(
-        table.check_shape(inputs as u32, table.outputs.len() as u32),
-        "the table isn't a bijection",
+        matching.check_shape(inputs as u32, matching.outputs.len() as u32),
+        "the matching isn't a bijection",
     )?;
     let mut book = FactBook::new(Global, graphs.graphs(), seed).map_err(refused)?;
     let mut ledger = Ledger::new(Global, BUDGET);
-    for output in 0..table.outputs.len() as u32 {
-        let compared = book.compare(Global, &table, output, &mut ledger);
+    for output in 0..matching.outputs.len() as u32 {
+        let compared = book.compare(Global, &matching, output, &mut ledger);
         if let Compared::Differs(_) = compared.map_err(refused)? {
             println!("differs at output {output}");
             return Ok(());
@@ -211,10 +211,10 @@ fn prove(graphs: &PairableGraphs, seed: u64, table: &str) -> Answer {
     Ok(())
 }
 
-/// Prints a match's table, or that there is none, and how many bans were made, by what shows them.
+/// Prints a match's port table, or that there is none, and how many bans were made, by what shows them.
 fn tell(found: Found, bans: &[Ban]) {
     match found {
-        Found::Match(table, _) => print_table("match", &table),
+        Found::Match(matching, _) => print_port_table("match", &matching),
         Found::None(_) => print_bans(bans),
     }
 }
@@ -256,12 +256,12 @@ fn print_bans(bans: &[Ban]) {
     );
 }
 
-/// Prints a table as `npnp match` does.
-fn print_table(answer: &str, table: &Matching) {
+/// Prints a port table as `npnp match` does, without names.
+fn print_port_table(answer: &str, matching: &Matching) {
     println!("{answer}");
-    for (kind, ways) in [("input", &table.inputs), ("output", &table.outputs)] {
-        for (place, (to, is_negated)) in ways.iter().enumerate() {
-            let not = if *is_negated { "not " } else { "" };
+    for (kind, ways) in [("input", &matching.inputs), ("output", &matching.outputs)] {
+        for (place, (to, is_inverted)) in ways.iter().enumerate() {
+            let not = if *is_inverted { "not " } else { "" };
             println!("{kind} {place} = {not}{kind} {to}");
         }
     }

@@ -11,7 +11,7 @@ ghost use Rattle.account_file.specs.declared.record.Record.TheVariants as entry;
 ghost use Rattle.account_check.specs.declared.reject.RecordStop.TheVariants as stop;
 ghost use Rattle.account_check.specs.declared.reject.Reject.{Reject as AnyReject};
 ghost use Rattle.account_check.specs.declared.verdict.Verdict.TheVariants as verdict;
-ghost use Rattle.net_core.specs.declared.matching.Matching.{Matching as Table};
+ghost use Rattle.net_core.specs.declared.matching.Matching.{Matching as AnyMatching};
 
 use crate::bans::test_ban;
 use crate::fact_log::FactLog;
@@ -118,7 +118,7 @@ impl<'a> Checker<'a> {
     pub fn verdict(&self, alloc: Global) -> Result<Option<Verdict>, AllocError>
         ensures value { IfOk result (λ verdict. verdict ≡ verdict_of self.now) }
         ensures ended { IfOk result (λ verdict. IsSome verdict ↔ (self.now.place ≡ place.Ended)) }
-        ensures proved { (matching : Table) → verdict_of self.now ≡ Some (verdict.Match matching)
+        ensures proved { (matching : AnyMatching) → verdict_of self.now ≡ Some (verdict.Match matching)
             → IsMatchOfFunctions self.now.graphs.first self.now.graphs.second matching.inputs matching.outputs }
     {
         match &self.stage {

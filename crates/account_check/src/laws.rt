@@ -5,7 +5,7 @@ ghost use Rattle.circuits.specs.Matches.{HaveNpnpEqualFunctions, IsMatchOfFuncti
 ghost use Rattle.net_core.specs.Graph.{IsGraph};
 ghost use Rattle.account_core.specs.Exclusions.{AreRight};
 ghost use Rattle.net_core.specs.Sides.{Graphs as TwoGraphs};
-ghost use Rattle.net_core.specs.declared.matching.Matching.{Matching as Table};
+ghost use Rattle.net_core.specs.declared.matching.Matching.{Matching as AnyMatching};
 ghost use Rattle.account_file.specs.declared.record.Record.{Record as Entry};
 ghost use Rattle.account_check.specs.declared.reject.Reject.{Reject as AnyReject};
 ghost use Rattle.account_check.specs.declared.verdict.Verdict.{Verdict as AnyVerdict};
@@ -51,10 +51,10 @@ pub fn accepted_refusal_is_right()
         → ⊥ }
 {}
 
-/// Where an account of a table is accepted, whoever wrote it, the table is a match of the circuits' functions.
+/// Where an account of a match is accepted, whoever wrote it, the matching is a match of the circuits' functions.
 pub fn accepted_match_is_right()
-    ensures { (graphs : TwoGraphs) (bytes : List ℕ) (table : Table)
+    ensures { (graphs : TwoGraphs) (bytes : List ℕ) (matching : AnyMatching)
         → IsGraph graphs.first → IsGraph graphs.second
-        → IsAccepted graphs bytes (Proved table)
-        → IsMatchOfFunctions graphs.first graphs.second table.inputs table.outputs }
+        → IsAccepted graphs bytes (Proved matching)
+        → IsMatchOfFunctions graphs.first graphs.second matching.inputs matching.outputs }
 {}

@@ -3,7 +3,7 @@
 ghost use Rattle.std.specs.Prelude.{Bool, ℕ, List, ◌≡◌, ◌+◌, ◌<◌, ◌^◌, ◌++◌, [], true, false, IfOk, IsSome, Ok, Some, length};
 ghost use Rattle.circuits.specs.Matches.{IsMatchOfFunctions};
 ghost use Rattle.net_core.specs.Sides.{Graphs as TwoGraphs};
-ghost use Rattle.net_core.specs.declared.matching.Matching.{Matching as Table};
+ghost use Rattle.net_core.specs.declared.matching.Matching.{Matching as AnyMatching};
 ghost use Rattle.account_file.specs.declared.place.Place.TheVariants.{Ended};
 ghost use Rattle.account_file.specs.Order.{next_place};
 ghost use Rattle.account_check.specs.declared.verdict.Verdict.TheVariants as verdict;
@@ -72,7 +72,7 @@ impl<'a> AccountCheck<'a> {
         requires { IsUnderWay self.old }
         ensures verdict { (graphs : TwoGraphs) (bytes : List ℕ) → HasTaken graphs bytes self.old
             → IsVerdict graphs bytes result }
-        ensures proved { (graphs : TwoGraphs) (bytes : List ℕ) (matching : Table)
+        ensures proved { (graphs : TwoGraphs) (bytes : List ℕ) (matching : AnyMatching)
             → HasTaken graphs bytes self.old → result ≡ Ok (verdict.Match matching)
             → IsMatchOfFunctions graphs.first graphs.second matching.inputs matching.outputs }
     {
@@ -105,7 +105,7 @@ fn finish(
     requires { (graphs : TwoGraphs) × (bytes : List ℕ) × IsChecking false graphs bytes reader.old checker.old }
     ensures verdict { (graphs : TwoGraphs) (bytes : List ℕ) → IsChecking false graphs bytes reader.old checker.old
         → IsVerdict graphs bytes result }
-    ensures proved { (graphs : TwoGraphs) (bytes : List ℕ) (matching : Table)
+    ensures proved { (graphs : TwoGraphs) (bytes : List ℕ) (matching : AnyMatching)
         → IsChecking false graphs bytes reader.old checker.old → result ≡ Ok (verdict.Match matching)
         → IsMatchOfFunctions graphs.first graphs.second matching.inputs matching.outputs }
 {
@@ -186,7 +186,7 @@ fn refused(line: u64, stop: RecordStop) -> CheckStop
 fn ended(alloc: Global, checker: &Checker<'_>) -> Result<Verdict, AllocError>
     requires { checker.now.place ≡ Ended }
     ensures verdict { IfOk result (λ verdict. Some verdict ≡ verdict_of checker.now) }
-    ensures proved { (matching : Table) → verdict_of checker.now ≡ Some (verdict.Match matching)
+    ensures proved { (matching : AnyMatching) → verdict_of checker.now ≡ Some (verdict.Match matching)
         → IsMatchOfFunctions checker.now.graphs.first checker.now.graphs.second matching.inputs matching.outputs }
 {
     let Some(verdict) = checker.verdict(alloc)? else {

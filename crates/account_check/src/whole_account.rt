@@ -3,7 +3,7 @@
 ghost use Rattle.std.specs.Prelude.{ℕ, ◌≡◌, ◌≢◌, ◌↔◌, [], Ok, Err};
 ghost use Rattle.circuits.specs.Matches.{HaveNpnpEqualFunctions, IsMatchOfFunctions};
 ghost use Rattle.net_core.specs.Sides.{Graphs as TwoGraphs};
-ghost use Rattle.net_core.specs.declared.matching.Matching.{Matching as Table};
+ghost use Rattle.net_core.specs.declared.matching.Matching.{Matching as AnyMatching};
 ghost use Rattle.account_check.specs.declared.verdict.CheckStop.TheVariants as stop;
 ghost use Rattle.account_check.specs.declared.verdict.Verdict.{Verdict as AnyVerdict};
 ghost use Rattle.account_check.specs.declared.verdict.Verdict.TheVariants as verdict;
@@ -24,7 +24,7 @@ pub fn check(alloc: Global, graphs: &Graphs<'_>, account: &[u8]) -> Result<Verdi
         → ((result ≡ Ok verdict) ↔ IsAccepted graphs.now account.now verdict) }
     ensures rejected { (line : ℕ) (why : Reason) → result ≢ Err stop.Memory
         → ((result ≡ Err (stop.Rejected line why)) ↔ IsRejected graphs.now account.now line why) }
-    ensures proved { (matching : Table) → result ≡ Ok (verdict.Match matching)
+    ensures proved { (matching : AnyMatching) → result ≡ Ok (verdict.Match matching)
         → IsMatchOfFunctions graphs.now.first graphs.now.second matching.inputs matching.outputs }
     ensures refused { result ≡ Ok verdict.None
         → HaveNpnpEqualFunctions graphs.now.first graphs.now.second → ⊥ }
@@ -37,7 +37,7 @@ pub fn check(alloc: Global, graphs: &Graphs<'_>, account: &[u8]) -> Result<Verdi
 // The verdict of an account.
 fn verdict_on(alloc: Global, graphs: &Graphs<'_>, account: &[u8]) -> Result<Verdict, CheckStop>
     ensures verdict { IsVerdict graphs.now account.now result }
-    ensures proved { (matching : Table) → result ≡ Ok (verdict.Match matching)
+    ensures proved { (matching : AnyMatching) → result ≡ Ok (verdict.Match matching)
         → IsMatchOfFunctions graphs.now.first graphs.now.second matching.inputs matching.outputs }
 {
     let mut check = AccountCheck::new(alloc, graphs)?;
@@ -52,7 +52,7 @@ fn verdict_by(
 ) -> Result<Verdict, CheckStop>
     requires { (graphs : TwoGraphs) × HasTaken graphs [] check.old }
     ensures verdict { (graphs : TwoGraphs) → HasTaken graphs [] check.old → IsVerdict graphs account.now result }
-    ensures proved { (graphs : TwoGraphs) (matching : Table)
+    ensures proved { (graphs : TwoGraphs) (matching : AnyMatching)
         → HasTaken graphs [] check.old → result ≡ Ok (verdict.Match matching)
         → IsMatchOfFunctions graphs.first graphs.second matching.inputs matching.outputs }
 {

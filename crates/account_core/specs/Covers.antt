@@ -11,7 +11,7 @@ use Rattle.account_core.specs.Tallies.{Ascend}
 abbrev pub way : PortKind → ℕ → ℕ → Bool → Pair
 way kind from to flip = record { kind = kind; from = from; to = to; flip = flip }
 
--- the ways to pair one port with each of some others, plain before negated
+-- the ways to pair one port with each of some others, plain before inverted
 abbrev pub row : PortKind → ℕ → List ℕ → List Pair
 row kind from to = flat_map (λ t. way kind from t false ∷ way kind from t true ∷ []) to
 

@@ -35,7 +35,7 @@ pub enum Step {
     },
     /// Some port of `from` goes to some port of `to`, and each way to pair two of them is impossible beside the ban, or
     /// is excluded by an earlier ban. For each port of `from`, in order, and each of `to`, in order, there are two
-    /// references, for the plain pair and the negated one: none where the pair is impossible, else a ban's number.
+    /// references, for the plain pair and the inverted one: none where the pair is impossible, else a ban's number.
     Cover {
         kind: PortKind,
         from: Items<u32>,

@@ -3,7 +3,7 @@
 ghost use Rattle.std.specs.Prelude.{ℕ, List, All, map};
 ghost use Rattle.cnf_core.specs.declared.log.Log.{Log as AnyLog};
 ghost use Rattle.net_core.specs.Sides.{Graphs as TwoGraphs};
-ghost use Rattle.net_core.specs.declared.matching.Matching.{Matching as Table};
+ghost use Rattle.net_core.specs.declared.matching.Matching.{Matching as AnyMatching};
 ghost use Rattle.account_core.specs.declared.fact.Fact.{Fact as AnyFact};
 ghost use Rattle.account_core.specs.declared.step.Ban.{Ban as AnyBan};
 ghost use Rattle.account_core.specs.Given.{decided_by};
@@ -18,7 +18,7 @@ ghost use Rattle.account_write.specs.Records.{account_of, match_records, none_po
 
 /// The account of a match that logs show is accepted, and proves the match.
 pub fn match_is_accepted()
-    ensures { (graphs : TwoGraphs) (matching : Table) (logs : List AnyLog)
+    ensures { (graphs : TwoGraphs) (matching : AnyMatching) (logs : List AnyLog)
         → IsShownMatch graphs matching logs
         → All IsWritable (match_records matching logs)
         → IsAccepted graphs (account_of (match_records matching logs)) (verdict.Match matching) }

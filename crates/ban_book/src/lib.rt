@@ -1,4 +1,4 @@
-//! Exclusions that are held while a match is sought.
+//! Bans that are held while a match is sought.
 #![tactic(auto)]
 
 mod book;

@@ -109,11 +109,11 @@ fn after_row<'a>(
 {
     let mut left = refs;
     for other in to.iter() {
-        let [plain, negated, rest @ ..] = left else {
+        let [plain, inverted, rest @ ..] = left else {
             return None;
         };
         let fit = is_reference(given, pairs, way(kind, port, *other, false), *plain)
-            & is_reference(given, pairs, way(kind, port, *other, true), *negated);
+            & is_reference(given, pairs, way(kind, port, *other, true), *inverted);
         if !fit {
             return None;
         }

@@ -13,14 +13,14 @@ use word_sim::mix;
 
 /// The most blocks of 256 vectors that are drawn in each circuit. Of circuits with 26 inputs one pair of vectors is expected to
 /// correspond among 8,192 of both (8,192^2 is 2^26), and more where inputs may be exchanged. With four times as many 29 pairs
-/// take 7 s in place of 5.
+/// take 7 s instead of 5.
 const MOST_BLOCKS: usize = 32;
 
 /// The fewest, where one block alone takes too many counts. It wasn't tuned.
 const LEAST_BLOCKS: usize = 2;
 
 /// How many counts may be made, one for each input, output and block: fewer blocks are drawn of circuits with more than 1,024
-/// pairs of an input and an output. With a fourth of them the minimum and maximum of 16 bits takes 0.45 s in place of 0.17.
+/// pairs of an input and an output. With a fourth of them the minimum and maximum of 16 bits takes 0.45 s instead of 0.17.
 const MOST_COUNTS: usize = 1 << 15;
 
 /// How many pairs of vectors are taken, those with rare profiles first: each costs a search. With a fourth of them the rotation

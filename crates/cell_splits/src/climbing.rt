@@ -16,7 +16,7 @@ const MOST_WORDS: u64 = 1 << 28;
 const FEWEST_GENERATIONS: u64 = 8;
 
 /// How many generations an input adds, since each sets few right, and how many there are beside these: without the latter
-/// `content_match8x8` takes 0.7 s in place of 0.2.
+/// `content_match8x8` takes 0.7 s instead of 0.2.
 const GENERATIONS_EACH: u64 = 2;
 
 const FIRST_GENERATIONS: u64 = 40;

@@ -1,5 +1,5 @@
 //! How alike inputs of two circuits are by the gates that they reach. Where outputs don't tell inputs apart, as those of a
-//! parity or of a sorter, each of them may go to any other one; but that the table is a match is shown with few clauses only
+//! parity or of a sorter, each of them may go to any other one; but that the matching is a match is shown with few clauses only
 //! where gates of both circuits have the same function by it.
 
 use crate::exact::{is_shared, own_class};

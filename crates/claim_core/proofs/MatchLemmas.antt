@@ -122,7 +122,7 @@ not_both false true false agree ask = cc
 not_both false false true agree ask = cc
 not_both false false false agree ask = cc
 
--- no query of any output is met: the tables are a match
+-- no query of any output is met: the signed bijections are a match
 pub match_of_unmet : (graphs : Graphs) (matching : Matching) → IsGraph graphs.first → IsGraph graphs.second → HavePorts graphs.first graphs.second matching.inputs matching.outputs → ((k : ℕ) (value : Bool) → k < length graphs.first.outputs → IsUnmet graphs (match_query graphs.first.inputs matching k value)) → IsMatchOfFunctions graphs.first graphs.second matching.inputs matching.outputs
 match_of_unmet graphs matching first second ports unmet =
     let p = matching.inputs in
@@ -137,7 +137,7 @@ match_of_unmet graphs matching first second ports unmet =
       | inr ask ↦ absurd (unmet k b here x same (record { left = left_bit graphs matching k b x same; right = right_bit graphs matching k b x shape ∙ ask }))
     ])
 
--- the tables are a match: no query of any output is met
+-- the signed bijections are a match: no query of any output is met
 pub unmet_of_match : (graphs : Graphs) (matching : Matching) → IsGraph graphs.first → IsGraph graphs.second → IsMatchOfFunctions graphs.first graphs.second matching.inputs matching.outputs → (k : ℕ) (value : Bool) → k < length graphs.first.outputs → IsUnmet graphs (match_query graphs.first.inputs matching k value)
 unmet_of_match graphs matching first second functions k value below x same meets =
     let p = matching.inputs in

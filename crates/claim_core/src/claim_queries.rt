@@ -1,4 +1,4 @@
-//! The question of a claim.
+//! The query of a claim.
 
 ghost use Rattle.std.specs.Prelude.{◌≡◌, IfOk};
 ghost use Rattle.claim_core.specs.Claims.{IsClaim};

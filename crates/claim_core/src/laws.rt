@@ -4,7 +4,7 @@ ghost use Rattle.std.specs.Prelude.{ℕ, ◌≡◌, ◌↔◌, ◌<◌, Bool, Li
 ghost use Rattle.circuits.specs.Matches.{HavePorts, IsMatchOfFunctions};
 ghost use Rattle.cnf_core.specs.Clauses.{Meets};
 ghost use Rattle.net_core.specs.Sides.{Graphs as TwoGraphs};
-ghost use Rattle.net_core.specs.declared.matching.Matching.{Matching as Table};
+ghost use Rattle.net_core.specs.declared.matching.Matching.{Matching as AnyMatching};
 ghost use Rattle.net_core.specs.Graph.{IsGraph};
 ghost use Rattle.claim_core.specs.declared.query.Query.{Query as Question};
 ghost use Rattle.claim_core.specs.Queries.{IsQuery, IsUnmet, MeetsQuery, bits_in, vector_in};
@@ -59,12 +59,12 @@ pub fn wires_of_a_bijection()
 /// Signed bijections of the ports are a match exactly where no vector meets the queries of a matching: of each output,
 /// for either of its values.
 pub fn match_by_queries()
-    ensures matches { (graphs : TwoGraphs) (matching : Table) → IsGraph graphs.first → IsGraph graphs.second
+    ensures matches { (graphs : TwoGraphs) (matching : AnyMatching) → IsGraph graphs.first → IsGraph graphs.second
         → HavePorts graphs.first graphs.second matching.inputs matching.outputs
         → ((k : ℕ) (value : Bool) → k < length graphs.first.outputs
         → IsUnmet graphs (match_query graphs.first.inputs matching k value))
         → IsMatchOfFunctions graphs.first graphs.second matching.inputs matching.outputs }
-    ensures unmet { (graphs : TwoGraphs) (matching : Table) → IsGraph graphs.first → IsGraph graphs.second
+    ensures unmet { (graphs : TwoGraphs) (matching : AnyMatching) → IsGraph graphs.first → IsGraph graphs.second
         → IsMatchOfFunctions graphs.first graphs.second matching.inputs matching.outputs
         → (k : ℕ) (value : Bool) → k < length graphs.first.outputs
         → IsUnmet graphs (match_query graphs.first.inputs matching k value) }
@@ -74,7 +74,7 @@ pub fn match_by_queries()
 /// of its values.
 #[tactic(auto, using(crate::proofs::RefutedLemmas::match_of_refuted))]
 pub fn refuted_queries_are_a_match()
-    ensures { (graphs : TwoGraphs) (matching : Table) → IsGraph graphs.first → IsGraph graphs.second
+    ensures { (graphs : TwoGraphs) (matching : AnyMatching) → IsGraph graphs.first → IsGraph graphs.second
         → HavePorts graphs.first graphs.second matching.inputs matching.outputs
         → ((k : ℕ) (value : Bool) → k < length graphs.first.outputs
         → IsRefuted graphs (match_query graphs.first.inputs matching k value))

@@ -1,4 +1,4 @@
-//! The questions of a match.
+//! The queries of a match.
 
 ghost use Rattle.std.specs.Prelude.{◌≡◌, ◌<◌, ◌^◌, All, IfOk, length};
 ghost use Rattle.circuits.specs.Bijections.{IsSignedBijection};

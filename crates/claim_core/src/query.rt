@@ -1,4 +1,4 @@
-//! Questions about an output of each of two circuits.
+//! Queries about an output of each of two circuits.
 
 ghost use Rattle.std.specs.Prelude.{◌≡◌, IfOk};
 

@@ -10,7 +10,7 @@ use Rattle.circuits.specs.Netlists.{Net}
 use Rattle.rand_pcg.specs.Lcg.{Lcg}
 use Rattle.gen_pair.specs.Drawing.{drawn, drawn_bit, generator_of}
 use Rattle.gen_pair.specs.Moved.{signed, moved_gate, AreMovedOutputs}
-use Rattle.gen_pair.specs.Shuffles.{shuffled, signed_places, hidden_ports, hidden_table}
+use Rattle.gen_pair.specs.Shuffles.{shuffled, signed_places, hidden_ports, hidden_matching}
 use Rattle.gen_pair.specs.Pairs.{ArePairOf}
 use Rattle.gen_pair.specs.Mixing.{Mixing, mixing, Making, with_and, with_multiplexer, mixed_once, mixed, joining, joined, making, with_output, made, window_of}
 use Rattle.circuits.specs.Expansion.{stand_in}
@@ -174,13 +174,13 @@ hidden_drawn n start places now ports r0 r1 r2 start_is permutation shuffle same
     ∙ ap (λ k. signed_places places k r1) long
     ∙ ap (λ (p : List ℕ × Lcg). signed_places p.0 n p.1) drawn_places
 
-pub are_pair : (number : ℕ) (random r1 r2 : Lcg) (first named_first second named_second : Net) (p q : List (ℕ × Bool)) → random ≡ generator_of number → making first.gates first.outputs r1 ≡ made 32 random → ((p, q), r2) ≡ hidden_table r1 → second.gates ≡ map (moved_gate p) first.gates → AreMovedOutputs p q first.outputs second.outputs → named_first ≡ first → named_second ≡ second → ArePairOf number named_first named_second p q
-are_pair number random r1 r2 first named_first second named_second p q random_is made_is table gates outputs first_is second_is =
+pub are_pair : (number : ℕ) (random r1 r2 : Lcg) (first named_first second named_second : Net) (p q : List (ℕ × Bool)) → random ≡ generator_of number → making first.gates first.outputs r1 ≡ made 32 random → ((p, q), r2) ≡ hidden_matching r1 → second.gates ≡ map (moved_gate p) first.gates → AreMovedOutputs p q first.outputs second.outputs → named_first ≡ first → named_second ≡ second → ArePairOf number named_first named_second p q
+are_pair number random r1 r2 first named_first second named_second p q random_is made_is matching gates outputs first_is second_is =
     let whole = made_is ∙ ap (made 32) random_is in
     record {
       first_gates = ap (λ n. n.gates) first_is ∙ ap (λ m. m.gates) whole;
       first_outputs = ap (λ n. n.outputs) first_is ∙ ap (λ m. m.outputs) whole;
-      table = ap (λ t. t.0) (table ∙ ap (λ m. hidden_table m.random) whole);
+      matching = ap (λ t. t.0) (matching ∙ ap (λ m. hidden_matching m.random) whole);
       second_gates = ap (λ n. n.gates) second_is ∙ gates ∙ ap (λ n. map (moved_gate p) n.gates) (sym first_is);
       second_outputs = subst (λ (n : Net). AreMovedOutputs p q n.outputs named_second.outputs) (sym first_is) (subst (λ (n : Net). AreMovedOutputs p q first.outputs n.outputs) (sym second_is) outputs);
     }

@@ -1,4 +1,4 @@
--- A netlist and the one that it becomes under other places and signs of its ports: the table is a match.
+-- A netlist and the one that it becomes under other places and signs of its ports: the matching is a match.
 use Rattle.std.proofs.Common.{◌≡◌, ℕ, ◌<◌, Bool, true, false, not, List, [], ◌∷◌, ◌++◌, length, map, get_or, refl, sym, ap, subst, ◌∙◌, arith}
 use Rattle.std.proofs.lemmas.List.{get_or-map}
 use Rattle.circuits.specs.declared.netlist.Lit.{Lit}

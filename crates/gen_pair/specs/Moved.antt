@@ -13,7 +13,7 @@ signed inverted literal = if inverted then inverse literal else literal
 abbrev pub input_literal : ℕ → Bool → Lit
 input_literal place negated = record { 0 = 2 * (place + 1) + (if negated then 1 else 0) }
 
--- the literal of an input becomes that of the input it goes to, inverted where the table says so; others stay
+-- the literal of an input becomes that of the input it goes to, inverted where the matching says so; others stay
 abbrev pub moved_literal : List (ℕ × Bool) → Lit → Lit
 moved_literal inputs literal =
     if signal_of literal == 0 || nat_lt (length inputs) (signal_of literal) then literal
@@ -23,7 +23,7 @@ moved_literal inputs literal =
 abbrev pub moved_gate : List (ℕ × Bool) → Gate → Gate
 moved_gate inputs gate = record { a = moved_literal inputs gate.b; b = moved_literal inputs gate.a }
 
--- Each output stands at the place to which it goes, inverted where the table says so.
+-- Each output stands at the place to which it goes, inverted where the matching says so.
 pub record AreMovedOutputs (inputs outputs : List (ℕ × Bool)) (old new : List Lit) : Type 0 where
   pub count : length new ≡ length old
   pub each : (k : ℕ) (d : Lit) → k < length outputs

@@ -26,9 +26,9 @@ hidden_ports n random =
     let places = shuffled (n - 1) (range_with_len 0 n) random in
     signed_places places.0 n places.1
 
--- the table of 64 inputs and 32 outputs: the inputs first, then the outputs
-unfoldable pub hidden_table : Lcg → (List (ℕ × Bool) × List (ℕ × Bool)) × Lcg
-hidden_table random =
+-- the matching of 64 inputs and 32 outputs: the inputs first, then the outputs
+unfoldable pub hidden_matching : Lcg → (List (ℕ × Bool) × List (ℕ × Bool)) × Lcg
+hidden_matching random =
     let inputs = hidden_ports 64 random in
     let outputs = hidden_ports 32 inputs.1 in
     ((inputs.0, outputs.0), outputs.1)

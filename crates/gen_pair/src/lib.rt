@@ -1,4 +1,4 @@
-//! Pairs of netlists that a number gives, each with the table that matches them.
+//! Pairs of netlists that a number gives, each with a match of them.
 
 #![tactic(auto)]
 

@@ -10,22 +10,22 @@ ghost use Rattle.gen_pair.specs.Moved.{signed, moved_literal, moved_gate, AreMov
 use net_core::{Gate, Graph, Lit, Matching};
 use std::alloc::{AllocError, Global};
 
-/// The graph whose ports are those of `graph`, moved as the table says. The table is a match of the two.
+/// The graph whose ports are those of `graph`, moved as the matching says, which is a match of the two.
 pub(crate) fn moved_graph(
     alloc: Global,
     graph: &Graph,
-    table: &Matching,
+    matching: &Matching,
 ) -> Result<Graph, AllocError>
-    requires inputs { IsSignedBijection graph.now.inputs table.now.inputs }
-    requires outputs { IsSignedBijection (length graph.now.outputs) table.now.outputs }
+    requires inputs { IsSignedBijection graph.now.inputs matching.now.inputs }
+    requires outputs { IsSignedBijection (length graph.now.outputs) matching.now.outputs }
     ensures matches { IfOk result
-        (λ second. IsMatchOfFunctions graph.now second table.now.inputs table.now.outputs) }
-    ensures gates { IfOk result (λ second. second.gates ≡ map (moved_gate table.now.inputs) graph.now.gates) }
-    ensures outputs { IfOk result (λ second. AreMovedOutputs table.now.inputs table.now.outputs graph.now.outputs second.outputs) }
+        (λ second. IsMatchOfFunctions graph.now second matching.now.inputs matching.now.outputs) }
+    ensures gates { IfOk result (λ second. second.gates ≡ map (moved_gate matching.now.inputs) graph.now.gates) }
+    ensures outputs { IfOk result (λ second. AreMovedOutputs matching.now.inputs matching.now.outputs graph.now.outputs second.outputs) }
     ensures sound { IfOk result IsGraph }
 {
-    let gates = moved_gates(alloc, graph.gates(), &table.inputs)?;
-    let outputs = moved_outputs(alloc, graph.outputs(), table)?;
+    let gates = moved_gates(alloc, graph.gates(), &matching.inputs)?;
+    let outputs = moved_outputs(alloc, graph.outputs(), matching)?;
     match Graph::new(graph.inputs(), gates, outputs) {
         Some(second) => Ok(second),
         None => unreachable!(),
@@ -74,14 +74,18 @@ pub(crate) fn signed(literal: Lit, inverted: bool) -> Lit
 }
 
 // The outputs, each moved to its place.
-fn moved_outputs(alloc: Global, outputs: &[Lit], table: &Matching) -> Result<Vec<Lit>, AllocError>
-    requires inputs { All (λ entry. entry.0 < 2 ^ 31 - 1) table.now.inputs }
-    requires outputs { IsSignedBijection (length outputs.now) table.now.outputs }
+fn moved_outputs(
+    alloc: Global,
+    outputs: &[Lit],
+    matching: &Matching,
+) -> Result<Vec<Lit>, AllocError>
+    requires inputs { All (λ entry. entry.0 < 2 ^ 31 - 1) matching.now.inputs }
+    requires outputs { IsSignedBijection (length outputs.now) matching.now.outputs }
     ensures { IfOk result
-        (λ moved. AreMovedOutputs table.now.inputs table.now.outputs outputs.now moved.items) }
+        (λ moved. AreMovedOutputs matching.now.inputs matching.now.outputs outputs.now moved.items) }
 {
     let mut moved = vec![in alloc; Lit(0); outputs.len()]?;
-    put_outputs(outputs, &table.inputs, &table.outputs, &mut moved);
+    put_outputs(outputs, &matching.inputs, &matching.outputs, &mut moved);
     Ok(moved)
 }
 

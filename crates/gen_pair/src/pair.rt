@@ -8,7 +8,7 @@ ghost use Rattle.gen_pair.specs.Drawing.{generator_of};
 ghost use Rattle.gen_pair.specs.Mixing.{making, made};
 ghost use Rattle.gen_pair.specs.Names.{HasNames};
 ghost use Rattle.gen_pair.specs.Pairs.{HasSizes, ArePairOf};
-ghost use Rattle.gen_pair.specs.Shuffles.{hidden_table};
+ghost use Rattle.gen_pair.specs.Shuffles.{hidden_matching};
 
 use crate::hidden::hidden_ports;
 use crate::moving::moved_graph;
@@ -19,7 +19,7 @@ use net_file::Named;
 use rand_pcg::Lcg64Xsh32;
 use std::alloc::{AllocError, Global};
 
-/// Two netlists with names of their ports, and a table that matches them.
+/// Two netlists with names of their ports, and a match of them.
 #[derive(Debug, Drop)]
 pub struct GenPair {
     pub first: Named,
@@ -55,7 +55,7 @@ pub fn make(alloc: Global, number: u64) -> Result<GenPair, AllocError>
 {
     let mut random = Lcg64Xsh32::new(number, STREAM);
     let first = first_graph(alloc, &mut random)?;
-    let hidden = hidden_table(alloc, &mut random)?;
+    let hidden = hidden_matching(alloc, &mut random)?;
     let second = moved_graph(alloc, &first, &hidden)?;
     let first = with_names(alloc, first, FIRST_LETTERS)?;
     let second = with_names(alloc, second, SECOND_LETTERS)?;
@@ -80,10 +80,10 @@ fn first_graph(alloc: Global, random: &mut Lcg64Xsh32) -> Result<Graph, AllocErr
 }
 
 // Where the ports go, from the generator's next words: the inputs first, then the outputs.
-fn hidden_table(alloc: Global, random: &mut Lcg64Xsh32) -> Result<Matching, AllocError>
-    ensures inputs { IfOk result (λ table. IsSignedBijection 64 table.inputs) }
-    ensures outputs { IfOk result (λ table. IsSignedBijection 32 table.outputs) }
-    ensures drawn { IfOk result (λ table. ((table.inputs, table.outputs), random.new) ≡ hidden_table random.old) }
+fn hidden_matching(alloc: Global, random: &mut Lcg64Xsh32) -> Result<Matching, AllocError>
+    ensures inputs { IfOk result (λ matching. IsSignedBijection 64 matching.inputs) }
+    ensures outputs { IfOk result (λ matching. IsSignedBijection 32 matching.outputs) }
+    ensures drawn { IfOk result (λ matching. ((matching.inputs, matching.outputs), random.new) ≡ hidden_matching random.old) }
 {
     let inputs = hidden_ports(alloc, random, INPUTS)?;
     let outputs = hidden_ports(alloc, random, OUTPUTS)?;

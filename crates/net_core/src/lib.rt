@@ -1,4 +1,4 @@
-//! Netlists in any order and in order, their evaluation, and port tables.
+//! Netlists in any order and in order, their evaluation, and matchings.
 #![tactic(auto)]
 
 mod cones;

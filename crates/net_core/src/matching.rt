@@ -1,4 +1,4 @@
-//! Port tables of two circuits.
+//! Matchings of two circuits' ports.
 
 ghost use Rattle.std.specs.Prelude.{◌↔◌, IsTrue};
 ghost use Rattle.circuits.specs.Bijections.{IsSignedBijection};

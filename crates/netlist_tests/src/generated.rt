@@ -1,5 +1,5 @@
 //! The pair of the number 7, against a model that was written in another language from the generator's description
-//! alone: its texts, by their lengths and a digest of their bytes, and the ends of its table.
+//! alone: its texts, by their lengths and a digest of their bytes, and the ends of its match.
 
 use gen_pair::{GenPair, make};
 use net_print::{put_aig, put_blif};

@@ -41,12 +41,12 @@ fn evaluates(rt: HostRuntime) -> Result<(), Fail> {
     Ok(())
 }
 
-// Whether a table with these entries of inputs, and one of an output, is one of n inputs and m outputs.
+// Whether a matching with these entries of inputs, and one of an output, is one of n inputs and m outputs.
 fn has_shape(alloc: Global, inputs: &[(u32, bool)], n: u32, m: u32) -> Result<bool, AllocError> {
     Ok(matching(alloc, inputs, &[(0, false)])?.check_shape(n, m))
 }
 
-// The entries of two inputs, n and m, and whether a table with them and an output has that shape.
+// The entries of two inputs, n and m, and whether a matching with them and an output has that shape.
 type Shape = (&'static [(u32, bool)], u32, u32, bool);
 
 static SHAPES: [Shape; 4] = [

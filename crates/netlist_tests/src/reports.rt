@@ -43,7 +43,7 @@ fn is_table_written(
     Ok(out.as_slice() == text)
 }
 
-// The same of a table with these entries.
+// The same of a matching with these entries.
 fn is_written(
     alloc: Global,
     first: &Named,
@@ -64,7 +64,7 @@ fn second(alloc: Global) -> Result<Named, SampleFault> {
     circuit(alloc, &[b"i0", b"= not "], &[b"y"])
 }
 
-// Whether the table of both circuits is written well, in either direction.
+// Whether the port table of both circuits is written well, in either direction.
 fn are_written(alloc: Global, first: &Named, second: &Named) -> Result<bool, AllocError> {
     let inputs = [(1, true), (0, false)];
     let outputs = [(0, true)];

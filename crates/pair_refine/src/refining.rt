@@ -38,7 +38,7 @@ use std::alloc::{AllocError, Global};
 /// Where a ban is within the held pairs alone, or a port has no way left, its ban is answered, and the pass ends there.
 ///
 /// It is complete, and expensive for it: each way is tried against all bans, all held pairs, and all facts of two inputs. The search propagates more
-/// cheaply, and refines whole tables alone, of which no way is left to try.
+/// cheaply, and refines whole matchings alone, of which no way is left to try.
 ///
 /// # Errors
 ///

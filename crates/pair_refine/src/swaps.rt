@@ -32,8 +32,8 @@ pub(crate) struct Exchange {
 }
 
 /// The ban of the pairs of an output and two inputs, by a claim of these that is decided otherwise than the one which the pairs
-/// carry it to. It looks at all facts, for each open way anew, which is good enough because the search refines whole tables alone: no
-/// way is open there, and each fact is looked at once.
+/// carry it to. It looks at all facts, for each open way anew, which is good enough because the search refines whole matchings
+/// alone: no way is open there, and each fact is looked at once.
 pub(crate) fn swap_ban(
     alloc: Global,
     grounds: &Grounds<'_>,

@@ -186,7 +186,7 @@ fn mark(marks: &mut [bool], place: u32) {
     }
 }
 
-// Whether a way to pair two ports is left, plain or negated.
+// Whether a way to pair two ports is left, plain or inverted.
 fn has_way(domains: &Domains, kind: PortKind, from: u32, to: u32) -> bool {
     let plain = Pair {
         kind,
@@ -197,11 +197,11 @@ fn has_way(domains: &Domains, kind: PortKind, from: u32, to: u32) -> bool {
     if !is_known(domains, plain) {
         return false;
     }
-    let negated = Pair {
+    let inverted = Pair {
         kind,
         from,
         to,
         flip: true,
     };
-    domains.remains(plain) | domains.remains(negated)
+    domains.remains(plain) | domains.remains(inverted)
 }

@@ -24,7 +24,7 @@ abbrev pub second_port : Side → ℕ → ℕ → ℕ
 second_port First port other = other
 second_port Second port other = port
 
--- the ways of a port of a circuit, numbered: with port 0 of the other, plain and then negated, with port 1, and so on
+-- the ways of a port of a circuit, numbered: with port 0 of the other, plain and then inverted, with port 1, and so on
 abbrev pub nth_way : Side → PortKind → ℕ → ℕ → Pair
 nth_way side kind port number =
     way kind (first_port side port (number / 2)) (second_port side port (number / 2)) (number % 2 == 1)

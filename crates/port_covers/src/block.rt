@@ -109,7 +109,7 @@ fn ways_of(alloc: Global, kind: PortKind, from: &[u32], to: &[u32]) -> Result<Ve
     Ok(list)
 }
 
-// Adds the ways to pair a port with each of some others, plain before negated.
+// Adds the ways to pair a port with each of some others, plain before inverted.
 fn add_row(list: &mut Vec<Pair>, kind: PortKind, from: u32, to: &[u32]) -> Result<(), AllocError>
     ensures { OnOk result (list.new.items ≡ list.old.items ++ row kind from to.now) }
 {

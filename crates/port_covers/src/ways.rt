@@ -6,7 +6,7 @@ ghost use Rattle.port_covers.specs.Ways.{nth_way};
 use circuits::{Pair, PortKind};
 use net_core::Side;
 
-/// Way number `number` of a port: with port 0 of the other circuit, plain and then negated, with port 1, and so on.
+/// Way number `number` of a port: with port 0 of the other circuit, plain and then inverted, with port 1, and so on.
 pub fn nth_way(side: Side, kind: PortKind, port: u32, number: u64) -> Pair
     requires { number < 2 ^ 33 }
     ensures { result ≡ nth_way side kind port number }

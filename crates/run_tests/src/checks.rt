@@ -123,7 +123,7 @@ static BAD_ACCOUNTS: [(&[u8], &[u8]); 16] = [
         b"npnp 1\nmatch i0-0 i1-1 o0-0\nl : 7 8 1 2\nl : 7 8 4 5 3\nend\n",
         b"rejected line 3 refutation\n",
     ),
-    // tables that are none, and one that is no match
+    // matchings that are none, and one that is no match
     (
         b"npnp 1\nmatch i0-0 i1-0 o0-0\n",
         b"rejected line 2 conclusion\n",

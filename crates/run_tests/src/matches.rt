@@ -192,7 +192,7 @@ fn writes_whole_accounts_or_none(rt: HostRuntime) -> Result<(), Fail> {
     Ok(())
 }
 
-/// The two tables under which the AND is the OR.
+/// The two matchings under which the AND is the OR.
 static AND_IS_OR: [&[u8]; 2] = [
     b"matched\ninput 0 i0 = not input 0 i0\ninput 1 i1 = not input 1 i1\noutput 0 o0 = not output 0 o0\n",
     b"matched\ninput 0 i0 = not input 1 i1\ninput 1 i1 = not input 0 i0\noutput 0 o0 = not output 0 o0\n",

@@ -1,4 +1,4 @@
-//! Graphs and port tables, from arrays.
+//! Graphs and matchings, from arrays.
 
 ghost use Rattle.std.specs.Prelude.{◌≡◌, ◌<◌, ◌⊎◌, Err, IfOk, length, map};
 ghost use Rattle.circuits.specs.Netlists.{IsOrdered};
@@ -64,7 +64,7 @@ fn literals_of(alloc: Global, numbers: &[u32]) -> Result<Vec<Lit>, AllocError>
     numbers.iter().map(|number| Lit(*number)).collect(alloc)
 }
 
-/// The port table with these entries.
+/// The matching with these entries.
 pub fn matching(
     alloc: Global,
     inputs: &[(u32, bool)],

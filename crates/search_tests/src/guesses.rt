@@ -1,4 +1,4 @@
-//! Circuits for which a table is guessed.
+//! Circuits for which a matching is guessed.
 
 ghost use Rattle.std.specs.Prelude.{◌≡◌, ◌<◌};
 
@@ -18,7 +18,7 @@ fn guessed(alloc: Global, graphs: &Graphs<'_>, seed: u64) -> Result<Option<Match
     }
 }
 
-/// Whether a table, where there is one, inverts an output.
+/// Whether a matching, where there is one, inverts an output.
 fn inverts(table: &Option<Matching>) -> Option<bool> {
     match table {
         Some(table) => Some(table.outputs.iter().any(|entry| entry.1)),
@@ -33,7 +33,7 @@ fn guess_inverts(alloc: Global, first: Sample, second: Sample) -> Result<Option<
     Ok(inverts(&table))
 }
 
-/// A circuit beside an AND, and whether the table that is guessed inverts the output.
+/// A circuit beside an AND, and whether the matching that is guessed inverts the output.
 const GUESSED: &[(Sample, Option<bool>)] = &[(OR, Some(true)), (XOR, None)];
 
 #[test]
@@ -44,7 +44,7 @@ fn guesses_an_and_as_an_or_alone(rt: HostRuntime) -> Result<(), Fail> {
     Ok(())
 }
 
-/// The number of the vector that a table makes of a vector of three inputs.
+/// The number of the vector that a matching makes of a vector of three inputs.
 fn moved_code(table: &Matching, code: u32) -> u32 {
     let mut moved = 0u32;
     for (input, entry) in table.inputs.iter().enumerate() {
@@ -54,7 +54,7 @@ fn moved_code(table: &Matching, code: u32) -> u32 {
     moved
 }
 
-/// Whether a table of circuits of three inputs and one output is right on all vectors.
+/// Whether a matching of circuits of three inputs and one output is right on all vectors.
 fn is_right(alloc: Global, graphs: &Graphs<'_>, table: &Matching) -> Result<bool, Fail> {
     let sign = table.outputs.iter().any(|entry| entry.1);
     for code in 0..8u32 {
@@ -67,7 +67,7 @@ fn is_right(alloc: Global, graphs: &Graphs<'_>, table: &Matching) -> Result<bool
     Ok(true)
 }
 
-/// Whether a right table is guessed of a drawn circuit and of what a drawn table makes of it.
+/// Whether a match is guessed of a drawn circuit and of what a drawn matching makes of it.
 fn finds_moved(alloc: Global, number: u64) -> Result<bool, Fail> {
     let first = drawn(alloc, number)?;
     let second = drawn_moved(alloc, number)?;

@@ -1,4 +1,4 @@
-//! Tables that may be a match.
+//! Matchings that may be a match.
 
 ghost use Rattle.std.specs.Prelude.{◌≡◌, IfOk, IfSome, length};
 ghost use Rattle.circuits.specs.Matches.{HavePorts};
@@ -22,11 +22,11 @@ use port_cells::{Cells, Slack};
 use port_sides::PairableGraphs;
 use std::alloc::{AllocError, Global};
 
-/// How many words of gates may be computed, about a second's. With half as many tables of two adders of 128 bits and of a
+/// How many words of gates may be computed, about a second's. With half as many matchings of two adders of 128 bits and of a
 /// sorter of 64 numbers, all of them with negated ports, weren't found by a hair.
 const MOST_WORDS: u64 = 1 << 29;
 
-/// Which part of its words a guess of little effort may compute. Most tables that are found are found by then, and of circuits
+/// Which part of its words a guess of little effort may compute. Most matchings that are found are found by then, and of circuits
 /// without a match counts show it in most cases once that much was tried.
 const LITTLE_SHARE: u64 = 8;
 
@@ -45,7 +45,7 @@ const LITTLE_RUNS_EACH: u64 = 2;
 /// 16 values, fewer than pairs of vectors are taken.
 const FEW_OPEN: usize = 4;
 
-/// How often a search begins anew, with other choices. Most tables that are found are found in the first two rounds.
+/// How often a search begins anew, with other choices. Most matchings that are found are found in the first two rounds.
 const ROUNDS: u32 = 8;
 
 /// How many guesses may fail in the first round. In each further round half as many more may, some 390 in all. With half as
@@ -79,9 +79,9 @@ const MANY_BLOCKS: u64 = 16;
 /// parity, they never do, and of two numbers that are compared always.
 const MOST_IN_VAIN: u32 = 4;
 
-/// How many responses of gates to inputs may be compared so that inputs are paired by likeness. With an eighth of them tables of
-/// the count of 128 inputs, and of the parity of 128 beside an AND, were found whose gates aren't in line, which isn't proved in
-/// ten seconds.
+/// How many responses of gates to inputs may be compared so that inputs are paired by likeness. With an eighth of them matchings
+/// of the count of 128 inputs, and of the parity of 128 beside an AND, were found whose gates aren't in line, which isn't proved
+/// in ten seconds.
 const MOST_RESPONSES: u64 = 1 << 24;
 
 /// Up to how many words of gates are computed for it at once, and of how many inputs, which bounds the memory to some twenty
@@ -130,7 +130,7 @@ enum Attempt {
     Stopped,
 }
 
-/// What finds tables that may be a match, by counts of how outputs change with inputs and by vectors. It leaves no
+/// What finds matchings that may be a match, by counts of how outputs change with inputs and by vectors. It leaves no
 /// evidence, and where it finds nothing that says nothing of whether there is a match.
 pub struct Guesser<'a> {
     first: Circuit<'a>,
@@ -150,7 +150,7 @@ pub struct Guesser<'a> {
     are_signs_linked: bool,
     /// How often in this round counts under assignments split no cell of inputs whose signs are known.
     in_vain: u32,
-    /// Whether all that was counted was counted on all vectors. Then a search that is exhausted has missed no table.
+    /// Whether all that was counted was counted on all vectors. Then a search that is exhausted has missed no match.
     is_exact: bool,
     /// How many words of gates were computed for the first counts, and how many more may be, with little effort and at all.
     counted: u64,
@@ -228,12 +228,12 @@ impl<'a> Guesser<'a> {
         })
     }
 
-    /// Keeps a vector of the first circuit's inputs on which a table failed, so that further tables agree on it.
+    /// Keeps a vector of the first circuit's inputs on which a matching failed, so that further matchings agree on it.
     pub fn keep(&mut self, vector: &Bits) {
         self.kept.keep(vector);
     }
 
-    /// A table whose outputs agree on all vectors that were tried. None where none is found within this effort, which bounds
+    /// A matching whose outputs agree on all vectors that were tried. None where none is found within this effort, which bounds
     /// what all guesses take together.
     ///
     /// # Errors
@@ -246,7 +246,7 @@ impl<'a> Guesser<'a> {
         effort: Effort,
     ) -> Result<Option<Matching>, AllocError>
         ensures { IfOk result (λ found. IfSome found
-            (λ table. HavePorts graphs.now.first graphs.now.second table.inputs table.outputs)) }
+            (λ matching. HavePorts graphs.now.first graphs.now.second matching.inputs matching.outputs)) }
     {
         self.effort = effort;
         let root = State::new(alloc, self.first.graph())?;
@@ -275,9 +275,9 @@ impl<'a> Guesser<'a> {
         Ok(None)
     }
 
-    // Searches with all open signs plain in the first round: without that 60 pairs without negated ports take 18 s in place of
-    // 5, and three of them aren't guessed. Then with signs that vectors decide, in every other round (in all rounds none of 29
-    // pairs changes), and then with them open.
+    // Searches with all open signs plain in the first round: without that 60 pairs without negated ports take 18 s instead of 5,
+    // and three of them aren't guessed. Then with signs that vectors decide, in every other round (in all rounds none of 29 pairs
+    // changes), and then with them open.
     fn search_round(
         &mut self,
         alloc: Global,

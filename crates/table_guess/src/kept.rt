@@ -1,11 +1,11 @@
-//! Vectors on which guessed tables failed.
+//! Vectors on which guessed matchings failed.
 
 use bit_list::Bits;
 use flip_sim::{Lanes, replicated, with_bit};
 use std::alloc::{AllocError, Global};
 
-/// Vectors of the first circuit's inputs on which tables failed, the last 256 of them: one run tries a table on all, and at
-/// most sixteen tables are compared.
+/// Vectors of the first circuit's inputs on which matchings failed, the last 256 of them: one run tries a matching on all, and at
+/// most sixteen are compared.
 #[derive(Drop)]
 pub(crate) struct Kept {
     /// A bit of each vector, for each input.

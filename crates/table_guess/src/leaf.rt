@@ -1,4 +1,4 @@
-//! Whole tables of inputs, tried on vectors.
+//! Whole matchings of inputs, tried on vectors.
 
 use crate::circuit::Circuit;
 use crate::kept::Kept;
@@ -7,16 +7,16 @@ use flip_sim::{Draws, Lanes, all_lanes, blocks_of_all};
 use net_core::Side;
 use std::alloc::{AllocError, Global};
 
-/// How many blocks of 256 drawn vectors a table is tried on at first: most wrong ones fail on them, for a hundredth of what
+/// How many blocks of 256 drawn vectors a matching is tried on at first: most wrong ones fail on them, for a hundredth of what
 /// trying it on all takes. One block does as well for 29 pairs.
 const FIRST_BLOCKS: u64 = 8;
 
-/// How many further ones a table of many inputs is tried on, some 200,000 vectors, where all aren't fewer: a wrong table costs
-/// the oracle more.
+/// How many further ones a matching of many inputs is tried on, some 200,000 vectors, where all aren't fewer: a wrong matching
+/// costs the oracle more.
 const MORE_BLOCKS: u64 = 768;
 
 /// Pairs the outputs of circuits whose inputs are paired by what they have on vectors, where that can be: on those on which
-/// tables failed before, which are one block, on a few drawn ones, and on all where the inputs are few. So most wrong tables
+/// matchings failed before, which are one block, on a few drawn ones, and on all where the inputs are few. So most wrong matchings
 /// are left before what takes longest.
 pub(crate) fn with_paired_outputs(
     alloc: Global,
@@ -40,7 +40,7 @@ pub(crate) fn with_paired_outputs(
     }
 }
 
-// Pairs outputs by the vectors on which tables failed.
+// Pairs outputs by the vectors on which matchings failed.
 fn on_kept(
     alloc: Global,
     state: State,

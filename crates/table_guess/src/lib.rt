@@ -1,4 +1,4 @@
-//! Tables that may be a match, found without evidence, and vectors that pairs are tried on.
+//! Matchings that may be a match, found without evidence, and vectors that pairs are tried on.
 //!
 //! Where a comment here or in `cell_splits` says what another value of a constant does, copies in plain Rust were run on pairs
 //! of `bench/circuits.py` with negated ports, with run's seed 1. The 29 pairs are of kinds that take the first phase long or

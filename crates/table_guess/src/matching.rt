@@ -1,4 +1,4 @@
-//! Tables from cells.
+//! Matchings from cells.
 
 ghost use Rattle.std.specs.Prelude.{◌≡◌, IfOk, IfSome, length};
 ghost use Rattle.circuits.specs.Matches.{HavePorts};
@@ -11,23 +11,23 @@ use port_cells::{Cells, port_at};
 use port_sides::PairableGraphs;
 use std::alloc::{AllocError, Global};
 
-/// The table of cells, if they make one: within a cell the first literal goes to the first, and so on.
+/// The matching of cells, if they make one: within a cell the first literal goes to the first, and so on.
 pub(crate) fn matching_of(
     alloc: Global,
     graphs: &PairableGraphs<'_>,
     state: &State,
 ) -> Result<Option<Matching>, AllocError>
     ensures { IfOk result (λ found. IfSome found
-        (λ table. HavePorts graphs.now.first graphs.now.second table.inputs table.outputs)) }
+        (λ matching. HavePorts graphs.now.first graphs.now.second matching.inputs matching.outputs)) }
 {
     let inputs = graphs.ports(PortKind::Input);
     let outputs = graphs.ports(PortKind::Output);
-    let table = Matching {
+    let matching = Matching {
         inputs: entries(alloc, &state.inputs)?,
         outputs: entries(alloc, &state.outputs)?,
     };
-    if table.check_shape(inputs, outputs) {
-        return Ok(Some(table));
+    if matching.check_shape(inputs, outputs) {
+        return Ok(Some(matching));
     }
     Ok(None)
 }

@@ -19,7 +19,7 @@ use word_sim::{Rails, Words, and_lanes, first_bit, rails_eval, simulate};
 const BLOCK: usize = 8;
 
 /// Vectors of the first circuit's inputs, 64 in a word, and what its outputs have on them: all vectors of at most eleven
-/// inputs, else 2,048 that are drawn, which make room for those on which whole tables failed.
+/// inputs, else 2,048 that are drawn, which make room for those on which whole matchings failed.
 #[derive(Debug)]
 pub struct Trials {
     /// A column for each input.
@@ -65,7 +65,7 @@ impl Trials {
 }
 
 impl Trials {
-    /// Keeps a vector on which a whole table failed, in place of the one that stands there the longest.
+    /// Keeps a vector on which a whole matching failed, in place of the one that stands there the longest.
     pub fn keep(&mut self, alloc: Global, first: &Graph, vector: &Bits) -> Result<(), AllocError>
         requires trials { AreTrials first.now self.old }
         requires places { length vector.now ≡ first.now.inputs }

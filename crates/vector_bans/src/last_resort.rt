@@ -28,7 +28,7 @@ use std::alloc::{AllocError, Global};
 use word_sim::Tri;
 
 /// Holds a ban of pairs on which values show that an output differs from its partner, and answers its number. The claims of one
-/// input of both outputs are decided first. What these show has one pair or two, and refutes more tables than the vector, so
+/// input of both outputs are decided first. What these show has one pair or two, and refutes more matchings than the vector, so
 /// that its ban is held only where they show none.
 ///
 /// # Errors

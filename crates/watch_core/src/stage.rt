@@ -7,7 +7,7 @@ pub enum Stage {
     Reading { file: u32 },
     /// An account is read and checked: how many of its bytes are left, and how many it has.
     Checking { left: u64, bytes: u64 },
-    /// A table is guessed and compared: how many were before.
+    /// A matching is guessed and compared: how many were before.
     Guessing { guesses: u32 },
     /// An output of the first circuit is compared with its partner: its number, and how many outputs there are.
     Proving { output: u32, outputs: u32 },
@@ -27,7 +27,7 @@ impl fmt::Display for Stage {
             Stage::Checking { left, bytes } => {
                 write!(f, "checking the account, {left} of {bytes} bytes left")
             }
-            Stage::Guessing { guesses } => write!(f, "guessing a table, {guesses} tried"),
+            Stage::Guessing { guesses } => write!(f, "guessing a matching, {guesses} tried"),
             Stage::Proving { output, outputs } => write!(f, "proving output {output} of {outputs}"),
             Stage::Deciding { claims } => write!(f, "deciding claims, {claims} decided"),
             Stage::Banning { bans } => write!(f, "searching pairs, {bans} bans held"),

@@ -1,4 +1,4 @@
-//! Tables guessed.
+//! Matchings guessed.
 
 use anyhow::{Result, bail};
 use net_core::Graphs;
@@ -6,7 +6,7 @@ use port_sides::PairableGraphs;
 use std::alloc::{AllocError, Global};
 use table_guess::{Effort, Guesser};
 
-/// Prints whether a table of the two circuits is found that may be a match. It isn't proved to be one.
+/// Prints whether a matching of the two circuits is found that may be a match. It isn't proved to be one.
 pub(crate) fn run<R: Print + AllocGlobal>(rt: &R, graphs: &Graphs<'_>, seed: u64) -> Result<()> {
     let Some(pairable) = PairableGraphs::new(graphs) else {
         bail!("the numbers of ports differ")

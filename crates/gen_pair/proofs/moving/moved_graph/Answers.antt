@@ -9,8 +9,8 @@ use Rattle.gen_pair.proofs.moving.moved_graph.Goals as goal
 pub unreachable-requires : goal.unreachable-requires
 unreachable-requires c =
     let graph = c.args.graph.now in
-    let inputs = c.args.table.now.inputs in
-    let outputs = c.args.table.now.outputs in
+    let inputs = c.args.matching.now.inputs in
+    let outputs = c.args.matching.now.outputs in
     let second : Net = record { inputs = c.inputs.result; gates = c.in_ok-gates.gates.items; outputs = c.in_ok-outputs.outputs.items } in
     let gates = c.in_ok-gates.ensures ∙ ap (λ p. map (moved_gate p) c.gates.result.now) c.deref.ensures.value ∙ ap (map (moved_gate inputs)) c.gates.ensures.value in
     let moves = subst (λ o. AreMovedOutputs inputs outputs o c.in_ok-outputs.outputs.items) c.outputs.ensures.value c.in_ok-outputs.ensures in
@@ -19,8 +19,8 @@ unreachable-requires c =
 pub returns-clause-matches : goal.returns-clause-matches
 returns-clause-matches c =
     let graph = c.args.graph.now in
-    let inputs = c.args.table.now.inputs in
-    let outputs = c.args.table.now.outputs in
+    let inputs = c.args.matching.now.inputs in
+    let outputs = c.args.matching.now.outputs in
     let is = c.in-Some.ensures.graph in
     let gates = ap (λ (n : Net). n.gates) is ∙ c.in_ok-gates.ensures ∙ ap (λ p. map (moved_gate p) c.gates.result.now) c.deref.ensures.value ∙ ap (map (moved_gate inputs)) c.gates.ensures.value in
     let made = subst (λ o. AreMovedOutputs inputs outputs o c.in_ok-outputs.outputs.items) c.outputs.ensures.value c.in_ok-outputs.ensures in

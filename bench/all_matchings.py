@@ -1,6 +1,6 @@
-"""Pairs of small circuits, drawn by a seed, matched by a program and by trying all tables. See all_tables.sh.
+"""Pairs of small circuits, drawn by a seed, matched by a program and by trying all matchings. See all_matchings.sh.
 
-    all_tables.py TOP [--pairs N] [--seed SEED] [--phase PHASE] [--program PATH] [--limit SECONDS] [--late FOLDER]
+    all_matchings.py TOP [--pairs N] [--seed SEED] [--phase PHASE] [--program PATH] [--limit SECONDS] [--late FOLDER]
 """
 import argparse
 import os
@@ -9,7 +9,7 @@ import subprocess
 import sys
 import tempfile
 import netlists
-from measured_run import table_in, timed
+from measured_run import matching_in, timed
 
 KINDS = ("moved", "written anew", "gate changed", "vectors exchanged", "output from another", "drawn apart")
 
@@ -112,11 +112,11 @@ def drawn_first(draws, count, outputs):
 
 
 def is_match(first, second, printed):
-    """Whether the table in a report makes two netlists equal on all vectors."""
-    tables = table_in(printed, first)
-    if any(None in table or sorted(to for to, _ in table) != list(range(len(table))) for table in tables):
+    """Whether the port table in a report makes two netlists equal on all vectors."""
+    matching = matching_in(printed, first)
+    if any(None in ways or sorted(to for to, _ in ways) != list(range(len(ways))) for ways in matching):
         return False
-    return tables_of(netlists.renamed(first, *tables)) == tables_of(second)
+    return tables_of(netlists.renamed(first, *matching)) == tables_of(second)
 
 
 def judged(program, first, second, limit, folder):
@@ -129,7 +129,7 @@ def judged(program, first, second, limit, folder):
     if status not in (0, 1):
         return "late" if status is None else printed.strip(), seconds, "" if status is None else f"status {status}"
     if (status == 0) != has_match:
-        return printed, seconds, f"all tables say {'matched' if has_match else 'none'}"
+        return printed, seconds, f"all matchings say {'matched' if has_match else 'none'}"
     if status == 0 and not is_match(first, second, printed):
         return printed, seconds, "not a match"
     accepted = subprocess.run([program, "check", *names], capture_output=True, text=True)
@@ -140,7 +140,7 @@ def judged(program, first, second, limit, folder):
 
 
 def judged_alone(program, phase, first, second, limit, folder):
-    """The same of one phase of a plain copy. The first phase may miss a match; a table that it finds is one, since it tries all vectors of so few inputs."""
+    """The same of one phase of a plain copy. The first phase may miss a match; a matching that it finds is one, since it tries all vectors of so few inputs."""
     names = [os.path.join(folder, it) for it in ("first.aag", "second.aag")]
     netlists.to_text(first, names[0])
     netlists.to_text(second, names[1])
@@ -153,7 +153,7 @@ def judged_alone(program, phase, first, second, limit, folder):
         return "matched", seconds, "" if is_match(first, second, printed) else "not a match"
     if said == "nothing":
         return "missed" if has_match else "nothing", seconds, ""
-    return said, seconds, "all tables say matched" if has_match else ""
+    return said, seconds, "all matchings say matched" if has_match else ""
 
 
 def program_of(top, choices, folder):
@@ -167,7 +167,7 @@ def program_of(top, choices, folder):
 
 
 def main():
-    words = argparse.ArgumentParser(prog="bench/all_tables.sh", description="small pairs by a program and by trying all tables")
+    words = argparse.ArgumentParser(prog="bench/all_matchings.sh", description="small pairs by a program and by trying all matchings")
     words.add_argument("top")
     words.add_argument("--pairs", type=int, default=2000)
     words.add_argument("--seed", type=int, default=1)
@@ -202,7 +202,7 @@ def main():
         seconds, ports = slowest.get(kind, (0, ""))
         print(f"{kind:<22}" + "".join(f"{counts.get((kind, it), 0):>10}" for it in answers) + f"  {seconds:.2f} s ({ports})")
     answered = sum(v for (_, it), v in counts.items() if it in ("matched", "none", "nothing"))
-    print(f"{choices.pairs} pairs, {answered} answered as by all tables{'' if choices.phase else ' with an accepted account'}, {wrong} wrong")
+    print(f"{choices.pairs} pairs, {answered} answered as by all matchings{'' if choices.phase else ' with an accepted account'}, {wrong} wrong")
     sys.exit(wrong > 0)
 
 

@@ -1,10 +1,10 @@
 use Rattle.std.proofs.Common.{ℕ, Bool, List, ap, ◌∙◌}
 use Rattle.rand_pcg.specs.Lcg.{Lcg}
-use Rattle.gen_pair.specs.Shuffles.{hidden_ports, hidden_table}
-use Rattle.gen_pair.proofs.pair.hidden_table.Goals as goal
+use Rattle.gen_pair.specs.Shuffles.{hidden_ports, hidden_matching}
+use Rattle.gen_pair.proofs.pair.hidden_matching.Goals as goal
 
 pub returns-clause-drawn : goal.returns-clause-drawn
-unfolding hidden_table
+unfolding hidden_matching
 returns-clause-drawn c =
     let first = c.in_ok-inputs.ensures.drawn in
     let inputs = hidden_ports 64 c.args.random.now in
