@@ -10,6 +10,6 @@ pub mod step_laws;
 
 pub use conclusion::Conclusion;
 pub use fact::{Evidence, Fact, FactHead};
-pub use ports::{have_as_many, ports_in, way};
+pub use ports::{have_as_many, port_on, ports_in, way};
 pub use sent::values_sent;
 pub use step::{Ban, Step, Tallied};

@@ -3,9 +3,10 @@
 ghost use Rattle.std.specs.Prelude.{◌≡◌, ◌↔◌, IsTrue};
 ghost use Rattle.account_core.specs.Covers.{way};
 ghost use Rattle.account_core.specs.Ports.{HaveAsMany, ports_in};
+ghost use Rattle.account_core.specs.Tallies.{port_on};
 
 use circuits::{Pair, PortKind};
-use net_core::{Graph, Graphs};
+use net_core::{Graph, Graphs, Side};
 
 /// Whether two circuits have as many inputs, and as many outputs.
 pub fn have_as_many(graphs: &Graphs<'_>) -> bool
@@ -34,5 +35,15 @@ pub fn way(kind: PortKind, from: u32, to: u32, flip: bool) -> Pair
         from,
         to,
         flip,
+    }
+}
+
+/// A pair's port of a circuit.
+pub fn port_on(side: Side, pair: Pair) -> u32
+    ensures { result ≡ port_on side pair }
+{
+    match side {
+        Side::First => pair.from,
+        Side::Second => pair.to,
     }
 }

@@ -4,5 +4,6 @@
 mod pairable;
 mod side;
 
+pub use account_core::port_on;
 pub use pairable::PairableGraphs;
-pub use side::{other_side, port_on};
+pub use side::other_side;

@@ -1,9 +1,8 @@
-//! A pair's port of either circuit.
+//! The two circuits.
 
 ghost use Rattle.std.specs.Prelude.{◌≡◌};
-ghost use Rattle.account_core.specs.Tallies.{other_side, port_on};
+ghost use Rattle.account_core.specs.Tallies.{other_side};
 
-use circuits::Pair;
 use net_core::Side;
 
 /// The other one of two circuits.
@@ -13,15 +12,5 @@ pub fn other_side(side: Side) -> Side
     match side {
         Side::First => Side::Second,
         Side::Second => Side::First,
-    }
-}
-
-/// A pair's port of a circuit.
-pub fn port_on(side: Side, pair: Pair) -> u32
-    ensures { result ≡ port_on side pair }
-{
-    match side {
-        Side::First => pair.from,
-        Side::Second => pair.to,
     }
 }
