@@ -22,6 +22,7 @@ use fact_bans::Seen;
 use items::Items;
 use net_core::{Matching, SignalValue};
 use oracle_core::Oracle;
+use port_covers::needed::place_of;
 use port_sides::PairableGraphs;
 use query_core::Ledger;
 use std::alloc::{AllocError, Global};
@@ -190,18 +191,6 @@ fn without_one(
         Some(fewer) => Ok(fewer),
         None => Ok(pairs),
     }
-}
-
-// Where a pair stands among some. A search from the front is good enough because a circuit is evaluated for each pair.
-fn place_of(pairs: &[Pair], pair: Pair) -> Option<usize>
-    ensures { IfSome result (λ place. place < length pairs.now) }
-{
-    for (place, other) in pairs.iter().enumerate() {
-        if *other == pair {
-            return Some(place);
-        }
-    }
-    None
 }
 
 // The pairs without that at a place, where it is of an input and the values show the difference without it.
