@@ -1,5 +1,5 @@
 -- That the relation and the function say the same of what the pairs make of values.
-use Rattle.std.proofs.Common.{◌≡◌, ◌≢◌, ◌⊎◌, ℕ, zero, suc, ◌<◌, ◌&&◌, Bool, false, eqb, List, [], ◌∷◌, length, get_or, refl, sym, ap, ◌∙◌, inl, inr, arith, eqb-true, eq-eqb, ext_get_or}
+use Rattle.std.proofs.Common.{◌≡◌, ◌≢◌, ◌⊎◌, ℕ, zero, suc, ◌<◌, ◌&&◌, Bool, false, eqb, List, [], ◌∷◌, length, get_or, refl, sym, ap, ◌∙◌, inl, inr, arith, eqb-true, eq-eqb, ext_get_or, ◌-◌, ◌≤◌, drop, drop-cons}
 use Rattle.std.specs.Prelude.{Contains, All}
 use Rattle.std.proofs.lemmas.Bool.{cases_Bool, and_parts, and_from, cond-true, cond-false, false≢true}
 use Rattle.std.proofs.lemmas.List.FromFn.{length-map-range_with_len, get_or-map-range_with_len}
@@ -96,11 +96,16 @@ sent_is pairs n values ordered inside = record {
           | inr nothing ↦ nothing.value
         ]
 
+-- what has at each place what the function says is the function's
+pub sent_each : (pairs : List Pair) (n : ℕ) (values sent : List Tri) → length sent ≡ n → ((place : ℕ) → place < n → value_at sent place ≡ value_sent pairs values place) → sent ≡ values_sent pairs n values
+sent_each pairs n values sent places each =
+    ext_get_or X sent (values_sent pairs n values) (places ∙ sym (length-map-range_with_len (value_sent pairs values) 0 n)) (λ place below.
+    let within : place < n = omega (arith, below, places) in
+    each place within ∙ sym (value_of pairs n values place within))
+
 pub sent_only : (pairs : List Pair) (n : ℕ) (values sent : List Tri) → AreSent pairs n values sent → sent ≡ values_sent pairs n values
 sent_only pairs n values sent are =
-    ext_get_or X sent (values_sent pairs n values) (are.places ∙ sym (length-map-range_with_len (value_sent pairs values) 0 n)) (λ place below.
-    let within : place < n = omega (arith, below, are.places) in
-    each place within ∙ sym (value_of pairs n values place within))
+    sent_each pairs n values sent are.places each
   where
     each : (place : ℕ) → place < n → value_at sent place ≡ value_sent pairs values place
     each place within =
@@ -108,3 +113,23 @@ sent_only pairs n values sent are =
           | inl found ↦ ap (value_at sent) (sym found.1.goes) ∙ (are.paired found.0 found.1.held found.1.of_input ∙ sym found.1.value)
           | inr nothing ↦ are.others place within nothing.none ∙ sym nothing.value
         ]
+
+-- one pair more is sent, the one before those that were
+pub sent_before : (pairs : List Pair) (values now later : List Tri) (left : ℕ) (pair : Pair) → 0 < left → left ≤ length pairs → get_or pairs (left - 1) pair ≡ pair → (pair.kind ≡ Input → pair.to < length now → value_at later pair.to ≡ signed pair.flip (value_at values pair.from)) → ((place : ℕ) → (pair.kind ≡ Input → place ≢ pair.to) → value_at later place ≡ value_at now place) → ((place : ℕ) → place < length now → value_at now place ≡ value_sent (drop left pairs) values place) → (place : ℕ) → place < length now → value_at later place ≡ value_sent (drop (left - 1) pairs) values place
+sent_before pairs values now later left pair some within is sent others so_far place below =
+    let front : drop (left - 1) pairs ≡ pair ∷ drop left pairs = before left some within is in
+    let value = signed pair.flip (value_at values pair.from) in
+    let rest = value_sent (drop left pairs) values place in
+    elim (cases_Bool (goes_to place pair)) [
+      | inl here ↦
+          let parts = and_parts (same_kind pair.kind Input) (eqb pair.to place) here in
+          let goes : pair.to ≡ place = eqb-true pair.to place parts.1 in
+          ap (value_at later) (sym goes) ∙ (sent (kind_is pair.kind Input parts.0) (omega (arith, below, goes)) ∙ sym (cond-true (goes_to place pair) value rest here))
+      | inr other ↦
+          others place (λ kind goes. false≢true (sym other ∙ and_from (same_kind pair.kind Input) (eqb pair.to place) (kind_same pair.kind Input kind) (eq-eqb pair.to place (sym goes)))) ∙ (so_far place below ∙ sym (cond-false (goes_to place pair) value rest other))
+    ] ∙ sym (ap (λ (l : List Pair). value_sent l values place) front)
+  where
+    before : (k : ℕ) → 0 < k → k ≤ length pairs → get_or pairs (k - 1) pair ≡ pair → drop (k - 1) pairs ≡ pair ∷ drop k pairs
+    before k some within is =
+        let e : suc (k - 1) ≡ k = omega (arith, some) in
+        drop-cons pairs (k - 1) pair (omega (arith, some, within)) ∙ (ap (λ (p : Pair). p ∷ drop (suc (k - 1)) pairs) is ∙ ap (λ n. pair ∷ drop n pairs) e)

@@ -6,9 +6,10 @@ use Rattle.std.proofs.lemmas.Bool.Decides.{nat_tests}
 use Rattle.std.proofs.lemmas.Slice.Zip.{AllZip-long}
 use Rattle.claim_core.specs.declared.claims.Shape.{Shape}
 use Rattle.claim_core.specs.declared.claims.Shape.TheVariants.{Up, Down, Swap}
-use Rattle.account_core.specs.Given.{Given}
+use Rattle.account_core.specs.Given.{Given, fact_at}
 use Rattle.account_core.specs.Tallies.{shapes_of, AreBothOfEach, AreOfEach}
 use Rattle.ban_check.specs.Counted.{one_input, twin_input, AscendFrom, GoOverInputs, GoOverTwice, IsNext}
+use Rattle.ban_check.proofs.BoolLemmas.{front}
 use Rattle.ban_check.proofs.AscentLemmas.{ascend_more, ascend_rest, none_ascend}
 use Rattle.std.proofs.lemmas.Option.{same_Some}
 use Rattle.account_core.proofs.TallyLemmas.{both}
@@ -58,7 +59,7 @@ inputs_split least (i ∷ inputs) shape shapes each ascend =
       rest = record { inputs = inputs; of_each = each.1; ascend = parts.1 };
     }
 
-pub inputs_front : (least : ℕ) (shape : Shape) (shapes left : List Shape) → left ≡ shape ∷ shapes → IsByFront least (one_input shape) (GoOverInputs least left) (λ n. GoOverInputs n shapes)
+inputs_front : (least : ℕ) (shape : Shape) (shapes left : List Shape) → left ≡ shape ∷ shapes → IsByFront least (one_input shape) (GoOverInputs least left) (λ n. GoOverInputs n shapes)
 inputs_front least shape shapes left is = record {
   split = λ all. let whole = subst (GoOverInputs least) is all in inputs_split least whole.inputs shape shapes whole.of_each whole.ascend;
   more = λ f. subst (GoOverInputs least) (sym is) (record {
@@ -67,6 +68,10 @@ inputs_front least shape shapes left is = record {
     ascend = ascend_more least f.i f.rest.inputs f.within f.rest.ascend;
   });
 }
+
+-- the front of the facts that are left
+pub inputs_next : (given : Given) (numbers : List ℕ) (k least : ℕ) → k < length numbers → IsByFront least (one_input (fact_at given (get_or numbers k 0)).claim.shape) (GoOverInputs least (shapes_of given (drop k numbers))) (λ n. GoOverInputs n (shapes_of given (drop (k + 1) numbers)))
+inputs_next given numbers k least within = inputs_front least _ _ _ (ap (shapes_of given) (front numbers k 0 within))
 
 -- shapes in twos
 pub no_twos : (least : ℕ) → GoOverTwice least []
@@ -108,7 +113,7 @@ twos_split least (i ∷ inputs) one other shapes each ascend =
       rest = record { inputs = inputs; both_of_each = tail_is other (Down i) shapes _ after; ascend = parts.1 };
     }
 
-pub twos_front : (least : ℕ) (one other : Shape) (shapes left : List Shape) → left ≡ one ∷ other ∷ shapes → IsByFront least (twin_input one other) (GoOverTwice least left) (λ n. GoOverTwice n shapes)
+twos_front : (least : ℕ) (one other : Shape) (shapes left : List Shape) → left ≡ one ∷ other ∷ shapes → IsByFront least (twin_input one other) (GoOverTwice least left) (λ n. GoOverTwice n shapes)
 twos_front least one other shapes left is = record {
   split = λ all. let whole = subst (GoOverTwice least) is all in twos_split least whole.inputs one other shapes whole.both_of_each whole.ascend;
   more = λ f.
@@ -139,11 +144,14 @@ inputs_count least shapes whole = sym (AllZip-long (λ i shape. (shape ≡ Up i)
 pub twos_count : (least : ℕ) (shapes : List Shape) (whole : GoOverTwice least shapes) → length shapes ≡ 2 * length whole.inputs
 twos_count least shapes whole = ap (λ (ss : List Shape). length ss) whole.both_of_each ∙ twos_length whole.inputs
 
--- the first two of a list
-pub front_two : (xs : List ℕ) → 2 ≤ length xs → xs ≡ get_or xs 0 0 ∷ get_or xs 1 0 ∷ drop 2 xs
+-- the first two of a list, and so of the facts that are left
+front_two : (xs : List ℕ) → 2 ≤ length xs → xs ≡ get_or xs 0 0 ∷ get_or xs 1 0 ∷ drop 2 xs
 front_two [] long = absurd (omega (arith, long))
 front_two (x ∷ []) long = absurd (omega (arith, long))
 front_two (x ∷ y ∷ xs) long = refl
+
+pub twos_next : (given : Given) (left : List ℕ) (least : ℕ) → 2 ≤ length left → IsByFront least (twin_input (fact_at given (get_or left 0 0)).claim.shape (fact_at given (get_or left 1 0)).claim.shape) (GoOverTwice least (shapes_of given left)) (λ n. GoOverTwice n (shapes_of given (drop 2 left)))
+twos_next given left least long = twos_front least _ _ _ _ (ap (shapes_of given) (front_two left long))
 
 -- what is left after the first two
 pub after_two : (xs : List ℕ) → take (length xs - 2) (drop 2 xs) ≡ drop 2 xs

@@ -1,14 +1,14 @@
 //! Bans by counts of inputs: of two paired outputs one has, and the other one lacks, more inputs of a kind than fit.
 
 ghost use Rattle.std.specs.Prelude.{◌≡◌, ◌↔◌, ℕ, ◌+◌, ◌≤◌, Any, IfSome, IsTrue, Some};
-ghost use Rattle.account_core.specs.Tallies.{port_on, shapes_of, IsTally, SayOf};
+ghost use Rattle.account_core.specs.Tallies.{shapes_of, IsTally, SayOf};
 ghost use Rattle.ban_check.specs.Counted.{one_input, twin_input, ArePaired, AreTooMany, GoOverInputs, GoOverTwice, HaveTooMany, IsNext, SaysOf};
 
 use crate::given::Given;
 use account_core::{Tallied, port_on};
 use circuits::{Pair, PortKind};
 use claim_core::{Claim, Shape};
-use net_core::{Graphs, Side};
+use net_core::Graphs;
 
 /// Whether facts tell that one of two paired outputs has some inputs, and facts of the other one that it lacks others,
 /// which are together more than a circuit has.

@@ -23,6 +23,7 @@ use circuits::Pair;
 use class_refine::{Cause, Domains, Entry, Fate};
 use net_core::Side;
 use port_sides::PairableGraphs;
+use port_covers::needed::place_of;
 use std::alloc::{AllocError, Global};
 
 // What is done about the latest pair of a conflict.
@@ -274,18 +275,4 @@ fn without(pairs: Vec<Pair>, pair: Pair) -> Vec<Pair>
         let _ = pairs.remove(place);
     }
     pairs
-}
-
-// Where a pair stands, if it is there. It goes over the list, as taking the pair out does, once a step.
-fn place_of(pairs: &[Pair], pair: Pair) -> Option<usize>
-    ensures found { IfSome result (λ place. place < length pairs.now) }
-    ensures is { IfSome result (λ place. slice_index_or pairs.now place pair ≡ pair) }
-    ensures none { IfNone result (All (λ other. other ≢ pair) pairs.now) }
-{
-    for (place, other) in pairs.iter().enumerate() {
-        if *other == pair {
-            return Some(place);
-        }
-    }
-    None
 }

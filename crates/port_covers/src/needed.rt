@@ -1,6 +1,6 @@
 //! Pairs that a ban needs, in the order that bans have.
 
-ghost use Rattle.std.specs.Prelude.{◌≡◌, ◌⊎◌, ◌≤◌, All, Contains, IsTrue, OnOk, ◌↔◌, ◌<◌, length, slice_index_or, take};
+ghost use Rattle.std.specs.Prelude.{◌≡◌, ◌≢◌, ◌⊎◌, ◌≤◌, All, Contains, IfNone, IfSome, IsTrue, OnOk, ◌↔◌, ◌<◌, length, slice_index_or, take};
 ghost use Rattle.circuits.specs.declared.port.Pair.{Pair as AnyPair};
 ghost use Rattle.account_core.specs.Ports.{AreOrdered};
 ghost use Rattle.port_sides.specs.Held.{AreApart, StandsBefore};
@@ -17,7 +17,7 @@ pub fn add(needed: &mut Vec<Pair>, pair: Pair) -> Result<(), AllocError>
     ensures added { OnOk result (Contains needed.new.items pair) }
     ensures only { OnOk result (All (λ other. Contains needed.old.items other ⊎ (other ≡ pair)) needed.new.items) }
 {
-    let place = place_of(needed, pair);
+    let place = place_for(needed, pair);
     if has_at(needed, place, pair) {
         return Ok(());
     }
@@ -25,8 +25,22 @@ pub fn add(needed: &mut Vec<Pair>, pair: Pair) -> Result<(), AllocError>
     Ok(())
 }
 
+/// Where a pair stands, if it is there. It goes over the list, as leaving the pair out does.
+pub fn place_of(pairs: &[Pair], pair: Pair) -> Option<usize>
+    ensures found { IfSome result (λ place. place < length pairs.now) }
+    ensures is { IfSome result (λ place. slice_index_or pairs.now place pair ≡ pair) }
+    ensures none { IfNone result (All (λ other. other ≢ pair) pairs.now) }
+{
+    for (place, other) in pairs.iter().enumerate() {
+        if *other == pair {
+            return Some(place);
+        }
+    }
+    None
+}
+
 // How many of the pairs stand before a pair. It goes over the list, as putting the pair in does.
-fn place_of(pairs: &[Pair], pair: Pair) -> usize
+fn place_for(pairs: &[Pair], pair: Pair) -> usize
     ensures within { result ≤ length pairs.now }
     ensures before { All (λ other. StandsBefore other pair) (take result pairs.now) }
     ensures after { (d : AnyPair) → result < length pairs.now

@@ -9,7 +9,7 @@ ghost use Rattle.word_sim.specs.Columns.{vector_at};
 use crate::vectors::{first_vectors, put_vector};
 use bit_list::Bits;
 use circuits::{Pair, PortKind};
-use net_core::Graph;
+use net_core::{Graph, SignalValue};
 use port_sides::PairableGraphs;
 use std::alloc::{AllocError, Global};
 use std::simd::prelude::*;

@@ -1,4 +1,3 @@
-pub mod SentLemmas
 pub mod ShownLemmas
 pub mod DefiniteLemmas
 pub mod DifferLemmas

@@ -23,11 +23,8 @@ pub record IsWrong (graphs : Graphs) (pairs : List Pair) (pair : Pair) (values :
   pub definite : second_value graphs pairs values pair.to ≢ X
   pub differ : first_value graphs values pair.from ≢ signed pair.flip (second_value graphs pairs values pair.to)
 
--- It may be tried whether an output's partner is wrong on pairs of ports that are there, in order, and these values, by which the
--- output has this one.
-pub record MayTry (graphs : Graphs) (pairs : List Pair) (pair : Pair) (values : List Tri) (first : Tri) : Type 0 where
-  pub ordered : AreOrdered pairs
-  pub known : All (IsKnown graphs) pairs
+-- It may be tried whether an output's partner is wrong on these values, by which the output has this one.
+pub record MayTry (graphs : Graphs) (pair : Pair) (values : List Tri) (first : Tri) : Type 0 where
   pub output : pair.to < length graphs.second.outputs
   pub places : length values ≡ graphs.first.inputs
   pub first_is : first ≡ first_value graphs values pair.from

@@ -1,33 +1,33 @@
 //! Vectors on which an output differs from its partner.
 
-ghost use Rattle.std.specs.Prelude.{ℕ, ◌≡◌, ◌≢◌, ◌^◌, ◌<◌, ◌↔◌, [], ◌∷◌, ◌++◌, All, Contains, IfOk, IfSome, IsTrue, List, length, map, remove, replicate};
+ghost use Rattle.std.specs.Prelude.{◌≡◌, ◌^◌, ◌<◌, ◌↔◌, [], ◌∷◌, ◌++◌, All, Contains, IfOk, IfSome, IsTrue, List, length, map, remove};
 ghost use Rattle.circuits.specs.declared.port.Pair.{Pair as AnyPair};
 ghost use Rattle.circuits.specs.declared.port.PortKind.TheVariants.{Input};
-ghost use Rattle.word_sim.specs.declared.tri.Tri.TheVariants.{X};
 ghost use Rattle.circuits.specs.Matches.{HavePorts};
 ghost use Rattle.claim_core.specs.Images.{Extends};
 ghost use Rattle.oracle_core.specs.Oracles.{IsDifference};
-ghost use Rattle.account_core.specs.Ports.{AreOrdered, IsKnown};
-ghost use Rattle.account_core.specs.Vectors.{signed, value_at, values_sent};
+ghost use Rattle.account_core.specs.Ports.{IsKnown};
 ghost use Rattle.ban_book.specs.Covering.{Covers};
-ghost use Rattle.word_sim.specs.ThreeValues.{tri_outputs, of_bit};
+ghost use Rattle.word_sim.specs.ThreeValues.{of_bit};
 ghost use Rattle.vector_bans.specs.Differences.{pair_from, pairs_from, AreShown, IsLeftOut, IsShown, IsWrong, MayTry};
 ghost use Rattle.port_sides.specs.Held.{IsWhole};
 ghost use Rattle.fact_bans.specs.Serving.{HoldsBans, MayHold};
 
 use crate::last_resort::hold_shown;
+use account_core::values_sent;
 use ban_book::BanBook;
 use bit_list::Bits;
 use circuits::{Pair, PortKind};
 use cnf_core::Stop;
 use fact_bans::Seen;
 use items::Items;
-use net_core::{Graph, Matching};
+use net_core::{Matching, SignalValue};
 use oracle_core::Oracle;
+use port_covers::needed::place_of;
 use port_sides::PairableGraphs;
 use query_core::Ledger;
 use std::alloc::{AllocError, Global};
-use word_sim::{Tri, tri_eval};
+use word_sim::{Tri, tri_output};
 
 /// Pairs on which values of the first circuit's inputs show that an output differs from its partner.
 #[derive(Debug, Drop)]
@@ -161,7 +161,7 @@ pub(crate) fn leave_out(
     requires shown { IsShown graphs.now whole.items pair values.now whole.items }
     ensures { IfOk result (λ pairs. IsShown graphs.now whole.items pair values.now pairs.items) }
 {
-    let first = output_value(alloc, graphs.first(), values, pair.from)?;
+    let first = tri_output(alloc, graphs.first(), values, pair.from)?;
     let mut pairs = whole;
     let mut left = order.len();
     while left > 0 {
@@ -181,7 +181,7 @@ fn without_one(
     values: &[Tri],
     first: Tri,
 ) -> Result<Vec<Pair>, AllocError>
-    requires may { MayTry graphs.now pairs.items pair values.now first }
+    requires may { MayTry graphs.now pair values.now first }
     ensures { (whole : List AnyPair) → IsShown graphs.now whole pair values.now pairs.items
         → IfOk result (λ fewer. IsShown graphs.now whole pair values.now fewer.items) }
 {
@@ -192,18 +192,6 @@ fn without_one(
         Some(fewer) => Ok(fewer),
         None => Ok(pairs),
     }
-}
-
-// Where a pair stands among some. A search from the front is good enough because a circuit is evaluated for each pair.
-fn place_of(pairs: &[Pair], pair: Pair) -> Option<usize>
-    ensures { IfSome result (λ place. place < length pairs.now) }
-{
-    for (place, other) in pairs.iter().enumerate() {
-        if *other == pair {
-            return Some(place);
-        }
-    }
-    None
 }
 
 // The pairs without that at a place, where it is of an input and the values show the difference without it.
@@ -217,7 +205,7 @@ fn without(
     first: Tri,
 ) -> Result<Option<Vec<Pair>>, AllocError>
     requires place { place < length pairs.now }
-    requires may { MayTry graphs.now pairs.now pair values.now first }
+    requires may { MayTry graphs.now pair values.now first }
     ensures { IfOk result (λ found. IfSome found
         (λ fewer. IsLeftOut graphs.now pair values.now pairs.now place fewer.items)) }
 {
@@ -250,72 +238,11 @@ pub(crate) fn is_wrong(
     values: &[Tri],
     first: Tri,
 ) -> Result<bool, AllocError>
-    requires may { MayTry graphs.now pairs.now pair values.now first }
+    requires may { MayTry graphs.now pair values.now first }
     ensures { IfOk result (λ wrong. IsTrue wrong ↔ IsWrong graphs.now pairs.now pair values.now) }
 {
     let second = graphs.second();
-    let sent = sent(alloc, pairs, second.inputs(), values)?;
-    let value = output_value(alloc, second, &sent, pair.to)?;
-    Ok((value != Tri::X) & (first != signed(value, pair.flip)))
-}
-
-/// The value of an output where the inputs have these values.
-pub(crate) fn output_value(
-    alloc: Global,
-    graph: &Graph,
-    inputs: &[Tri],
-    output: u32,
-) -> Result<Tri, AllocError>
-    requires inputs { length inputs.now ≡ graph.now.inputs }
-    requires output { output < length graph.now.outputs }
-    ensures { IfOk result (λ value. value ≡ value_at (tri_outputs graph.now inputs.now) output) }
-{
-    let values = tri_eval(alloc, graph, inputs)?;
-    Ok(values[output as usize])
-}
-
-// A value, inverted where a sign says so.
-fn signed(value: Tri, flip: bool) -> Tri
-    ensures { result ≡ signed flip value }
-{
-    if flip { value.inverse() } else { value }
-}
-
-// What the inputs of the second circuit get: the values of the inputs that are paired with them, and else X.
-fn sent(alloc: Global, pairs: &[Pair], inputs: u32, values: &[Tri]) -> Result<Vec<Tri>, AllocError>
-    requires ordered { AreOrdered pairs.now }
-    requires from { All (λ pair. pair.kind ≡ Input → pair.from < length values.now) pairs.now }
-    requires to { All (λ pair. pair.kind ≡ Input → pair.to < inputs) pairs.now }
-    ensures { IfOk result (λ sent. sent.items ≡ values_sent pairs.now inputs values.now) }
-{
-    let mut sent = vec![in alloc; Tri::X; inputs as usize]?;
-    put_sent(pairs, values, &mut sent);
-    Ok(sent)
-}
-
-fn put_sent(pairs: &[Pair], values: &[Tri], sent: &mut [Tri])
-    requires ordered { AreOrdered pairs.now }
-    requires from { All (λ pair. pair.kind ≡ Input → pair.from < length values.now) pairs.now }
-    requires to { All (λ pair. pair.kind ≡ Input → pair.to < length sent.old) pairs.now }
-    requires unknown { sent.old ≡ replicate (length sent.old) X }
-    ensures { sent.new ≡ values_sent pairs.now (length sent.old) values.now }
-{
-    for pair in pairs.iter() {
-        send(*pair, values, sent);
-    }
-}
-
-// Where a pair is of inputs, the second one gets the value of the first, by the sign.
-fn send(pair: Pair, values: &[Tri], sent: &mut [Tri])
-    requires from { pair.kind ≡ Input → pair.from < length values.now }
-    requires to { pair.kind ≡ Input → pair.to < length sent.old }
-    ensures length { length sent.new ≡ length sent.old }
-    ensures sent { pair.kind ≡ Input → value_at sent.new pair.to ≡ signed pair.flip (value_at values.now pair.from) }
-    ensures others { (place : ℕ)
-        → (pair.kind ≡ Input → place ≢ pair.to)
-        → value_at sent.new place ≡ value_at sent.old place }
-{
-    if pair.kind == PortKind::Input {
-        sent[pair.to as usize] = signed(values[pair.from as usize], pair.flip);
-    }
+    let sent = values_sent(alloc, pairs, second.inputs(), values)?;
+    let value = tri_output(alloc, second, &sent, pair.to)?;
+    Ok((value != Tri::X) & (first != value.signed(pair.flip)))
 }

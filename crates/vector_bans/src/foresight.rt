@@ -9,7 +9,7 @@ ghost use Rattle.table_guess.specs.Trials.{AreTrials, IsSuspect};
 ghost use Rattle.claim_rows.specs.Rows.{HasOneOutput};
 ghost use Rattle.vector_bans.specs.Differences.{AreHeldInputs, AreShown};
 
-use crate::difference::{Shown, definite, is_wrong, leave_out, output_value};
+use crate::difference::{Shown, definite, is_wrong, leave_out};
 use crate::last_resort::hold_shown;
 use ban_book::BanBook;
 use circuits::{Pair, PortKind};
@@ -22,6 +22,7 @@ use port_sides::PairableGraphs;
 use query_core::Ledger;
 use std::alloc::{AllocError, Global};
 use table_guess::{Suspect, Trials};
+use word_sim::tri_output;
 
 /// Where a held output's partner is wrong on one of the vectors that pairs are tried on, whatever the inputs have that aren't
 /// paired: holds a ban of held pairs, and answers its number. The claims of one input of both outputs are decided. Where these
@@ -87,7 +88,7 @@ fn wrong_pairs(
     let pair = suspect.pair;
     let values = definite(alloc, &suspect.vector)?;
     let pairs = inputs_and(alloc, held, pair)?;
-    let first = output_value(alloc, graphs.first(), &values, pair.from)?;
+    let first = tri_output(alloc, graphs.first(), &values, pair.from)?;
     if !is_wrong(alloc, graphs, &pairs, pair, &values, first)? {
         return Ok(None);
     }

@@ -1,5 +1,5 @@
 -- Many vectors at once, 64 in a word (parallel-pattern simulation, as in textbooks of digital testing).
-use Rattle.std.specs.Prelude.{◌≡◌, ◌<◌, ℕ, ◌/◌, ◌%◌, ◌^◌, ◌==◌, Bool, List, length, map, All, slice_index_or, bit_and}
+use Rattle.std.specs.Prelude.{◌≡◌, ◌<◌, ℕ, ◌/◌, ◌%◌, ◌^◌, ◌==◌, Bool, List, length, map, All, slice_index_or}
 use Rattle.circuits.specs.declared.netlist.Lit.{Lit}
 use Rattle.circuits.specs.declared.netlist.Gate.{Gate}
 use Rattle.circuits.specs.Literals.{signal_of, is_negated}
@@ -37,9 +37,6 @@ vector_at table w v = lane v (row_of table.columns w)
 -- a literal's word: its signal's word, with its sign
 abbrev pub literal_word : List ℕ → Lit → ℕ
 literal_word words literal = signed_word (word_of (signal_of literal) words) (is_negated literal)
-
-abbrev pub gate_word : List ℕ → Gate → ℕ
-gate_word words gate = bit_and (literal_word words gate.a) (literal_word words gate.b)
 
 -- the words so far, continued by one word for each gate
 abbrev pub with_gate_words : List ℕ → List Gate → List ℕ

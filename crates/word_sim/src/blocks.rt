@@ -37,7 +37,7 @@ pub fn signed_lanes(lanes: u64x8, flip: bool) -> u64x8
 /// The literal's block where each signal has the block that `values` gives it: its signal's block, all bits inverted
 /// where the literal is negated.
 #[inline(always)]
-pub fn literal_block(values: &[u64x8], literal: Lit) -> u64x8
+pub(crate) fn literal_block(values: &[u64x8], literal: Lit) -> u64x8
     requires { signal_of literal < length values.now }
     ensures lanes { length result ≡ 8 }
     ensures words { (l : ℕ) → l < 8 → word_of l result ≡ literal_word (row_of values.now l) literal }

@@ -11,11 +11,11 @@ mod three_values;
 mod tri;
 mod words;
 
-pub use blocks::{and_lanes, first_bit, literal_block, signed_lanes, word_at};
+pub use blocks::{and_lanes, first_bit, signed_lanes, word_at};
 pub use digits::alternating;
 pub use mixing::mix;
 pub use rails::{Rails, rails_eval};
-pub use simulation::{gate_word, literal_word, run_gate_blocks, simulate};
-pub use three_values::tri_eval;
+pub use simulation::{run_gate_blocks, simulate};
+pub use three_values::{tri_eval, tri_output};
 pub use tri::Tri;
 pub use words::Words;

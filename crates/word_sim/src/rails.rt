@@ -1,6 +1,6 @@
 //! Evaluation by three values on 512 vectors at once.
 
-ghost use Rattle.std.specs.Prelude.{◌≡◌, ◌<◌, ℕ, IfOk, List, bit_or, if◌then◌else◌, length, map};
+ghost use Rattle.std.specs.Prelude.{◌≡◌, ◌<◌, ℕ, IfOk, List, bit_or, length, map};
 ghost use Rattle.net_core.specs.Values.{each_lane};
 ghost use Rattle.word_sim.specs.declared.tri.Tri.{Tri as AnyTri};
 ghost use Rattle.word_sim.specs.declared.tri.Tri.TheVariants.{X};
@@ -43,21 +43,6 @@ impl Rails {
             zeros: signed_lanes(block, true),
         }
     }
-
-    /// The values, inverted where the flag says so.
-    #[inline(always)]
-    pub fn signed(self, flip: bool) -> Rails
-        ensures { result ≡ (if flip then record { ones = self.zeros; zeros = self.ones } else self) }
-    {
-        if flip {
-            Rails {
-                ones: self.zeros,
-                zeros: self.ones,
-            }
-        } else {
-            self
-        }
-    }
 }
 
 impl SignalValue for Rails {
@@ -67,7 +52,14 @@ impl SignalValue for Rails {
 
     #[inline(always)]
     fn signed(self, flip: bool) -> Rails {
-        Rails::signed(self, flip)
+        if flip {
+            Rails {
+                ones: self.zeros,
+                zeros: self.ones,
+            }
+        } else {
+            self
+        }
     }
 
     #[inline(always)]

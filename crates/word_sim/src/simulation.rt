@@ -4,11 +4,11 @@ ghost use Rattle.std.specs.Prelude.{◌≡◌, ◌<◌, ◌≤◌, ◌+◌, ◌*
 ghost use Rattle.circuits.specs.Literals.{signal_of};
 ghost use Rattle.circuits.specs.Netlists.{function_of, signals_of};
 ghost use Rattle.net_core.specs.Graph.{AreInOrder};
-ghost use Rattle.word_sim.specs.Columns.{AreEvaluated, IsTable, vector_at, row_of, literal_word, gate_word, with_gate_words};
+ghost use Rattle.word_sim.specs.Columns.{AreEvaluated, IsTable, vector_at, row_of, literal_word, with_gate_words};
 
 use crate::blocks::{LANES, literal_block};
 use crate::words::Words;
-use net_core::{Gate, Graph, Lit, eval_gates, gate_value, literal_value};
+use net_core::{Gate, Graph, Lit, eval_gates, literal_value};
 use std::alloc::{AllocError, Global};
 use std::simd::prelude::*;
 
@@ -176,24 +176,6 @@ fn put_row(inputs: &Words, word: usize, values: &mut [u64])
     }
 }
 
-/// The gate's word where each signal has the word that `values` gives it: the AND of its two literals' words.
-pub fn gate_word(values: &[u64], gate: Gate) -> u64
-    requires first_operand { signal_of gate.a < length values.now }
-    requires second_operand { signal_of gate.b < length values.now }
-    ensures { result ≡ gate_word values.now gate }
-{
-    gate_value(values, gate)
-}
-
-/// The literal's word where each signal has the word that `values` gives it: its signal's word, all 64 bits inverted where
-/// the literal is negated.
-pub fn literal_word(values: &[u64], literal: Lit) -> u64
-    requires { signal_of literal < length values.now }
-    ensures { result ≡ literal_word values.now literal }
-{
-    literal_value(values, literal)
-}
-
 /// Writes the outputs' words into a row of the table.
 fn take_row(outputs: &[Lit], values: &[u64], word: usize, table: &mut Words)
     requires columns { length table.old.columns ≡ length outputs.now }
@@ -208,6 +190,6 @@ fn take_row(outputs: &[Lit], values: &[u64], word: usize, table: &mut Words)
     ensures columns { length table.new.columns ≡ length table.old.columns }
 {
     for (k, output) in outputs.iter().enumerate() {
-        table.set(k as u32, word, literal_word(values, *output));
+        table.set(k as u32, word, literal_value(values, *output));
     }
 }

@@ -1,6 +1,7 @@
 //! Evaluation by three values.
 
-ghost use Rattle.std.specs.Prelude.{◌≡◌, IfOk, length};
+ghost use Rattle.std.specs.Prelude.{◌≡◌, ◌<◌, IfOk, length, slice_index_or};
+ghost use Rattle.word_sim.specs.declared.tri.Tri.TheVariants.{X};
 ghost use Rattle.word_sim.specs.ThreeValues.{tri_outputs};
 
 use crate::tri::Tri;
@@ -18,4 +19,23 @@ pub fn tri_eval(alloc: Global, graph: &Graph, inputs: &[Tri]) -> Result<Vec<Tri>
     ensures { IfOk result (λ outputs. outputs.items ≡ tri_outputs graph.now inputs.now) }
 {
     eval_outputs(alloc, graph, Tri::Zero, inputs)
+}
+
+/// One output's value where the inputs have these values.
+///
+/// # Errors
+///
+/// Only when out of memory.
+pub fn tri_output(
+    alloc: Global,
+    graph: &Graph,
+    inputs: &[Tri],
+    output: u32,
+) -> Result<Tri, AllocError>
+    requires inputs { length inputs.now ≡ graph.now.inputs }
+    requires output { output < length graph.now.outputs }
+    ensures { IfOk result (λ value. value ≡ slice_index_or (tri_outputs graph.now inputs.now) output X) }
+{
+    let outputs = tri_eval(alloc, graph, inputs)?;
+    Ok(outputs[output as usize])
 }

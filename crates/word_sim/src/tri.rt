@@ -17,8 +17,8 @@ pub enum Tri {
 }
 
 impl Tri {
-    /// The value inverted: X stays.
-    pub fn inverse(self) -> Tri
+    // The value inverted: X stays.
+    fn inverse(self) -> Tri
         ensures { result ≡ tri_not self }
     {
         match self {

@@ -93,7 +93,7 @@ impl Words {
     }
 
     /// Gives eight words of a column other values, from `word` on. All others stay.
-    pub fn set_block(&mut self, column: u32, word: usize, block: u64x8)
+    pub(crate) fn set_block(&mut self, column: u32, word: usize, block: u64x8)
         requires column { column < length self.old.columns }
         requires word { word + 8 ≤ self.old.words }
         ensures table { IsTable self.new }

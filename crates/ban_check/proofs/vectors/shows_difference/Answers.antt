@@ -6,12 +6,12 @@ use Rattle.account_core.specs.Vectors.{value_sent}
 use Rattle.ban_check.proofs.PortLemmas.{partner_there}
 use Rattle.ban_check.proofs.vectors.shows_difference.Goals as goal
 
-pub output_value-requires-2-clause-inputs : goal.output_value-requires-2-clause-inputs
-output_value-requires-2-clause-inputs c =
+pub tri_output-requires-2-clause-inputs : goal.tri_output-requires-2-clause-inputs
+tri_output-requires-2-clause-inputs c =
     let sent = value_sent c.args.pairs.now c.args.values.now in
-    c.deref.ensures.len ∙ (ap length c.in_ok-sent.ensures ∙ (length-map-range_with_len sent 0 c.inputs-2.result ∙ c.inputs-2.ensures.value))
+    ap length (c.deref.ensures.value ∙ c.in_ok-sent.ensures) ∙ (length-map-range_with_len sent 0 c.inputs-2.result ∙ c.inputs-2.ensures.value)
 
-pub output_value-requires-2-clause-output : goal.output_value-requires-2-clause-output
-output_value-requires-2-clause-output c =
+pub tri_output-requires-2-clause-output : goal.tri_output-requires-2-clause-output
+tri_output-requires-2-clause-output c =
     subst (λ (net : Net). c.in-Some.pair.to < length net.outputs) (sym c.second-partners.ensures.value)
     (partner_there c.args.graphs.now c.args.pairs.now c.args.output c.in-Some.pair c.requires.known (sym c.pair_of.ensures ∙ c.in-Some.is))

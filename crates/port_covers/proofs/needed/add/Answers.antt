@@ -18,8 +18,8 @@ returns c =
     let old = c.args.needed.now.items in
     let d = c.deref.ensures.value in
     record {
-      ordered = subst AreOrdered e (ordered_insert old c.args.pair c.place_of-place.result c.requires.ordered c.requires.apart (search rules) (subst (λ (l : List Pair). All (λ (other : Pair). StandsBefore other c.args.pair) (take c.place_of-place.result l)) d c.place_of-place.ensures.before) (subst (λ (l : List Pair). (d' : Pair) → c.place_of-place.result < length l → StandsBefore (get_or l c.place_of-place.result d') c.args.pair → ⊥) d c.place_of-place.ensures.after) (λ there same. false≢true (sym c.if-has_at.false ∙ subst (λ (l : List Pair). (c.place_of-place.result < length l) × (get_or l c.place_of-place.result c.args.pair ≡ c.args.pair) → IsTrue c.has_at.result) c.deref-2.ensures.value c.has_at.ensures.1 (there, same))));
-      stays = λ k d' below. subst (λ l. Contains l (get_or old k d')) e (insert_stays old c.place_of-place.result c.args.pair (get_or old k d') (Contains-get_or old k d' below));
-      added = subst (λ l. Contains l c.args.pair) e (insert_has old c.place_of-place.result c.args.pair);
-      only = subst (All (λ (other : Pair). Contains old other ⊎ (other ≡ c.args.pair))) e (λ k d' below. insert_cases old c.place_of-place.result c.args.pair _ (Contains-get_or _ k d' below));
+      ordered = subst AreOrdered e (ordered_insert old c.args.pair c.place_for-place.result c.requires.ordered c.requires.apart (search rules) (subst (λ (l : List Pair). All (λ (other : Pair). StandsBefore other c.args.pair) (take c.place_for-place.result l)) d c.place_for-place.ensures.before) (subst (λ (l : List Pair). (d' : Pair) → c.place_for-place.result < length l → StandsBefore (get_or l c.place_for-place.result d') c.args.pair → ⊥) d c.place_for-place.ensures.after) (λ there same. false≢true (sym c.if-has_at.false ∙ subst (λ (l : List Pair). (c.place_for-place.result < length l) × (get_or l c.place_for-place.result c.args.pair ≡ c.args.pair) → IsTrue c.has_at.result) c.deref-2.ensures.value c.has_at.ensures.1 (there, same))));
+      stays = λ k d' below. subst (λ l. Contains l (get_or old k d')) e (insert_stays old c.place_for-place.result c.args.pair (get_or old k d') (Contains-get_or old k d' below));
+      added = subst (λ l. Contains l c.args.pair) e (insert_has old c.place_for-place.result c.args.pair);
+      only = subst (All (λ (other : Pair). Contains old other ⊎ (other ≡ c.args.pair))) e (λ k d' below. insert_cases old c.place_for-place.result c.args.pair _ (Contains-get_or _ k d' below));
     }

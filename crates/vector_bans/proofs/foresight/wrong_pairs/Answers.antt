@@ -1,11 +1,10 @@
 -- What is left of the held pairs shows the difference.
-use Rattle.std.proofs.Common.{◌∙◌, List, All, ap, length, sym, subst}
+use Rattle.std.proofs.Common.{◌∙◌, List, ap, length, sym, subst}
 use Rattle.circuits.specs.declared.port.Pair.{Pair}
 use Rattle.std.proofs.lemmas.List.{length-map}
 use Rattle.circuits.specs.Netlists.{Net}
 use Rattle.account_core.specs.Vectors.{value_at}
 use Rattle.word_sim.specs.ThreeValues.{tri_outputs, of_bit}
-use Rattle.account_core.specs.Ports.{AreOrdered, IsKnown}
 use Rattle.word_sim.specs.declared.tri.Tri.{Tri}
 use Rattle.vector_bans.specs.Differences.{IsWrong}
 use Rattle.port_covers.proofs.BookLemmas.{part_known}
@@ -20,8 +19,6 @@ is_wrong-requires c =
     let known = part_known c.args.graphs.now c.args.held.now c.in_ok-pairs.pairs.items c.requires.held c.in_ok-pairs.ensures.part in
     record {
       may = record {
-        ordered = subst AreOrdered (sym c.deref-2.ensures.value) c.in_ok-pairs.ensures.part.ordered;
-        known = subst (All (IsKnown c.args.graphs.now)) (sym c.deref-2.ensures.value) known;
         output = second_there c.args.graphs.now c.in_ok-pairs.pairs.items c.args.suspect.now.pair known c.in_ok-pairs.ensures.output;
         places = ap length (c.deref-3.ensures.value ∙ c.in_ok-values.ensures) ∙ (length-map c.args.suspect.now.vector of_bit ∙ c.requires.suspect.places);
         first_is =

@@ -12,11 +12,11 @@ loop-k-preserved c =
     let values = c.args.values.now in
     let outputs = c.args.outputs.now in
     let word = c.args.word in
-    let value = c.literal_word.result in
+    let value = c.literal_value.result in
     let is : c.set.new.self.columns ≡ written columns l.k word value = ap (λ table. table.columns) c.set.ensures.value in
     let here : l.k < length columns = omega (arith, c.loop-k-test.true, l.invariant.3, c.requires.columns) in
     let within : word < length (get_or columns l.k []) = omega (arith, l.invariant.4 l.k [] here, l.invariant.2, c.requires.word) in
-    let row = take-step (row_of columns word) (row_of (written columns l.k word value) word) values outputs l.k value (record { 0 = 0 }) c.loop-k-test.true (length-map columns (word_of word) ∙ (l.invariant.3 ∙ c.requires.columns)) (row-written columns l.k word value within) c.literal_word.ensures l.invariant.0 in (
+    let row = take-step (row_of columns word) (row_of (written columns l.k word value) word) values outputs l.k value (record { 0 = 0 }) c.loop-k-test.true (length-map columns (word_of word) ∙ (l.invariant.3 ∙ c.requires.columns)) (row-written columns l.k word value within) c.literal_value.ensures l.invariant.0 in (
       subst (λ columns. take (l.k + 1) (row_of columns word) ≡ map (literal_word values) (take (l.k + 1) outputs)) (sym is) row,
       λ w before.
           let apart : w ≢ word = λ e. absurd (omega (arith, before, e)) in

@@ -4,7 +4,7 @@ use Rattle.std.proofs.lemmas.List.{get_or_default}
 use Rattle.std.proofs.lemmas.List.Elements.{All-more}
 use Rattle.circuits.specs.declared.port.Pair.{Pair}
 use Rattle.port_sides.specs.Held.{StandsBefore}
-use Rattle.port_covers.proofs.needed.place_of.Goals as goal
+use Rattle.port_covers.proofs.needed.place_for.Goals as goal
 
 pub returns-then-not-stands_before-clause-after : goal.returns-then-not-stands_before-clause-after
 returns-then-not-stands_before-clause-after c =
