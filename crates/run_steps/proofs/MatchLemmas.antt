@@ -5,6 +5,7 @@ use Rattle.std.proofs.lemmas.List.{take_all}
 use Rattle.std.proofs.lemmas.Slice.Eq.{bytes_eq-Decides}
 use Rattle.std.specs.Str.{bytes_eq}
 use Rattle.circuits.proofs.MatchLaws.{match_from_functions, functions_from_equal}
+use Rattle.net_print.specs.BlifLines.{blif_text}
 use Rattle.net_file.specs.declared.named.Named.{Named}
 use Rattle.shelf_core.specs.State.{ShelfState}
 use Rattle.account_check.specs.Verdicts.{IsAccepted as Proves}
@@ -51,16 +52,12 @@ part_of held words proved is =
 -- a whole pair is its first part
 part_of_pair : (before after : List ℕ → Option (List ℕ)) (words : List (List ℕ)) → HoldsPair after words → HoldsPartOfPair before after words
 part_of_pair before after words is =
-    let text = is.second_text in
+    let text = blif_text is.pair.second.graph in
     record {
       wanted = is.wanted;
       asks = is.asks;
-      first = is.first;
-      second = is.second;
-      table = is.table;
-      first_text = is.first_text;
-      second_text = text;
-      printed = is.printed;
+      pair = is.pair;
+      drawn = is.drawn;
       part = inr (is.first_there, inr (length text, is.second_there ∙ ap Some (sym (take_all (length text) text (omega arith)))));
     }
 

@@ -4,7 +4,7 @@ use Rattle.circuits.specs.Circuits.{Circuit}
 use Rattle.circuits.specs.Functions.{Computes}
 use Rattle.circuits.specs.Levels.{IsAcyclic, IsOrderOf}
 use Rattle.circuits.specs.Matches.{IsMatchOfFunctions, HaveNpnpEqualFunctions}
-use Rattle.circuits.specs.Netlists.{Net, IsOrdered}
+use Rattle.circuits.specs.Netlists.{Net}
 use Rattle.shelf_core.specs.Fault.{Rose}
 use Rattle.shelf_core.specs.State.{ShelfState, SinkState, Closed}
 use Rattle.net_core.specs.Sides.{Graphs}
@@ -19,7 +19,7 @@ use Rattle.run_steps.specs.Circuits.{IsCircuit, IsCircuitFault}
 use Rattle.shelf_files.specs.Files.{HoldsFirst}
 use Rattle.run_steps.specs.Info.{IsInfoText, IsSpentOf, with_itself}
 use Rattle.run_steps.specs.Held.{Netlist, HoldsNetlist}
-use Rattle.run_steps.specs.Make.{IsCutFrom, IsPrintedPair}
+use Rattle.run_steps.specs.Make.{IsCutFrom}
 use Rattle.run_steps.specs.Trial.{IsSpentOnPairOf, IsTrialOf}
 use Rattle.run_steps.specs.Outcomes.{EndsAt, FollowsWords, IsRight, IsSound, IsTold, Leaves}
 use Rattle.run_steps.specs.Report.{HasTable, IsOneLine, IsReport, line_of, report_on}
@@ -227,15 +227,6 @@ pub record WritesPair (tells : Bool) (first_name second_name first second : List
       ⊎ ((new.held first_name ≡ Some first) × IsCutFrom second (old.held second_name) (new.held second_name)))
   pub faults : old.faults ≤ new.faults
   pub failed : result ≡ Err WriteFault → Rose old.faults new.faults
-
--- Printing the pair of a number.
-pub record PrintsPair (number : ℕ) (first_text second_text : List ℕ) : Type 0 where
-  pub first : Named
-  pub second : Named
-  pub table : Matching
-  pub printed : IsPrintedPair number first second table first_text second_text
-  pub first_ordered : IsOrdered first.graph
-  pub second_ordered : IsOrdered second.graph
 
 -- what ends the trial of a pair: the budget is spent on it, or memory ran out
 abbrev pub IsStopOfTrial : ℕ → Outcome → Type 0
