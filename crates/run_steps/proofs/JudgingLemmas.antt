@@ -14,7 +14,7 @@ use Rattle.account_check.specs.declared.verdict.CheckStop.TheVariants as check
 use Rattle.account_check.specs.declared.verdict.Why.{Why}
 use Rattle.account_check.proofs.RefusalLemmas.{right_refusal}
 use Rattle.run_steps.specs.Judging.{FeedsNext, FeedsRest, JudgesRest, halt_of}
-use Rattle.run_steps.specs.Steps.{IsJudged, IsMatchIfTable, IsUnequalIfRefused, IsVerdict, Judges}
+use Rattle.run_steps.specs.Steps.{IsJudged, IsMatchIfAny, IsUnequalIfRefused, IsVerdict, Judges}
 use Rattle.shelf_files.specs.Files.{HasUnread}
 use Rattle.shelf_files.specs.Stops.{stop_of}
 use Rattle.shelf_files.specs.declared.files.ReadStop.{ReadStop}
@@ -71,7 +71,7 @@ judged_by tells graphs old new result first second rest = record {
 -- what was fed settles the account
 pub settled_by : (tells : Bool) (graphs : Graphs) (old new : ShelfState) (progress : Progress) (done : Unit {0}) (result : Result Outcome ReadStop) → FeedsRest tells graphs old new progress (Ok done)
     → ((bytes : List ℕ) → HasTaken graphs bytes progress → IfOk result (IsVerdict graphs (Some bytes)))
-    → ((bytes : List ℕ) → HasTaken graphs bytes progress → IfOk result (IsMatchIfTable graphs.first graphs.second))
+    → ((bytes : List ℕ) → HasTaken graphs bytes progress → IfOk result (IsMatchIfAny graphs.first graphs.second))
     → IfOk result IsJudged → result ≢ Err stop.ReadFault → JudgesRest tells graphs old new result
 settled_by tells graphs old new progress done result feeds verdict matches judged no_fault = record {
   files = feeds.files;
@@ -109,11 +109,11 @@ rejected_by tells graphs old new progress fed line reason feeds is =
       files = feeds.files;
       mode = feeds.mode;
       verdict = (bad.0, (bad.0, refl, bad.1), bad.2);
-      matches = λ table has. elim has [
+      matches = λ matching has. elim has [
         | inl same ↦ cc
         | inr same ↦ cc
       ];
-      judged = record { asked = λ e. cc; no_rows = λ e. cc; read = λ e. cc; unwritten = λ e. cc; no_match = λ e. cc; no_pair = λ e. cc; no_trial = λ number account e. cc; no_table = λ table e. cc };
+      judged = record { asked = λ e. cc; no_rows = λ e. cc; read = λ e. cc; unwritten = λ e. cc; no_match = λ e. cc; no_pair = λ e. cc; no_trial = λ number account e. cc; unmatched = λ matching e. cc };
       faults = feeds.faults;
       failed = λ e. cc;
     }

@@ -135,9 +135,9 @@ module _ (tells : Bool) (asked : MakeWords) (pair : GenPair) (drawn : IsDrawn as
     left = λ t words asks. subst (Leaves old.held new.held words) (sym is) (holds words asks (writes.whole t asks.names.apart).0 (writes.whole t asks.names.apart).1);
     right = λ t words asks. subst (IsRight old.held words) (sym is) (wanted_by asked, asks);
     by_words = λ words asks. subst (FollowsWords words) (sym is) (follows_made words asked asks);
-    sound = λ t words asks. subst (IsSound old.held words) (sym is) (record { matches = λ table e. cc; refuses = λ e. cc });
+    sound = λ t words asks. subst (IsSound old.held words) (sym is) (record { matches = λ matching e. cc; refuses = λ e. cc });
     report = λ words asks. inl (
-      subst IsOneLine (sym is) (record { no_table = λ table has. elim has [ inl e ↦ cc | inr e ↦ cc ]; no_rows = λ e. cc }),
+      subst IsOneLine (sym is) (record { unmatched = λ matching has. elim has [ inl e ↦ cc | inr e ↦ cc ]; no_rows = λ e. cc }),
       report ∙ ap line_of (sym is),
     );
     ending = subst IsEnding (sym is) (record { asked = λ e. cc; read = λ e. cc; unwritten = λ e. cc });

@@ -12,10 +12,10 @@ use Rattle.net_print.specs.Files.{aig_text}
 use Rattle.run_steps.specs.Held.{Netlist, HoldsNetlist}
 use Rattle.command_words.specs.Words.{AsksMake, AsksMatch, Sought, Wanted}
 
--- The pair of a number: two graphs of 64 inputs, 32 outputs and 2,000 gates, and the table that matches them.
-pub record IsPairOf (number : ℕ) (first second : Net) (table : Matching) : Type 0 where
-  pub drawn : ArePairOf number first second table.inputs table.outputs
-  pub matches : IsMatchOfFunctions first second table.inputs table.outputs
+-- The pair of a number: two graphs of 64 inputs, 32 outputs and 2,000 gates, and a match of them.
+pub record IsPairOf (number : ℕ) (first second : Net) (matching : Matching) : Type 0 where
+  pub drawn : ArePairOf number first second matching.inputs matching.outputs
+  pub matches : IsMatchOfFunctions first second matching.inputs matching.outputs
   pub first_size : HasSizes first
   pub second_size : HasSizes second
 
@@ -33,7 +33,7 @@ pub record HoldsComputed (content : Option (List ℕ)) (graph : Net) (netlist : 
   pub computes : Computes graph netlist.circuit
 
 -- The words ask for a pair, and the two files hold it, the first netlist in the binary form of AIGER and the second as BLIF:
--- netlists that its graphs compute, and its table is a match of them.
+-- netlists that its graphs compute, and of which its matching is a match.
 pub record HoldsPair (held : List ℕ → Option (List ℕ)) (words : List (List ℕ)) : Type 0 where
   pub wanted : Wanted
   pub asks : AsksMake words wanted

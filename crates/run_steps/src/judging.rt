@@ -6,7 +6,7 @@ ghost use Rattle.account_check.specs.Checking.{HasTaken, IsUnderWay};
 ghost use Rattle.shelf_core.specs.State.{Closed, Reading};
 ghost use Rattle.shelf_files.specs.Files.{HasUnread};
 ghost use Rattle.run_steps.specs.Judging.{FeedsNext, FeedsRest, JudgesRest};
-ghost use Rattle.run_steps.specs.Steps.{IsJudged, IsMatchIfTable, IsVerdict, Judges, graphs_of};
+ghost use Rattle.run_steps.specs.Steps.{IsJudged, IsMatchIfAny, IsVerdict, Judges, graphs_of};
 
 use crate::outcome::{Outcome, Which};
 use account_check::{AccountCheck, CheckStop, Verdict, Why};
@@ -180,12 +180,12 @@ fn settle(alloc: Global, check: &mut AccountCheck<'_>) -> Result<Outcome, ReadSt
     ensures verdict { (graphs : TwoGraphs) (bytes : List ℕ) → HasTaken graphs bytes check.old
         → IfOk result (IsVerdict graphs (Some bytes)) }
     ensures matches { (graphs : TwoGraphs) (bytes : List ℕ) → HasTaken graphs bytes check.old
-        → IfOk result (IsMatchIfTable graphs.first graphs.second) }
+        → IfOk result (IsMatchIfAny graphs.first graphs.second) }
     ensures judged { IfOk result IsJudged }
     ensures no_fault { result ≢ Err ReadStop.ReadFault }
 {
     match check.finish(alloc) {
-        Ok(Verdict::Match(table)) => Ok(Outcome::AcceptedMatch(table)),
+        Ok(Verdict::Match(matching)) => Ok(Outcome::AcceptedMatch(matching)),
         Ok(Verdict::None) => Ok(Outcome::AcceptedRefusal),
         Err(CheckStop::Rejected { line, why }) => Ok(Outcome::Rejected { line, why }),
         Err(CheckStop::Memory) => Err(ReadStop::Memory),
