@@ -22,7 +22,7 @@ pub struct Check<'a> {
     pub first: &'a str,
     /// The second netlist.
     pub second: &'a str,
-    /// The account: a port table, and the proof that it is a match.
+    /// The account: that a matching is a match, or that none is, and the proof.
     pub account: &'a str,
 }
 

@@ -128,10 +128,9 @@ impl<D: Decide> Book<D> {
             (match_query self.old.graphs.first.inputs matching.now output true)) of_true.lines }
         ensures { Compares matching.now output self.old self.new ledger.old ledger.new result }
     {
-        match self.answer(alloc, matching, output, false, ledger) {
-            Ok(Answer::Vector(vector)) => Ok(Compared::Differs(Bits::from_slice(alloc, &vector)?)),
-            Ok(Answer::Refuted(of_false)) => Ok(Compared::Same(of_true, of_false)),
-            Err(stop) => Err(stop),
+        match self.answer(alloc, matching, output, false, ledger)? {
+            Answer::Vector(vector) => Ok(Compared::Differs(Bits::from_slice(alloc, &vector)?)),
+            Answer::Refuted(of_false) => Ok(Compared::Same(of_true, of_false)),
         }
     }
 
@@ -168,10 +167,9 @@ impl<D: Decide> Oracle for Book<D> {
         output: u32,
         ledger: &mut Ledger,
     ) -> Result<Compared, Stop> {
-        match self.answer(alloc, matching, output, true, ledger) {
-            Ok(Answer::Vector(vector)) => Ok(Compared::Differs(Bits::from_slice(alloc, &vector)?)),
-            Ok(Answer::Refuted(log)) => self.compare_false(alloc, matching, output, log, ledger),
-            Err(stop) => Err(stop),
+        match self.answer(alloc, matching, output, true, ledger)? {
+            Answer::Vector(vector) => Ok(Compared::Differs(Bits::from_slice(alloc, &vector)?)),
+            Answer::Refuted(log) => self.compare_false(alloc, matching, output, log, ledger),
         }
     }
 

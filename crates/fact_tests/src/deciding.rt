@@ -206,14 +206,11 @@ fn by_asking<W: Watch>(
     ensures nearby { nearby.new ≡ nearby.old }
     ensures decides { Decides graphs.now claim.now ledger.old ledger.new result }
 {
-    match asked(alloc, graphs, claim, ledger, watch) {
-        Ok(Evidence::Fails(vector)) => {
-            nearby.note(alloc, claim.output, &vector)?;
-            Ok(Evidence::Fails(vector))
-        }
-        Ok(Evidence::Holds(log)) => Ok(Evidence::Holds(log)),
-        Err(stop) => Err(stop),
+    let evidence = asked(alloc, graphs, claim, ledger, watch)?;
+    if let Evidence::Fails(vector) = &evidence {
+        nearby.note(alloc, claim.output, vector)?;
     }
+    Ok(evidence)
 }
 
 /// What the answer of a claim's query says of the claim.
@@ -229,10 +226,8 @@ fn asked<W: Watch>(
     ensures { Decides graphs.now claim.now ledger.old ledger.new result }
 {
     let query = of_claim(alloc, graphs, claim)?;
-    match answer_to(alloc, graphs, &query, ledger, watch) {
-        Ok(answer) => Ok(evidence_of(alloc, graphs, claim, answer)?),
-        Err(stop) => Err(stop),
-    }
+    let answer = answer_to(alloc, graphs, &query, ledger, watch)?;
+    Ok(evidence_of(alloc, graphs, claim, answer)?)
 }
 
 /// What the answer of a claim's query says of the claim: a vector breaks it, once the shape's inputs have its values; a

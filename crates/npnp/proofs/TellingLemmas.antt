@@ -17,4 +17,4 @@ by_line P ending (inr is) one memory = subst P (sym is) memory
 
 -- where memory is refused nothing is accepted
 pub sound_memory : {held : List ℕ → Option (List ℕ)} {words : List (List ℕ)} → IsSound held words Memory
-sound_memory {held} {words} = record { matches = λ table e. cc; refuses = λ e. cc }
+sound_memory {held} {words} = record { matches = λ matching e. cc; refuses = λ e. cc }

@@ -153,7 +153,7 @@ fn answered(
     }
 }
 
-/// The answer that a port table is a match, with its account.
+/// The answer that a matching is a match, with its account.
 fn matched(
     alloc: Global,
     graphs: &PairableGraphs<'_>,

@@ -1,7 +1,7 @@
 //! One run of the program: words in, files read, one report out.
 
 ghost use Rattle.std.specs.Prelude.{◌≡◌, ◌≢◌, ℕ, ◌++◌, ◌↔◌, ◌⊎◌, List, IsTrue, Some, Err, map, string_bytes};
-ghost use Rattle.net_core.specs.declared.matching.Matching.{Matching as Table};
+ghost use Rattle.net_core.specs.declared.matching.Matching.{Matching};
 ghost use Rattle.net_file.specs.declared.fault.NetKind.{NetKind};
 ghost use Rattle.shelf_core.specs.Fault.{Rose};
 ghost use Rattle.shelf_core.specs.State.{Closed};
@@ -36,12 +36,14 @@ const OUT_OF_MEMORY: &[u8] = b"out of memory\n";
 /// Runs the program on the words of its command line: reads the files that they name, decides, and puts one
 /// report. It knows these words, where each netlist is in BLIF or in the AIGER format:
 ///
-/// - `match FIRST SECOND ACCOUNT [BUDGET [SEED]]`: FIRST and SECOND are netlists, of which a match is sought: a port
-///   table under which all outputs agree on every vector. ACCOUNT is written, the proof of the table or that there is
-///   none; its name is neither of the others. At most BUDGET clauses are learned, by default 1,000,000,000; SEED, by
-///   default 1, chooses the vectors that are simulated.
-/// - `check FIRST SECOND ACCOUNT`: FIRST and SECOND are netlists, and ACCOUNT is a text that claims a port table and
-///   proves, by refutations, that it is a match of the two, or that proves by exclusions that no port table is one.
+/// - `match FIRST SECOND ACCOUNT [BUDGET [SEED]]`: FIRST and SECOND are netlists, of which a match is sought: a
+///   matching, each port with its partner, under which all outputs agree on every vector. It is printed as a port table,
+///   a line for each port. ACCOUNT is written, the proof of the match or that there is none; its name is neither of the
+///   others. At most BUDGET clauses are learned, by default 1,000,000,000; SEED, by default 1, chooses the vectors that
+///   are simulated.
+/// - `check FIRST SECOND ACCOUNT`: FIRST and SECOND are netlists, and ACCOUNT is a text that claims a matching and
+///   proves, by refutations, that it is a match of the two, or that proves by exclusions that no matching is one. A match
+///   that it proves is printed as a port table.
 /// - `info FILE [BUDGET]`: FILE is a netlist. Its supports, unateness and symmetries are decided; at most BUDGET
 ///   clauses are learned for that, by default 1,000,000,000.
 /// - `make NUMBER FIRST SECOND`: the pair of netlists that NUMBER gives is made, and written to the files FIRST, in the
@@ -63,12 +65,12 @@ pub fn run<S: Shelf, K: Sink>(
 ) -> Outcome
     requires { (S.state shelf.old).mode ≡ Closed }
 
-    // A table is found only where it is a match of the two files' netlists, and the account that is held afterwards
+    // A matching is found only where it is a match of the two files' netlists, and the account that is held afterwards
     // proves it: a check by the same names accepts it.
-    ensures matched { IsTrue S.tells → (table : Table) → result ≡ Outcome.Matched table
-        → IsMatchFound (S.state shelf.old).held (map string_bytes words.now) table }
-    ensures matched_account { IsTrue S.tells → (table : Table) → result ≡ Outcome.Matched table
-        → IsProved (S.state shelf.new).held (map string_bytes words.now) (Verdict.Match table) }
+    ensures matched { IsTrue S.tells → (matching : Matching) → result ≡ Outcome.Matched matching
+        → IsMatchFound (S.state shelf.old).held (map string_bytes words.now) matching }
+    ensures matched_account { IsTrue S.tells → (matching : Matching) → result ≡ Outcome.Matched matching
+        → IsProved (S.state shelf.new).held (map string_bytes words.now) (Verdict.Match matching) }
 
     // There is said to be no match exactly where no signed bijections make the two netlists equal, unless the budget
     // was spent, a fault came or memory ran out; and the account that is held afterwards proves it.
@@ -85,9 +87,9 @@ pub fn run<S: Shelf, K: Sink>(
         → IsOfMatch result }
 
     // Where no fault came between and memory did not run out, the words and the files decide the outcome.
-    ensures accepted { IsTrue S.tells → IsDecided result → (table : Table)
-        → ((result ≡ Outcome.AcceptedMatch table)
-        ↔ IsAccepted (S.state shelf.old).held (map string_bytes words.now) (Verdict.Match table)) }
+    ensures accepted { IsTrue S.tells → IsDecided result → (matching : Matching)
+        → ((result ≡ Outcome.AcceptedMatch matching)
+        ↔ IsAccepted (S.state shelf.old).held (map string_bytes words.now) (Verdict.Match matching)) }
     ensures accepted_refusal { IsTrue S.tells → IsDecided result
         → ((result ≡ Outcome.AcceptedRefusal)
         ↔ IsAccepted (S.state shelf.old).held (map string_bytes words.now) Verdict.None) }
@@ -106,9 +108,9 @@ pub fn run<S: Shelf, K: Sink>(
         ↔ EndsEarly (S.state shelf.old).held (map string_bytes words.now)
         (Outcome.Malformed which kind at)) }
 
-    // A table is accepted only where it is a match of the two files' netlists, whoever wrote the account.
-    ensures sound { IsTrue S.tells → (table : Table) → result ≡ Outcome.AcceptedMatch table
-        → IsMatchOfFiles (S.state shelf.old).held (map string_bytes words.now) table }
+    // A matching is accepted only where it is a match of the two files' netlists, whoever wrote the account.
+    ensures sound { IsTrue S.tells → (matching : Matching) → result ≡ Outcome.AcceptedMatch matching
+        → IsMatchOfFiles (S.state shelf.old).held (map string_bytes words.now) matching }
 
     // A refusal is accepted only where no signed bijections make the two files' netlists equal, whoever wrote it.
     ensures sound_refusal { IsTrue S.tells → result ≡ Outcome.AcceptedRefusal
@@ -125,14 +127,14 @@ pub fn run<S: Shelf, K: Sink>(
         ⊎ IsSpentOnPair (map string_bytes words.now) ledger }
 
     // A pair is made exactly where the words ask for one, unless a write failed or memory ran out. The two files hold it
-    // then: netlists as it is printed, which are read as circuits of its functions, with a table that matches them.
+    // then: netlists as it is printed, which are read as circuits of its functions, with a match of them.
     ensures made { IsTold result
         → ((result ≡ Outcome.Made) ↔ AskForPair (map string_bytes words.now)) }
     ensures pair { IsTrue S.tells → result ≡ Outcome.Made
         → HoldsPair (S.state shelf.new).held (map string_bytes words.now) }
 
     // A pair was tried only where its number is that of the words and the account, which the outcome has, is accepted for it:
-    // it proves a table that is a match. Nothing else comes of a trial, but that the budget is spent on the pair.
+    // it proves a matching that is a match. Nothing else comes of a trial, but that the budget is spent on the pair.
     ensures tried { (number : ℕ) (account : List ℕ) → result ≡ Outcome.Tried number account
         → IsTried (map string_bytes words.now) number account }
     ensures trial { IsTold result → (number : ℕ) → AsksTrial (map string_bytes words.now) number

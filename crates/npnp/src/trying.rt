@@ -2,12 +2,9 @@
 
 ghost use Rattle.std.specs.Prelude.{◌≡◌, IfOk, IfErr};
 ghost use Rattle.circuits.specs.Matches.{HaveNpnpEqualFunctions};
-ghost use Rattle.account_check.specs.Verdicts.{IsAccepted as Proves};
-ghost use Rattle.account_check.specs.declared.verdict.Verdict.TheVariants as verdict;
-ghost use Rattle.net_core.specs.declared.matching.Matching.{Matching as Table};
 ghost use Rattle.run_steps.specs.Make.{IsPairOf};
 ghost use Rattle.account_write.specs.Records.{account_of, records_of};
-ghost use Rattle.run_steps.specs.Steps.{IsAnswered, IsProvedMatch, IsStopWithin, Tries};
+ghost use Rattle.run_steps.specs.Steps.{IsProvedMatch, IsStopWithin, Tries};
 
 use crate::matching::solve_by_search;
 use account_check::{CheckStop, Verdict, check};

@@ -31,11 +31,11 @@ pub record PortNames : Type 0 where
 abbrev pub names_of : Named → PortNames
 names_of named = record { inputs = named.input_names; outputs = named.output_names }
 
--- the port table: a line for each input of the first circuit in order, then one for each output
-abbrev pub match_text : PortNames → PortNames → Matching → List ℕ
-match_text first second table =
-    entry_lines (codes "input") first.inputs second.inputs 0 table.inputs
-    ++ entry_lines (codes "output") first.outputs second.outputs 0 table.outputs
+-- the port table of a matching: a line for each input of the first circuit in order, then one for each output
+abbrev pub table_text : PortNames → PortNames → Matching → List ℕ
+table_text first second matching =
+    entry_lines (codes "input") first.inputs second.inputs 0 matching.inputs
+    ++ entry_lines (codes "output") first.outputs second.outputs 0 matching.outputs
 
 -- the first line of an account that is wrong, and what is wrong with it: `rejected line 7 refutation`
 abbrev pub rejected_text : ℕ → List ℕ → List ℕ

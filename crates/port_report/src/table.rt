@@ -1,6 +1,6 @@
 ghost use Rattle.std.specs.Prelude.{◌≡◌, ◌<◌, ◌≤◌, [], ◌∷◌, ◌++◌, length, codes, if◌then◌else◌, All, OnOk, OnErr};
 ghost use Rattle.circuits.specs.Bijections.{IsSignedBijection};
-ghost use Rattle.port_report.specs.Reports.{port_among, entry_line, entry_lines, match_text, names_of};
+ghost use Rattle.port_report.specs.Reports.{port_among, entry_line, entry_lines, table_text, names_of};
 ghost use Rattle.text_out.specs.Extends.{Extends};
 
 use net_core::Matching;
@@ -8,8 +8,8 @@ use net_file::{Name, Named};
 use std::alloc::AllocError;
 use text_out::{put_number, put_text, put_word};
 
-/// Writes at the end of `out` where each port of the first circuit goes: a line for each input in order, then one for
-/// each output, as `input 0 a = not input 1 b`. Names are written byte for byte.
+/// Writes a matching at the end of `out` as a port table, which says where each port of the first circuit goes: a line
+/// for each input in order, then one for each output, as `input 0 a = not input 1 b`. Names are written byte for byte.
 /// When out of memory, a first part of the lines may stand after what stood in `out`.
 pub fn put_match(
     first: &Named,
@@ -21,7 +21,7 @@ pub fn put_match(
     requires outputs { length second.now.graph.outputs ≡ length first.now.graph.outputs }
     requires inputs_placed { IsSignedBijection first.now.graph.inputs matching.now.inputs }
     requires outputs_placed { IsSignedBijection (length first.now.graph.outputs) matching.now.outputs }
-    ensures ok { OnOk result (out.new.items ≡ out.old.items ++ match_text (names_of first.now) (names_of second.now) matching.now) }
+    ensures ok { OnOk result (out.new.items ≡ out.old.items ++ table_text (names_of first.now) (names_of second.now) matching.now) }
     ensures kept { OnErr result (Extends out.old.items out.new.items) }
 {
     put_entries(

@@ -112,7 +112,7 @@ graph_one content a b one other =
 
 -- how the check of an account ends that proves this
 abbrev pub accepted_as : Verdict → Outcome
-accepted_as (verdict.Match table) = AcceptedMatch table
+accepted_as (verdict.Match matching) = AcceptedMatch matching
 accepted_as verdict.None = AcceptedRefusal
 
 -- what the account's bytes answer
@@ -347,10 +347,10 @@ sought_of_spent held words ledger spent = record {
 }
 
 says : (held : List ℕ → Option (List ℕ)) (words : List (List ℕ)) (o : Outcome) → ReadFiles words → IsDecided o → IsRight held words o → Says held words o
-says held words (AcceptedMatch table) reads decided right = says_answer held words right.graphs right.account (AcceptedMatch table) right.has (inl (verdict.Match table, refl, right.accepted))
+says held words (AcceptedMatch matching) reads decided right = says_answer held words right.graphs right.account (AcceptedMatch matching) right.has (inl (verdict.Match matching, refl, right.accepted))
 says held words AcceptedRefusal reads decided right = says_answer held words right.graphs right.account AcceptedRefusal right.has (inl (verdict.None, refl, right.accepted))
 says held words (Rejected line why) reads decided right = says_answer held words right.graphs right.account (Rejected line why) right.has (inr (line, why, refl, right.rejected))
-says held words (Matched table) reads decided right = says_match held words right.first right.second (Matched table) right.files (inl (table, refl))
+says held words (Matched matching) reads decided right = says_match held words right.first right.second (Matched matching) right.files (inl (matching, refl))
 says held words NoMatching reads decided right = says_match held words right.first right.second NoMatching right.files (inr (inl refl))
 says held words (Spent ledger) reads decided right =
     elim right [
@@ -392,29 +392,29 @@ right_at_only held words file budget asks o ends =
     right_early held words First (held file) o ends (inr (inr (record { file_name = file; budget = budget; asks = asks; ends = ends })))
 
 pub right_by_verdict : (held : List ℕ → Option (List ℕ)) (words : List (List ℕ)) (f g t : List ℕ) (graphs : Graphs) → AsksCheck words f g t → HoldsGraph (held f) graphs.first → HoldsGraph (held g) graphs.second → (o : Outcome) → IsVerdict graphs (held t) o → IsRight held words o
-right_by_verdict held words f g t graphs asks first second (AcceptedMatch table) fact = record { graphs = graphs; account = fact.0; has = record { first_name = f; second_name = g; account_name = t; asks = asks; first_held = first; second_held = second; there = fact.1 }; accepted = fact.2 }
+right_by_verdict held words f g t graphs asks first second (AcceptedMatch matching) fact = record { graphs = graphs; account = fact.0; has = record { first_name = f; second_name = g; account_name = t; asks = asks; first_held = first; second_held = second; there = fact.1 }; accepted = fact.2 }
 right_by_verdict held words f g t graphs asks first second AcceptedRefusal fact = record { graphs = graphs; account = fact.0; has = record { first_name = f; second_name = g; account_name = t; asks = asks; first_held = first; second_held = second; there = fact.1 }; accepted = fact.2 }
 right_by_verdict held words f g t graphs asks first second (Rejected line why) fact = record { graphs = graphs; account = fact.0; has = record { first_name = f; second_name = g; account_name = t; asks = asks; first_held = first; second_held = second; there = fact.1 }; rejected = fact.2 }
 right_by_verdict held words f g t graphs asks first second (Absent which) fact = inr (fact.0, record { first = first.netlist; second = second.netlist; account_name = t; asked = record { first_name = f; second_name = g; asks = asks; first_held = first.holds; second_held = second.holds }; absent = fact.1 })
 right_by_verdict held words f g t graphs asks first second other fact = absurd fact
 
 informed_of_match : IsOfMatch Informed → ⊥
-informed_of_match is = elim is [ inl (table, e) ↦ cc | inr (inl e) ↦ cc | inr (inr (ledger, e)) ↦ cc ]
+informed_of_match is = elim is [ inl (matching, e) ↦ cc | inr (inl e) ↦ cc | inr (inr (ledger, e)) ↦ cc ]
 
 none_of_one : IsOfOne NoMatching → ⊥
 none_of_one is = elim is [ inl e ↦ cc | inr (ledger, e) ↦ cc ]
 
 -- a match of two files is one of the circuits of which there is none
-found_or_none : (held : List ℕ → Option (List ℕ)) (words : List (List ℕ)) (table : Matching) → IsMatchFound held words table → HasNoMatch held words → ⊥
-found_or_none held words table found none =
+found_or_none : (held : List ℕ → Option (List ℕ)) (words : List (List ℕ)) (matching : Matching) → IsMatchFound held words matching → HasNoMatch held words → ⊥
+found_or_none held words matching found none =
     let e = sought_one words none.files.sought found.files.sought none.files.asks found.files.asks in
     let f = netlist_one (held none.files.sought.first) found.first none.first (subst (λ n. HoldsNetlist (held n) found.first) e.0 found.files.first_held) none.files.first_held in
     let g = netlist_one (held none.files.sought.second) found.second none.second (subst (λ n. HoldsNetlist (held n) found.second) e.1 found.files.second_held) none.files.second_held in
-    none.unequal (subst (AreNpnpEqual none.first.circuit) g (subst (λ circuit. AreNpnpEqual circuit found.second.circuit) f (table.inputs, table.outputs, found.matches)))
+    none.unequal (subst (AreNpnpEqual none.first.circuit) g (subst (λ circuit. AreNpnpEqual circuit found.second.circuit) f (matching.inputs, matching.outputs, found.matches)))
 
 -- an outcome that is determined by files
 abbrev pub IsExact : Outcome → Type 0
-IsExact (AcceptedMatch table) = Unit {0}
+IsExact (AcceptedMatch matching) = Unit {0}
 IsExact AcceptedRefusal = Unit {0}
 IsExact (Rejected line why) = Unit {0}
 IsExact (Absent which) = Unit {0}
@@ -426,7 +426,7 @@ exact_of_one : (o : Outcome) → IsExact o → IsOfOne o → ⊥
 exact_of_one o exact one = elim one [ inl e ↦ subst IsExact e exact | inr (ledger, e) ↦ subst IsExact e exact ]
 
 exact_of_match : (o : Outcome) → IsExact o → IsOfMatch o → ⊥
-exact_of_match o exact two = elim two [ inl (table, e) ↦ subst IsExact e exact | inr (inl e) ↦ subst IsExact e exact | inr (inr (ledger, e)) ↦ subst IsExact e exact ]
+exact_of_match o exact two = elim two [ inl (matching, e) ↦ subst IsExact e exact | inr (inl e) ↦ subst IsExact e exact | inr (inr (ledger, e)) ↦ subst IsExact e exact ]
 
 early_reads : (held : List ℕ → Option (List ℕ)) (words : List (List ℕ)) (o : Outcome) → EndsEarly held words o → ReadFiles words
 early_reads held words o early =
@@ -441,7 +441,7 @@ account_reads held words graphs account has = inl (has.first_name, has.second_na
 
 -- where such an outcome is right the words name files
 exact_reads : (held : List ℕ → Option (List ℕ)) (words : List (List ℕ)) (o : Outcome) → IsExact o → IsRight held words o → ReadFiles words
-exact_reads held words (AcceptedMatch table) exact right = account_reads held words right.graphs right.account right.has
+exact_reads held words (AcceptedMatch matching) exact right = account_reads held words right.graphs right.account right.has
 exact_reads held words AcceptedRefusal exact right = account_reads held words right.graphs right.account right.has
 exact_reads held words (Rejected line why) exact right = account_reads held words right.graphs right.account right.has
 exact_reads held words (Absent which) exact right = elim right [
@@ -496,7 +496,7 @@ module _ (held : List ℕ → Option (List ℕ)) (words : List (List ℕ)) (aske
   exactly_none unspent = (
     λ is. subst (IsRight held words) is stays_right,
     λ none. elim (of_match (record { first = none.first; second = none.second; files = none.files })) [
-      | inl (table, same) ↦ absurd (found_or_none held words table (subst (IsRight held words) same stays_right) none)
+      | inl (matching, same) ↦ absurd (found_or_none held words matching (subst (IsRight held words) same stays_right) none)
       | inr (inl same) ↦ same
       | inr (inr (ledger, same)) ↦ absurd (unspent ledger same)
     ],
@@ -534,16 +534,16 @@ stop_is stop.ReadFault e = refl
 stop_is stop.Memory e = cc
 
 -- where no file changes, each outcome that is neither of a match nor a pair leaves what it says
-pub leaves : (before after : List ℕ → Option (List ℕ)) (words : List (List ℕ)) (o : Outcome) → ((table : Matching) → o ≢ Matched table) → o ≢ NoMatching → o ≢ Made → ((n : List ℕ) → after n ≡ before n) → Leaves before after words o
-leaves before after words (Matched table) no_table no_match no_pair same = absurd (no_table table refl)
-leaves before after words NoMatching no_table no_match no_pair same = absurd (no_match refl)
-leaves before after words Made no_table no_match no_pair same = absurd (no_pair refl)
-leaves before after words WriteFault no_table no_match no_pair same = inl same
-leaves before after words Memory no_table no_match no_pair same = inl same
-leaves before after words other no_table no_match no_pair same = same
+pub leaves : (before after : List ℕ → Option (List ℕ)) (words : List (List ℕ)) (o : Outcome) → ((matching : Matching) → o ≢ Matched matching) → o ≢ NoMatching → o ≢ Made → ((n : List ℕ) → after n ≡ before n) → Leaves before after words o
+leaves before after words (Matched matching) unmatched no_match no_pair same = absurd (unmatched matching refl)
+leaves before after words NoMatching unmatched no_match no_pair same = absurd (no_match refl)
+leaves before after words Made unmatched no_match no_pair same = absurd (no_pair refl)
+leaves before after words WriteFault unmatched no_match no_pair same = inl same
+leaves before after words Memory unmatched no_match no_pair same = inl same
+leaves before after words other unmatched no_match no_pair same = same
 
 pub leaves_early : (before after : List ℕ → Option (List ℕ)) (words : List (List ℕ)) (o : Outcome) → IsEarly o → ((n : List ℕ) → after n ≡ before n) → Leaves before after words o
-leaves_early before after words o early same = leaves before after words o (λ table e. early.line.no_table table (inr e)) early.no_match early.no_pair same
+leaves_early before after words o early same = leaves before after words o (λ matching e. early.line.unmatched matching (inr e)) early.no_match early.no_pair same
 
 -- the files were read up to an outcome that ends the run
 pub stopped : (tells : Bool) (command : Command) (old new : ShelfState) (result : Result Ending Outcome) (o : Outcome) → IsReadingCommand command → result ≡ Err o → ((n : List ℕ) → new.held n ≡ old.held n) → (IsTrue tells → (words : List (List ℕ)) → Ask words command → IsRight old.held words o) → IsOfReading o → (o ≡ ReadFault → Rose old.faults new.faults) → Decides tells command old new result

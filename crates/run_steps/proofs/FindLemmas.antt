@@ -10,9 +10,9 @@ use Rattle.shelf_core.specs.declared.outside.ShelfStop.{ShelfStop}
 use Rattle.shelf_core.specs.declared.outside.ShelfStop.TheVariants.{Failed, Memory}
 use Rattle.account_check.specs.declared.verdict.Verdict.TheVariants as verdict
 use Rattle.shelf_files.specs.Files.{HoldsFirst, WritesFile}
-use Rattle.run_steps.specs.Report.{HasTable, report_on}
+use Rattle.run_steps.specs.Report.{HasMatching, report_on}
 use Rattle.run_steps.specs.Stops.{unwritten}
-use Rattle.run_steps.specs.Steps.{Concludes, Finds, IsAnswered, IsCutOf, IsMatchIfTable, IsStopOfMatch, IsStopWithin, IsUnwritten, graphs_of}
+use Rattle.run_steps.specs.Steps.{Concludes, Finds, IsAnswered, IsCutOf, IsMatchIfAny, IsStopOfMatch, IsStopWithin, IsUnwritten, graphs_of}
 use Rattle.run_steps.specs.declared.outcome.Ending.{Ending}
 use Rattle.run_steps.specs.declared.outcome.Outcome.{Outcome}
 use Rattle.run_steps.specs.declared.outcome.Outcome.TheVariants as outcome
@@ -30,8 +30,8 @@ pub is_unwritten : (stop : ShelfStop) → IsUnwritten (unwritten stop)
 is_unwritten Failed = inl refl
 is_unwritten Memory = inr refl
 
-same_table : (found table : Matching) → HasTable (outcome.Matched found) table → found ≡ table
-same_table found table has = elim has [ inl e ↦ cc | inr e ↦ cc ]
+same_matching : (found matching : Matching) → HasMatching (outcome.Matched found) matching → found ≡ matching
+same_matching found matching has = elim has [ inl e ↦ cc | inr e ↦ cc ]
 
 -- the account wasn't written
 pub not_concluded : (tells : Bool) (name text : List ℕ) (ending : Ending) (old new : ShelfState) (stop : ShelfStop) (o : Outcome) → o ≡ unwritten stop → WritesFile tells name text old new (Err stop) → Concludes tells name text ending old new (Err o)
@@ -75,16 +75,16 @@ cut_of graphs account o before after answer part =
     elim part [
       | inl same ↦ inl same
       | inr first ↦ of_answer (λ end. IsCutOf graphs before after) graphs account o answer
-          (λ table proves matches. inr (account, verdict.Match table, proves, first))
+          (λ matching proves matches. inr (account, verdict.Match matching, proves, first))
           (λ proves unequal. inr (account, verdict.None, proves, first))
     ]
 
--- the table of an answer is a match
-pub table_of_answer : (graphs : Graphs) (account : List ℕ) (o : Outcome) → IsAnswered graphs account o → IsMatchIfTable graphs.first graphs.second o
-table_of_answer graphs account o answer =
-    of_answer (IsMatchIfTable graphs.first graphs.second) graphs account o answer
-    (λ found proves matches table has. subst (λ (t : Matching). IsMatchOfFunctions graphs.first graphs.second t.inputs t.outputs) (same_table found table has) matches)
-    (λ proves unequal table has. elim has [ inl e ↦ cc | inr e ↦ cc ])
+-- the matching of an answer is a match
+pub match_of_answer : (graphs : Graphs) (account : List ℕ) (o : Outcome) → IsAnswered graphs account o → IsMatchIfAny graphs.first graphs.second o
+match_of_answer graphs account o answer =
+    of_answer (IsMatchIfAny graphs.first graphs.second) graphs account o answer
+    (λ found proves matches matching has. subst (λ (t : Matching). IsMatchOfFunctions graphs.first graphs.second t.inputs t.outputs) (same_matching found matching has) matches)
+    (λ proves unequal matching has. elim has [ inl e ↦ cc | inr e ↦ cc ])
 
 -- the search came to an answer, and its account was written or cut off
 pub solved : (tells : Bool) (first second : Named) (name account : List ℕ) (budget : ℕ) (ending : Ending) (old new : ShelfState) (result : Result Ending Outcome)

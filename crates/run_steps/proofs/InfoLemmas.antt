@@ -42,7 +42,7 @@ informs tells info old new named (Ok ending) files read is =
         there = read.held t;
       });
       by_words = λ words asks. subst (FollowsWords words) (sym rows.0) (follows_files words Informed (inr (info.file.now, info.budget, asks)) (λ e. cc) (λ number account e. cc));
-      sound = λ t words asks. subst (IsSound old.held words) (sym rows.0) (record { matches = λ table e. cc; refuses = λ e. cc });
+      sound = λ t words asks. subst (IsSound old.held words) (sym rows.0) (record { matches = λ matching e. cc; refuses = λ e. cc });
       report = λ words asks. inr (inr (
         rows.0,
         record {

@@ -4,7 +4,7 @@ use Rattle.std.proofs.lemmas.List.{nil_from_length}
 use Rattle.net_core.specs.Graph.{IsGraph}
 use Rattle.net_core.specs.Sides.{Graphs}
 use Rattle.shelf_core.specs.Calls.{Reads}
-use Rattle.shelf_core.specs.State.{ShelfState, Reading}
+use Rattle.shelf_core.specs.State.{ShelfState}
 use Rattle.shelf_core.specs.declared.outside.ShelfStop.{ShelfStop}
 use Rattle.shelf_core.specs.declared.outside.ShelfStop.TheVariants.{Failed, Memory}
 use Rattle.account_check.specs.Checking.{Feeds, HasTaken, Progress}
@@ -14,7 +14,8 @@ use Rattle.account_check.specs.declared.verdict.CheckStop.TheVariants as check
 use Rattle.account_check.specs.declared.verdict.Why.{Why}
 use Rattle.account_check.proofs.RefusalLemmas.{right_refusal}
 use Rattle.run_steps.specs.Judging.{FeedsNext, FeedsRest, JudgesRest, halt_of}
-use Rattle.run_steps.specs.Steps.{IsJudged, IsMatchIfTable, IsUnequalIfRefused, IsVerdict, Judges}
+use Rattle.run_steps.specs.Steps.{IsJudged, IsMatchIfAny, IsUnequalIfRefused, IsVerdict, Judges}
+use Rattle.shelf_files.specs.Files.{HasUnread}
 use Rattle.shelf_files.specs.Stops.{stop_of}
 use Rattle.shelf_files.specs.declared.files.ReadStop.{ReadStop}
 use Rattle.shelf_files.specs.declared.files.ReadStop.TheVariants as stop
@@ -27,9 +28,7 @@ use Rattle.shelf_core.proofs.FaultLemmas.{rose_later}
 -- Of the `size` unread bytes of an account, all but `left` were read, and their whole lines are valid, for any two circuits
 -- that the check is of.
 pub record IsFeeding (tells : Bool) (start now : ShelfState) (before after : Progress) (size left : ℕ) : Type 0 where
-  pub reading : now.mode ≡ Reading
-  pub left_is : now.left ≡ left
-  pub unread : IsTrue tells → length now.unread ≡ left
+  pub unread : HasUnread tells now left
   pub files : (n : List ℕ) → now.held n ≡ start.held n
   pub faults : start.faults ≤ now.faults
   pub taken : (graphs : Graphs) → HasTaken graphs [] before
@@ -72,7 +71,7 @@ judged_by tells graphs old new result first second rest = record {
 -- what was fed settles the account
 pub settled_by : (tells : Bool) (graphs : Graphs) (old new : ShelfState) (progress : Progress) (done : Unit {0}) (result : Result Outcome ReadStop) → FeedsRest tells graphs old new progress (Ok done)
     → ((bytes : List ℕ) → HasTaken graphs bytes progress → IfOk result (IsVerdict graphs (Some bytes)))
-    → ((bytes : List ℕ) → HasTaken graphs bytes progress → IfOk result (IsMatchIfTable graphs.first graphs.second))
+    → ((bytes : List ℕ) → HasTaken graphs bytes progress → IfOk result (IsMatchIfAny graphs.first graphs.second))
     → IfOk result IsJudged → result ≢ Err stop.ReadFault → JudgesRest tells graphs old new result
 settled_by tells graphs old new progress done result feeds verdict matches judged no_fault = record {
   files = feeds.files;
@@ -110,11 +109,11 @@ rejected_by tells graphs old new progress fed line reason feeds is =
       files = feeds.files;
       mode = feeds.mode;
       verdict = (bad.0, (bad.0, refl, bad.1), bad.2);
-      matches = λ table has. elim has [
+      matches = λ matching has. elim has [
         | inl same ↦ cc
         | inr same ↦ cc
       ];
-      judged = record { asked = λ e. cc; no_rows = λ e. cc; read = λ e. cc; unwritten = λ e. cc; no_match = λ e. cc; no_pair = λ e. cc; no_trial = λ number account e. cc; no_table = λ table e. cc };
+      judged = record { asked = λ e. cc; no_rows = λ e. cc; read = λ e. cc; unwritten = λ e. cc; no_match = λ e. cc; no_pair = λ e. cc; no_trial = λ number account e. cc; unmatched = λ matching e. cc };
       faults = feeds.faults;
       failed = λ e. cc;
     }
@@ -127,9 +126,11 @@ feeding_on tells start old new before now after size left count so_far next grap
     let held = so_far.taken graphs begun in
     let more = next graphs held.0 held.1 in
     record {
-      reading = more.mode;
-      left_is = omega (arith, more.left.1, so_far.left_is);
-      unread = λ told. omega (arith, ap length (more.taken.3 told), length-append more.taken.0 new.unread, more.taken.1, so_far.unread told);
+      unread = record {
+        reading = more.mode;
+        left = omega (arith, more.left.1, so_far.unread.left);
+        told = λ told. omega (arith, ap length (more.taken.3 told), length-append more.taken.0 new.unread, more.taken.1, so_far.unread.told told);
+      };
       files = λ n. more.files n ∙ so_far.files n;
       faults = omega (arith, more.faults, so_far.faults);
       taken = λ g has. taken g (so_far.taken g has);
@@ -142,7 +143,7 @@ feeding_on tells start old new before now after size left count so_far next grap
         let piece = more.taken.0 in (
           held.0 ++ piece,
           more.taken.2,
-          omega (arith, held.2, more.taken.1, length-append held.0 piece, more.left.1, so_far.left_is),
+          omega (arith, held.2, more.taken.1, length-append held.0 piece, more.left.1, so_far.unread.left),
           λ told. append_assoc held.0 piece new.unread ∙ (ap (λ l. held.0 ++ l) (more.taken.3 told) ∙ held.3 told),
         )
 
@@ -152,11 +153,11 @@ fed_all tells start now before after size left so_far none graphs begun =
     let held = so_far.taken graphs begun in
     record {
       files = so_far.files;
-      mode = so_far.reading;
+      mode = so_far.unread.reading;
       taken = (
         held.0,
         held.1,
-        λ told. sym (append-nil held.0) ∙ (ap (λ l. held.0 ++ l) (sym (nil_from_length now.unread (omega (arith, so_far.unread told, none)))) ∙ held.3 told),
+        λ told. sym (append-nil held.0) ∙ (ap (λ l. held.0 ++ l) (sym (nil_from_length now.unread (omega (arith, so_far.unread.told told, none)))) ∙ held.3 told),
       );
       bad = λ line reason e. cc;
       faults = so_far.faults;

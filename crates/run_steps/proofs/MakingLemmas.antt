@@ -3,11 +3,14 @@ use Rattle.std.proofs.Common.{◌≡◌, ◌≢◌, ℕ, inl, inr, Bool, IsTrue,
 use Rattle.circuits.proofs.MatchLaws.{match_from_functions}
 use Rattle.shelf_core.specs.State.{ShelfState, Closed}
 use Rattle.shelf_core.specs.declared.outside.ShelfStop.{ShelfStop}
+use Rattle.gen_pair.specs.declared.pair.GenPair.{GenPair}
+use Rattle.net_print.specs.BlifLines.{blif_text}
+use Rattle.net_print.specs.Files.{aig_text}
 use Rattle.shelf_files.specs.Files.{WritesFile}
-use Rattle.run_steps.specs.Make.{HoldsPair, HoldsPartOfPair}
+use Rattle.run_steps.specs.Make.{HoldsPair, HoldsPartOfPair, IsDrawn}
 use Rattle.run_steps.specs.Outcomes.{FollowsWords, IsRight, IsSound, Leaves, MayBeCut}
 use Rattle.run_steps.specs.Report.{IsOneLine, line_of}
-use Rattle.run_steps.specs.Steps.{Decides, IsEnding, IsUnwritten, PrintsPair, WritesPair, WritesText}
+use Rattle.run_steps.specs.Steps.{Decides, IsEnding, IsUnwritten, WritesPair, WritesText}
 use Rattle.command_words.specs.Commands.{asked_make, wanted_by}
 use Rattle.run_steps.specs.Stops.{unwritten}
 use Rattle.command_words.specs.Words.{AsksMake}
@@ -92,58 +95,49 @@ follows_made words asked asks = record {
   read = λ e. cc;
 }
 
--- a pair was printed for the words, and both files written or not
-module _ (tells : Bool) (asked : MakeWords) (first_text second_text : List ℕ) (prints : PrintsPair asked.number first_text second_text) (old new : ShelfState) where
-  holds : (words : List (List ℕ)) → AsksMake words (wanted_by asked) → new.held asked.first.now ≡ Some first_text → new.held asked.second.now ≡ Some second_text → HoldsPair new.held words
+-- a pair was made for the words, and both files written or not
+module _ (tells : Bool) (asked : MakeWords) (pair : GenPair) (drawn : IsDrawn asked.number pair) (old new : ShelfState) where
+  holds : (words : List (List ℕ)) → AsksMake words (wanted_by asked) → new.held asked.first.now ≡ Some (aig_text pair.first) → new.held asked.second.now ≡ Some (blif_text pair.second.graph) → HoldsPair new.held words
   holds words asks first_there second_there =
-      let first = first_read asked.number first_text second_text prints (new.held asked.first.now) first_there in
-      let second = second_read asked.number first_text second_text prints (new.held asked.second.now) second_there in
-      let table = prints.table in
+      let first = first_read asked.number pair drawn (new.held asked.first.now) first_there in
+      let second = second_read asked.number pair drawn (new.held asked.second.now) second_there in
       record {
         wanted = wanted_by asked;
         asks = asks;
-        first = prints.first;
-        second = prints.second;
-        table = table;
-        first_text = first_text;
-        second_text = second_text;
-        printed = prints.printed;
+        pair = pair;
+        drawn = drawn;
         first_there = first_there;
         second_there = second_there;
         first_file = first.0;
         second_file = second.0;
         first_read = first.1;
         second_read = second.1;
-        matches = match_from_functions first.0.circuit second.0.circuit prints.first.graph prints.second.graph table.inputs table.outputs first.1.computes second.1.computes prints.printed.pair.matches;
+        matches = match_from_functions first.0.circuit second.0.circuit pair.first.graph pair.second.graph pair.hidden.inputs pair.hidden.outputs first.1.computes second.1.computes drawn.drawn.matches;
       }
 
-  cut : (words : List (List ℕ)) → AsksMake words (wanted_by asked) → (o : Outcome) → WritesPair tells asked.first.now asked.second.now first_text second_text old new (Err o) → IsTrue tells → HoldsPartOfPair old.held new.held words
+  cut : (words : List (List ℕ)) → AsksMake words (wanted_by asked) → (o : Outcome) → WritesPair tells asked.first.now asked.second.now (aig_text pair.first) (blif_text pair.second.graph) old new (Err o) → IsTrue tells → HoldsPartOfPair old.held new.held words
   cut words asks o writes t = record {
     wanted = wanted_by asked;
     asks = asks;
-    first = prints.first;
-    second = prints.second;
-    table = prints.table;
-    first_text = first_text;
-    second_text = second_text;
-    printed = prints.printed;
+    pair = pair;
+    drawn = drawn;
     part = writes.part t asks.names.apart;
   }
 
-  left_unwritten : (words : List (List ℕ)) → AsksMake words (wanted_by asked) → (o : Outcome) → WritesPair tells asked.first.now asked.second.now first_text second_text old new (Err o) → IsTrue tells → Leaves old.held new.held words o
+  left_unwritten : (words : List (List ℕ)) → AsksMake words (wanted_by asked) → (o : Outcome) → WritesPair tells asked.first.now asked.second.now (aig_text pair.first) (blif_text pair.second.graph) old new (Err o) → IsTrue tells → Leaves old.held new.held words o
   left_unwritten words asks o writes t =
       let part : MayBeCut old.held new.held words = inr (inr (cut words asks o writes t)) in
       of_unwritten (Leaves old.held new.held words) o writes.stopped part part
 
-  pub pair_made : (ending : Ending) → ending.outcome ≡ Made → ending.report.items ≡ line_of Made → WritesPair tells asked.first.now asked.second.now first_text second_text old new (Ok tt) → Decides tells (asked_make asked) old new (Ok ending)
+  pub pair_made : (ending : Ending) → ending.outcome ≡ Made → ending.report.items ≡ line_of Made → WritesPair tells asked.first.now asked.second.now (aig_text pair.first) (blif_text pair.second.graph) old new (Ok tt) → Decides tells (asked_make asked) old new (Ok ending)
   pair_made ending is report writes = record {
     files = λ t n other. writes.others t n other.0 other.1;
     left = λ t words asks. subst (Leaves old.held new.held words) (sym is) (holds words asks (writes.whole t asks.names.apart).0 (writes.whole t asks.names.apart).1);
     right = λ t words asks. subst (IsRight old.held words) (sym is) (wanted_by asked, asks);
     by_words = λ words asks. subst (FollowsWords words) (sym is) (follows_made words asked asks);
-    sound = λ t words asks. subst (IsSound old.held words) (sym is) (record { matches = λ table e. cc; refuses = λ e. cc });
+    sound = λ t words asks. subst (IsSound old.held words) (sym is) (record { matches = λ matching e. cc; refuses = λ e. cc });
     report = λ words asks. inl (
-      subst IsOneLine (sym is) (record { no_table = λ table has. elim has [ inl e ↦ cc | inr e ↦ cc ]; no_rows = λ e. cc }),
+      subst IsOneLine (sym is) (record { unmatched = λ matching has. elim has [ inl e ↦ cc | inr e ↦ cc ]; no_rows = λ e. cc }),
       report ∙ ap line_of (sym is),
     );
     ending = subst IsEnding (sym is) (record { asked = λ e. cc; read = λ e. cc; unwritten = λ e. cc });
@@ -152,7 +146,7 @@ module _ (tells : Bool) (asked : MakeWords) (first_text second_text : List ℕ) 
     unwritten = λ e. cc;
   }
 
-  pub pair_refused : (result : Result Ending Outcome) (o : Outcome) → result ≡ Err o → WritesPair tells asked.first.now asked.second.now first_text second_text old new (Err o) → Decides tells (asked_make asked) old new result
+  pub pair_refused : (result : Result Ending Outcome) (o : Outcome) → result ≡ Err o → WritesPair tells asked.first.now asked.second.now (aig_text pair.first) (blif_text pair.second.graph) old new (Err o) → Decides tells (asked_make asked) old new result
   pair_refused result o is writes =
       subst (λ r. Decides tells (asked_make asked) old new r) (sym is) (record {
         files = λ t n other. writes.others t n other.0 other.1;

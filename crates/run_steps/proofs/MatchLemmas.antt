@@ -5,6 +5,7 @@ use Rattle.std.proofs.lemmas.List.{take_all}
 use Rattle.std.proofs.lemmas.Slice.Eq.{bytes_eq-Decides}
 use Rattle.std.specs.Str.{bytes_eq}
 use Rattle.circuits.proofs.MatchLaws.{match_from_functions, functions_from_equal}
+use Rattle.net_print.specs.BlifLines.{blif_text}
 use Rattle.net_file.specs.declared.named.Named.{Named}
 use Rattle.shelf_core.specs.State.{ShelfState}
 use Rattle.account_check.specs.Verdicts.{IsAccepted as Proves}
@@ -51,21 +52,17 @@ part_of held words proved is =
 -- a whole pair is its first part
 part_of_pair : (before after : List ℕ → Option (List ℕ)) (words : List (List ℕ)) → HoldsPair after words → HoldsPartOfPair before after words
 part_of_pair before after words is =
-    let text = is.second_text in
+    let text = blif_text is.pair.second.graph in
     record {
       wanted = is.wanted;
       asks = is.asks;
-      first = is.first;
-      second = is.second;
-      table = is.table;
-      first_text = is.first_text;
-      second_text = text;
-      printed = is.printed;
+      pair = is.pair;
+      drawn = is.drawn;
       part = inr (is.first_there, inr (length text, is.second_there ∙ ap Some (sym (take_all (length text) text (omega arith)))));
     }
 
 pub may_be_cut : (before after : List ℕ → Option (List ℕ)) (words : List (List ℕ)) (o : Outcome) → Leaves before after words o → MayBeCut before after words
-may_be_cut before after words (Matched table) left = inr (inl (part_of after words (verdict.Match table) left))
+may_be_cut before after words (Matched matching) left = inr (inl (part_of after words (verdict.Match matching) left))
 may_be_cut before after words NoMatching left = inr (inl (part_of after words verdict.None left))
 may_be_cut before after words Made left = inr (inr (part_of_pair before after words left))
 may_be_cut before after words WriteFault left = left
@@ -73,7 +70,7 @@ may_be_cut before after words Memory left = left
 may_be_cut before after words other left = inl left
 
 pub kept : (before after : List ℕ → Option (List ℕ)) (words : List (List ℕ)) (o : Outcome) → LeavesFiles o → Leaves before after words o → (name : List ℕ) → after name ≡ before name
-kept before after words (Matched table) none left = absurd (none.no_table table refl)
+kept before after words (Matched matching) none left = absurd (none.unmatched matching refl)
 kept before after words NoMatching none left = absurd (none.no_refusal refl)
 kept before after words Made none left = absurd (none.no_pair refl)
 kept before after words WriteFault none left = absurd (none.told.written refl)
@@ -149,15 +146,15 @@ module _ (tells : Bool) (asked : MatchWords) (old new : ShelfState) (first secon
   answered : (account : List ℕ) (o : Outcome) → IsAnswered (graphs_of first second) account o → (IsTrue tells → new.held asked.account.now ≡ Some account) → Settles tells asked old.held new.held o
   answered account o answer there =
       of_answer (Settles tells asked old.held new.held) (graphs_of first second) account o answer
-      (λ table proves matches. record {
-        left = λ t words asks. proved_by t words asks account (verdict.Match table) proves (there t);
+      (λ matching proves matches. record {
+        left = λ t words asks. proved_by t words asks account (verdict.Match matching) proves (there t);
         right = λ t words asks. record {
           first = netlist_of first_read.circuit first;
           second = netlist_of second_read.circuit second;
           files = files t words asks;
-          matches = match_from_functions first_read.circuit second_read.circuit first.graph second.graph table.inputs table.outputs first_read.computes second_read.computes matches;
+          matches = match_from_functions first_read.circuit second_read.circuit first.graph second.graph matching.inputs matching.outputs first_read.computes second_read.computes matches;
         };
-        by_words = λ words asks. follows_files words (Matched table) (reads words asks) (λ e. cc) (λ number text e. cc);
+        by_words = λ words asks. follows_files words (Matched matching) (reads words asks) (λ e. cc) (λ number text e. cc);
       })
       (λ proves unequal. record {
         left = λ t words asks. proved_by t words asks account verdict.None proves (there t);
@@ -244,15 +241,15 @@ module _ (tells : Bool) (asked : MatchWords) (old new : ShelfState) (first secon
         left = settles.left;
         right = settles.right;
         by_words = settles.by_words;
-        sound = λ t words asks. of_answer (IsSound old.held words) graphs account ending.outcome answer (λ table proves matches. record { matches = λ other e. cc; refuses = λ e. cc }) (λ proves unequal. record { matches = λ other e. cc; refuses = λ e. cc });
+        sound = λ t words asks. of_answer (IsSound old.held words) graphs account ending.outcome answer (λ matching proves matches. record { matches = λ other e. cc; refuses = λ e. cc }) (λ proves unequal. record { matches = λ other e. cc; refuses = λ e. cc });
         report = λ words asks. inr (inl (record {
           first = netlist_of first_read.circuit first;
           second = netlist_of second_read.circuit second;
-          no_rows = of_answer (λ end. end ≢ Informed) graphs account ending.outcome answer (λ table proves matches e. cc) (λ proves unequal e. cc);
+          no_rows = of_answer (λ end. end ≢ Informed) graphs account ending.outcome answer (λ matching proves matches e. cc) (λ proves unequal e. cc);
           of_files = λ t. inr (files t words asks);
           same = found.report;
         }));
-        ending = of_answer IsEnding graphs account ending.outcome answer (λ table proves matches. record { asked = λ e. cc; read = λ e. cc; unwritten = λ e. cc }) (λ proves unequal. record { asked = λ e. cc; read = λ e. cc; unwritten = λ e. cc });
+        ending = of_answer IsEnding graphs account ending.outcome answer (λ matching proves matches. record { asked = λ e. cc; read = λ e. cc; unwritten = λ e. cc }) (λ proves unequal. record { asked = λ e. cc; read = λ e. cc; unwritten = λ e. cc });
         early = tt;
         failed = λ e. cc;
         unwritten = λ e. cc;

@@ -21,12 +21,12 @@ of_stop P graphs budget o stop spent memory =
     elim stop [ inl (ledger, is, all) ↦ subst P (sym is) (spent ledger all) | inr is ↦ subst P (sym is) memory ]
 
 pub of_answer : (P : Outcome → Type 0) (graphs : Graphs) (account : List ℕ) (o : Outcome) → IsAnswered graphs account o
-    → ((table : Matching) → Proves graphs account (verdict.Match table) → IsMatchOfFunctions graphs.first graphs.second table.inputs table.outputs → P (Matched table))
+    → ((matching : Matching) → Proves graphs account (verdict.Match matching) → IsMatchOfFunctions graphs.first graphs.second matching.inputs matching.outputs → P (Matched matching))
     → (Proves graphs account verdict.None → (HaveNpnpEqualFunctions graphs.first graphs.second → ⊥) → P NoMatching)
     → P o
 of_answer P graphs account o answer matched none =
     elim answer [
-      | inl (table, is, proves, matches) ↦ subst P (sym is) (matched table proves matches)
+      | inl (matching, is, proves, matches) ↦ subst P (sym is) (matched matching proves matches)
       | inr (is, proves, unequal) ↦ subst P (sym is) (none proves unequal)
     ]
 
@@ -52,7 +52,7 @@ ends_run other is = is
 pub early : (o : Outcome) → EndsRun o → IsEarly o
 early o is = record {
   line = record {
-    no_table = λ table has. elim has [ inl e ↦ subst EndsRun e is | inr e ↦ subst EndsRun e is ];
+    unmatched = λ matching has. elim has [ inl e ↦ subst EndsRun e is | inr e ↦ subst EndsRun e is ];
     no_rows = λ e. subst EndsRun e is;
   };
   no_refusal = λ e. subst EndsRun e is;

@@ -13,6 +13,7 @@ use Rattle.text_core.specs.Bytes.{is_blank, is_line_feed}
 use Rattle.text_core.proofs.NumberLemmas.{IsWord-decimal}
 use Rattle.net_file.specs.declared.named.Named.{Named}
 use Rattle.aiger_reader.specs.Headers.{keyword}
+use Rattle.gen_pair.specs.declared.pair.GenPair.{GenPair}
 use Rattle.gen_pair.specs.Names.{HasNames, port_name}
 use Rattle.gen_pair.specs.Pairs.{HasSizes}
 use Rattle.net_print.specs.BlifLines.{blif_text}
@@ -27,8 +28,7 @@ use Rattle.print_laws.proofs.OperandOrder.{computes_too}
 use Rattle.print_laws.proofs.PrintedMeaning.{printed_computes}
 use Rattle.print_laws.proofs.SizeLemmas.{aig_short, blif_short}
 use Rattle.run_steps.specs.Held.{Netlist}
-use Rattle.run_steps.specs.Make.{HoldsComputed}
-use Rattle.run_steps.specs.Steps.{PrintsPair}
+use Rattle.run_steps.specs.Make.{HoldsComputed, IsDrawn}
 
 -- the name of a port is one that a symbol can give: a letter and digits
 
@@ -75,25 +75,24 @@ printable input output named input_line input_blank output_line output_blank siz
 }
 
 -- the first text is read as a netlist that the first graph computes
-pub first_read : (number : ℕ) (first_text second_text : List ℕ) (prints : PrintsPair number first_text second_text) (content : Option (List ℕ)) → content ≡ Some first_text → (file : Netlist) × HoldsComputed content prints.first.graph file
-first_read number first_text second_text prints content there =
-    let named = prints.first in
-    let printed = prints.printed in
-    let sizes = printed.pair.first_size in
-    let names = printed.first_names in
-    let good = printable 97 102 named refl refl refl refl sizes prints.first_ordered names in
+pub first_read : (number : ℕ) (pair : GenPair) → IsDrawn number pair → (content : Option (List ℕ)) → content ≡ Some (aig_text pair.first) → (file : Netlist) × HoldsComputed content pair.first.graph file
+first_read number pair is content there =
+    let named = pair.first in
+    let sizes = is.drawn.first_size in
+    let names = is.first_names in
+    let good = printable 97 102 named refl refl refl refl sizes is.first_ordered names in
     let inputs = subst (All IsShortName) (sym names.inputs) (names_short 97 0 named.graph.inputs (omega (arith, sizes.inputs))) in
     let outputs = subst (All IsShortName) (sym names.outputs) (names_short 102 0 (length named.graph.outputs) (omega (arith, sizes.outputs))) in
-    let is = aig_is named good in (
+    let text = aig_is named good in (
       record { circuit = as_circuit (with_greater_first named.graph); input_names = named.input_names; output_names = named.output_names },
       record {
         holds = record {
           bytes = aig_text named;
-          there = there ∙ ap Some printed.first_is;
+          there = there;
           short = aig_short named good inputs outputs;
-          is = inl ((is.h.binary, is.netlist.begins.header.begins), is);
+          is = inl ((text.h.binary, text.netlist.begins.header.begins), text);
         };
-        computes = computes_too named.graph prints.first_ordered;
+        computes = computes_too named.graph is.first_ordered;
       },
     )
 
@@ -103,19 +102,18 @@ no_keyword net true e = let is : 46 ≡ 97 = ap (λ (text : List ℕ). get_or te
 no_keyword net false e = let is : 46 ≡ 97 = ap (λ (text : List ℕ). get_or text 0 0) e in omega (arith, is)
 
 -- the second text is read as a netlist that the second graph computes
-pub second_read : (number : ℕ) (first_text second_text : List ℕ) (prints : PrintsPair number first_text second_text) (content : Option (List ℕ)) → content ≡ Some second_text → (file : Netlist) × HoldsComputed content prints.second.graph file
-second_read number first_text second_text prints content there =
-    let net = prints.second.graph in
-    let printed = prints.printed in
-    let within = within_limits net printed.pair.second_size prints.second_ordered in (
+pub second_read : (number : ℕ) (pair : GenPair) → IsDrawn number pair → (content : Option (List ℕ)) → content ≡ Some (blif_text pair.second.graph) → (file : Netlist) × HoldsComputed content pair.second.graph file
+second_read number pair is content there =
+    let net = pair.second.graph in
+    let within = within_limits net is.drawn.second_size is.second_ordered in (
       record { circuit = printed_circuit net; input_names = printed_inputs net; output_names = printed_outputs net },
       record {
         holds = record {
           bytes = blif_text net;
-          there = there ∙ ap Some printed.second_is;
+          there = there;
           short = blif_short net within;
           is = inr (λ (binary, e). no_keyword net binary e, printed_blif net within);
         };
-        computes = printed_computes net prints.second_ordered;
+        computes = printed_computes net is.second_ordered;
       },
     )

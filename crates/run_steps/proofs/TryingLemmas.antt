@@ -39,7 +39,7 @@ none_some (Some x) is none = none x refl
 pub proved_match : (graphs : Graphs) (account : List ℕ) (o : Outcome) → HaveNpnpEqualFunctions graphs.first graphs.second → IsAnswered graphs account o → IsProvedMatch graphs account
 proved_match graphs account o equal answer =
     of_answer (λ end. IsProvedMatch graphs account) graphs account o answer
-    (λ table proves matches. record { table = table; accepted = proves; matches = matches })
+    (λ matching proves matches. record { matching = matching; accepted = proves; matches = matches })
     (λ proves unequal. absurd (unequal equal))
 
 -- the error is what ended the search
@@ -50,10 +50,10 @@ ends_as graphs budget o result is stop = subst (λ r. IfErr r (IsStopWithin grap
 
 pub no_refusal_told : (graphs : Graphs) (account : List ℕ) (result : Result Verdict CheckStop) → IsProvedMatch graphs account → ((told : Verdict) → result ≢ Err check.Memory → (result ≡ Ok told) ↔ Proves graphs account told) → result ≡ Ok verdict.None → ⊥
 no_refusal_told graphs account result proved accepted is =
-    let same = one_proved graphs account (verdict.Match proved.table) verdict.None proved.accepted ((accepted verdict.None (λ e. cc)).0 is) in cc
+    let same = one_proved graphs account (verdict.Match proved.matching) verdict.None proved.accepted ((accepted verdict.None (λ e. cc)).0 is) in cc
 
 pub no_rejection_told : (graphs : Graphs) (account : List ℕ) (line : ℕ) (why : Why) (result : Result Verdict CheckStop) → IsProvedMatch graphs account → ((l : ℕ) (w : Why) → result ≢ Err check.Memory → (result ≡ Err (check.Rejected l w)) ↔ IsBadAt graphs account l w) → result ≡ Err (check.Rejected line why) → ⊥
-no_rejection_told graphs account line why result proved rejected is = never_both graphs account (verdict.Match proved.table) line why proved.accepted ((rejected line why (λ e. cc)).0 is)
+no_rejection_told graphs account line why result proved rejected is = never_both graphs account (verdict.Match proved.matching) line why proved.accepted ((rejected line why (λ e. cc)).0 is)
 
 -- what ends a trial of a pair early
 pub stopped : (number : ℕ) (graphs : Graphs) (hidden : Matching) (o : Outcome) (result : Result Ending Outcome) → result ≡ Err o → IsPairOf number graphs.first graphs.second hidden → IsStopWithin graphs 1000000000 o → Tries number result
@@ -72,7 +72,7 @@ tried number graphs hidden account ending pair proved is report = record {
   answer = (
     account,
     is,
-    record { graphs = graphs; hidden = hidden; pair = pair; table = proved.table; accepted = proved.accepted; matches = proved.matches },
+    record { graphs = graphs; hidden = hidden; pair = pair; matching = proved.matching; accepted = proved.accepted; matches = proved.matches },
     report,
   );
   stopped = tt;

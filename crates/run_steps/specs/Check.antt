@@ -35,7 +35,7 @@ pub record HasAccount (held : List ℕ → Option (List ℕ)) (words : List (Lis
   pub second_held : HoldsGraph (held second_name) graphs.second
   pub there : held account_name ≡ Some account
 
--- The account's records are all valid, and prove this: that a table is a match, or that there is none.
+-- The account's records are all valid, and prove this: that a matching is a match, or that there is none.
 pub record IsAccepted (held : List ℕ → Option (List ℕ)) (words : List (List ℕ)) (proved : Verdict) : Type 0 where
   pub graphs : Graphs
   pub account : List ℕ
@@ -49,13 +49,13 @@ pub record IsRejected (held : List ℕ → Option (List ℕ)) (words : List (Lis
   pub has : HasAccount held words graphs account
   pub rejected : IsBadAt graphs account line why
 
--- The words ask for a check of two files that are netlists, and the table is a match of them.
-pub record IsMatchOfFiles (held : List ℕ → Option (List ℕ)) (words : List (List ℕ)) (table : Matching) : Type 0 where
+-- The words ask for a check of two files that are netlists, and the matching is a match of them.
+pub record IsMatchOfFiles (held : List ℕ → Option (List ℕ)) (words : List (List ℕ)) (matching : Matching) : Type 0 where
   pub first : Netlist
   pub second : Netlist
   pub account_name : List ℕ
   pub asked : IsAsked held words first second account_name
-  pub matches : IsMatch first.circuit second.circuit table.inputs table.outputs
+  pub matches : IsMatch first.circuit second.circuit matching.inputs matching.outputs
 
 -- The words ask for a check of two files that are netlists, and no signed bijections make the two circuits equal.
 pub record LacksMatch (held : List ℕ → Option (List ℕ)) (words : List (List ℕ)) : Type 0 where

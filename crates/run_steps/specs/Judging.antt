@@ -8,7 +8,7 @@ use Rattle.account_check.specs.declared.verdict.CheckStop.TheVariants as check
 use Rattle.account_check.specs.declared.verdict.Why.{Why}
 use Rattle.account_check.specs.Checking.{HasTaken, Progress}
 use Rattle.account_check.specs.Verdicts.{IsRejected as IsBadAt}
-use Rattle.run_steps.specs.Steps.{IsJudged, IsMatchIfTable, IsVerdict}
+use Rattle.run_steps.specs.Steps.{IsJudged, IsMatchIfAny, IsVerdict}
 use Rattle.shelf_files.specs.declared.files.ReadStop.{ReadStop}
 use Rattle.shelf_files.specs.declared.files.ReadStop.TheVariants as stop
 use Rattle.run_steps.specs.declared.judging.Halt.{Halt}
@@ -51,7 +51,7 @@ pub record JudgesRest (tells : Bool) (graphs : Graphs) (old new : ShelfState) (r
   pub mode : new.mode ≡ Reading
   pub verdict : IfOk result (λ outcome. (account : List ℕ) × IsVerdict graphs (Some account) outcome
       × (IsTrue tells → account ≡ old.unread))
-  pub matches : IfOk result (IsMatchIfTable graphs.first graphs.second)
+  pub matches : IfOk result (IsMatchIfAny graphs.first graphs.second)
   pub judged : IfOk result IsJudged
   pub faults : old.faults ≤ new.faults
   pub failed : result ≡ Err stop.ReadFault → Rose old.faults new.faults

@@ -2,9 +2,9 @@
 use Rattle.std.specs.Prelude.{◌≡◌, ◌⊎◌, ℕ, List, Option, Some, take}
 use Rattle.circuits.specs.Functions.{Computes}
 use Rattle.circuits.specs.Matches.{IsMatch, IsMatchOfFunctions}
-use Rattle.circuits.specs.Netlists.{Net}
+use Rattle.circuits.specs.Netlists.{Net, IsOrdered}
 use Rattle.net_core.specs.declared.matching.Matching.{Matching}
-use Rattle.net_file.specs.declared.named.Named.{Named}
+use Rattle.gen_pair.specs.declared.pair.GenPair.{GenPair}
 use Rattle.gen_pair.specs.Names.{HasNames}
 use Rattle.gen_pair.specs.Pairs.{ArePairOf, HasSizes}
 use Rattle.net_print.specs.BlifLines.{blif_text}
@@ -12,43 +12,40 @@ use Rattle.net_print.specs.Files.{aig_text}
 use Rattle.run_steps.specs.Held.{Netlist, HoldsNetlist}
 use Rattle.command_words.specs.Words.{AsksMake, AsksMatch, Sought, Wanted}
 
--- The pair of a number: two graphs of 64 inputs, 32 outputs and 2,000 gates, and the table that matches them.
-pub record IsPairOf (number : ℕ) (first second : Net) (table : Matching) : Type 0 where
-  pub drawn : ArePairOf number first second table.inputs table.outputs
-  pub matches : IsMatchOfFunctions first second table.inputs table.outputs
+-- The pair of a number: two graphs of 64 inputs, 32 outputs and 2,000 gates, and a match of them.
+pub record IsPairOf (number : ℕ) (first second : Net) (matching : Matching) : Type 0 where
+  pub drawn : ArePairOf number first second matching.inputs matching.outputs
+  pub matches : IsMatchOfFunctions first second matching.inputs matching.outputs
   pub first_size : HasSizes first
   pub second_size : HasSizes second
 
--- A pair as it is printed: the first netlist in the binary form of AIGER, with the names of its ports, the second as BLIF.
-pub record IsPrintedPair (number : ℕ) (first second : Named) (table : Matching) (first_text second_text : List ℕ) : Type 0 where
-  pub pair : IsPairOf number first.graph second.graph table
-  pub first_names : HasNames 97 102 first
-  pub second_names : HasNames 112 113 second
-  pub first_is : first_text ≡ aig_text first
-  pub second_is : second_text ≡ blif_text second.graph
+-- A pair of netlists is that of a number, with the names of its ports, and the gates of both stand in order.
+pub record IsDrawn (number : ℕ) (pair : GenPair) : Type 0 where
+  pub drawn : IsPairOf number pair.first.graph pair.second.graph pair.hidden
+  pub first_names : HasNames 97 102 pair.first
+  pub second_names : HasNames 112 113 pair.second
+  pub first_ordered : IsOrdered pair.first.graph
+  pub second_ordered : IsOrdered pair.second.graph
 
 -- What a name holds is read as a netlist that a graph computes.
 pub record HoldsComputed (content : Option (List ℕ)) (graph : Net) (netlist : Netlist) : Type 0 where
   pub holds : HoldsNetlist content netlist
   pub computes : Computes graph netlist.circuit
 
--- The words ask for a pair, and the two files hold it: netlists that its graphs compute, and its table is a match of them.
+-- The words ask for a pair, and the two files hold it, the first netlist in the binary form of AIGER and the second as BLIF:
+-- netlists that its graphs compute, and of which its matching is a match.
 pub record HoldsPair (held : List ℕ → Option (List ℕ)) (words : List (List ℕ)) : Type 0 where
   pub wanted : Wanted
   pub asks : AsksMake words wanted
-  pub first : Named
-  pub second : Named
-  pub table : Matching
-  pub first_text : List ℕ
-  pub second_text : List ℕ
-  pub printed : IsPrintedPair wanted.number first second table first_text second_text
-  pub first_there : held wanted.first ≡ Some first_text
-  pub second_there : held wanted.second ≡ Some second_text
+  pub pair : GenPair
+  pub drawn : IsDrawn wanted.number pair
+  pub first_there : held wanted.first ≡ Some (aig_text pair.first)
+  pub second_there : held wanted.second ≡ Some (blif_text pair.second.graph)
   pub first_file : Netlist
   pub second_file : Netlist
-  pub first_read : HoldsComputed (held wanted.first) first.graph first_file
-  pub second_read : HoldsComputed (held wanted.second) second.graph second_file
-  pub matches : IsMatch first_file.circuit second_file.circuit table.inputs table.outputs
+  pub first_read : HoldsComputed (held wanted.first) pair.first.graph first_file
+  pub second_read : HoldsComputed (held wanted.second) pair.second.graph second_file
+  pub matches : IsMatch first_file.circuit second_file.circuit pair.hidden.inputs pair.hidden.outputs
 
 -- a file is as it was, or holds the first bytes of a text
 abbrev pub IsCutFrom : List ℕ → Option (List ℕ) → Option (List ℕ) → Type 0
@@ -58,15 +55,12 @@ IsCutFrom text before after = (after ≡ before) ⊎ ((count : ℕ) × (after �
 pub record HoldsPartOfPair (before after : List ℕ → Option (List ℕ)) (words : List (List ℕ)) : Type 0 where
   pub wanted : Wanted
   pub asks : AsksMake words wanted
-  pub first : Named
-  pub second : Named
-  pub table : Matching
-  pub first_text : List ℕ
-  pub second_text : List ℕ
-  pub printed : IsPrintedPair wanted.number first second table first_text second_text
+  pub pair : GenPair
+  pub drawn : IsDrawn wanted.number pair
   pub part :
-      (IsCutFrom first_text (before wanted.first) (after wanted.first) × (after wanted.second ≡ before wanted.second))
-      ⊎ ((after wanted.first ≡ Some first_text) × IsCutFrom second_text (before wanted.second) (after wanted.second))
+      (IsCutFrom (aig_text pair.first) (before wanted.first) (after wanted.first) × (after wanted.second ≡ before wanted.second))
+      ⊎ ((after wanted.first ≡ Some (aig_text pair.first))
+      × IsCutFrom (blif_text pair.second.graph) (before wanted.second) (after wanted.second))
 
 -- the words ask for a match or for a pair, which are written
 abbrev pub WriteFiles : List (List ℕ) → Type 0

@@ -24,12 +24,12 @@ pub record IsAskedToMatch (held : List ℕ → Option (List ℕ)) (words : List 
   pub second : Netlist
   pub files : IsSought held words first second
 
--- The words ask for a match of two files that are netlists, and the table is one.
-pub record IsMatchFound (held : List ℕ → Option (List ℕ)) (words : List (List ℕ)) (table : Matching) : Type 0 where
+-- The words ask for a match of two files that are netlists, and the matching is one.
+pub record IsMatchFound (held : List ℕ → Option (List ℕ)) (words : List (List ℕ)) (matching : Matching) : Type 0 where
   pub first : Netlist
   pub second : Netlist
   pub files : IsSought held words first second
-  pub matches : IsMatch first.circuit second.circuit table.inputs table.outputs
+  pub matches : IsMatch first.circuit second.circuit matching.inputs matching.outputs
 
 -- The words ask for a match of two files that are netlists, and no signed bijections make the two circuits equal.
 pub record HasNoMatch (held : List ℕ → Option (List ℕ)) (words : List (List ℕ)) : Type 0 where

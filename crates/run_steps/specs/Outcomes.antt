@@ -78,7 +78,7 @@ IsOfOne outcome = (outcome ≡ Informed) ⊎ ((ledger : Ledgered) × (outcome �
 -- the outcome is one of two netlists of which a match is sought
 abbrev pub IsOfMatch : Outcome → Type 0
 IsOfMatch outcome =
-    ((table : Matching) × (outcome ≡ Matched table))
+    ((matching : Matching) × (outcome ≡ Matched matching))
     ⊎ (outcome ≡ NoMatching)
     ⊎ ((ledger : Ledgered) × (outcome ≡ Spent ledger))
 
@@ -94,9 +94,9 @@ IsAbsent held words which = EndsEarly held words (Absent which) ⊎ ((which ≡ 
 
 -- what an outcome says of the words and the files; the faults and the running out of memory say nothing of them
 abbrev pub IsRight : (List ℕ → Option (List ℕ)) → List (List ℕ) → Outcome → Type 0
-IsRight held words (Matched table) = IsMatchFound held words table
+IsRight held words (Matched matching) = IsMatchFound held words matching
 IsRight held words NoMatching = HasNoMatch held words
-IsRight held words (AcceptedMatch table) = IsAccepted held words (verdict.Match table)
+IsRight held words (AcceptedMatch matching) = IsAccepted held words (verdict.Match matching)
 IsRight held words AcceptedRefusal = IsAccepted held words verdict.None
 IsRight held words (Rejected line why) = IsRejected held words line why
 IsRight held words Informed = IsAskedOf held words
@@ -109,10 +109,10 @@ IsRight held words (TooLarge which) = EndsEarly held words (TooLarge which)
 IsRight held words (Malformed which kind at) = EndsEarly held words (Malformed which kind at)
 IsRight held words other = Unit {0}
 
--- Whoever wrote the account, a table that is accepted is a match of the files' netlists, and where a refusal is accepted
+-- Whoever wrote the account, a matching that is accepted is a match of the files' netlists, and where a refusal is accepted
 -- they have no match.
 pub record IsSound (held : List ℕ → Option (List ℕ)) (words : List (List ℕ)) (outcome : Outcome) : Type 0 where
-  pub matches : (table : Matching) → outcome ≡ AcceptedMatch table → IsMatchOfFiles held words table
+  pub matches : (matching : Matching) → outcome ≡ AcceptedMatch matching → IsMatchOfFiles held words matching
   pub refuses : outcome ≡ AcceptedRefusal → LacksMatch held words
 
 -- the report was put whole
@@ -132,7 +132,7 @@ pub record IsSettled (outcome : Outcome) : Type 0 where
 
 -- the outcome is one that writes no file
 pub record LeavesFiles (outcome : Outcome) : Type 0 where
-  pub no_table : (table : Matching) → outcome ≢ Matched table
+  pub unmatched : (matching : Matching) → outcome ≢ Matched matching
   pub no_refusal : outcome ≢ NoMatching
   pub no_pair : outcome ≢ Made
   pub told : IsTold outcome
@@ -151,7 +151,7 @@ MayBeCut before after words = ((name : List ℕ) → after name ≡ before name)
 
 -- what an outcome says of the files that are held before and afterwards
 abbrev pub Leaves : (List ℕ → Option (List ℕ)) → (List ℕ → Option (List ℕ)) → List (List ℕ) → Outcome → Type 0
-Leaves before after words (Matched table) = IsProved after words (verdict.Match table)
+Leaves before after words (Matched matching) = IsProved after words (verdict.Match matching)
 Leaves before after words NoMatching = IsProved after words verdict.None
 Leaves before after words Made = HoldsPair after words
 Leaves before after words WriteFault = MayBeCut before after words

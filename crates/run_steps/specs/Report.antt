@@ -6,7 +6,7 @@ use Rattle.net_file.specs.Kinds.{kind_number}
 use Rattle.net_core.specs.declared.matching.Matching.{Matching}
 use Rattle.net_file.specs.declared.named.Named.{Named}
 use Rattle.query_core.specs.Ledgers.{learned_in}
-use Rattle.port_report.specs.Reports.{PortNames, match_text, rejected_text}
+use Rattle.port_report.specs.Reports.{PortNames, table_text, rejected_text}
 use Rattle.account_check.specs.Words.{word_of}
 use Rattle.run_steps.specs.Check.{IsAsked}
 use Rattle.run_steps.specs.Held.{Netlist, HoldsNetlist}
@@ -31,10 +31,10 @@ tried_line number = codes "trial " ++ decimal number ++ codes " matched accepted
 
 -- the line that names an outcome; a failed write has none, and what is known of a netlist is more than a line
 abbrev pub line_of : Outcome → List ℕ
-line_of (AcceptedMatch table) = codes "accepted match" ++ 10 ∷ []
+line_of (AcceptedMatch matching) = codes "accepted match" ++ 10 ∷ []
 line_of AcceptedRefusal = codes "accepted refusal" ++ 10 ∷ []
 line_of (Rejected line why) = rejected_text line (word_of why)
-line_of (Matched table) = codes "matched" ++ 10 ∷ []
+line_of (Matched matching) = codes "matched" ++ 10 ∷ []
 line_of NoMatching = codes "no matching" ++ 10 ∷ []
 line_of (Spent ledger) = codes "spent " ++ decimal (learned_in ledger) ++ 10 ∷ []
 line_of Informed = []
@@ -48,19 +48,19 @@ line_of ReadFault = codes "read fault" ++ 10 ∷ []
 line_of WriteFault = []
 line_of Memory = codes "out of memory" ++ 10 ∷ []
 
--- the outcome has this port table
-abbrev pub HasTable : Outcome → Matching → Type 0
-HasTable outcome table = (outcome ≡ AcceptedMatch table) ⊎ (outcome ≡ Matched table)
+-- the outcome has this matching
+abbrev pub HasMatching : Outcome → Matching → Type 0
+HasMatching outcome matching = (outcome ≡ AcceptedMatch matching) ⊎ (outcome ≡ Matched matching)
 
 -- The report of the outcome is its line.
 pub record IsOneLine (outcome : Outcome) : Type 0 where
-  pub no_table : (table : Matching) → HasTable outcome table → ⊥
+  pub unmatched : (matching : Matching) → HasMatching outcome matching → ⊥
   pub no_rows : outcome ≢ Informed
 
--- the report of an outcome of two netlists: its line, and after that of a match the port table
+-- the report of an outcome of two netlists: its line, and after that of a match its port table
 abbrev pub report_on : PortNames → PortNames → Outcome → List ℕ
-report_on first second (AcceptedMatch table) = line_of (AcceptedMatch table) ++ match_text first second table
-report_on first second (Matched table) = line_of (Matched table) ++ match_text first second table
+report_on first second (AcceptedMatch matching) = line_of (AcceptedMatch matching) ++ table_text first second matching
+report_on first second (Matched matching) = line_of (Matched matching) ++ table_text first second matching
 report_on first second other = line_of other
 
 abbrev pub port_names : Netlist → PortNames

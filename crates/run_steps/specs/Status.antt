@@ -4,10 +4,10 @@ use Rattle.run_steps.specs.declared.outcome.Outcome.{Outcome}
 use Rattle.run_steps.specs.declared.outcome.Outcome.TheVariants.{AcceptedMatch, AcceptedRefusal, Rejected, Matched, NoMatching, Spent, Usage, Absent, TooLarge, Malformed, Informed, Made, Tried, ReadFault, WriteFault, Memory}
 
 abbrev pub status_of : Outcome → ℕ
-status_of (AcceptedMatch table) = 0
+status_of (AcceptedMatch matching) = 0
 status_of AcceptedRefusal = 1
 status_of (Rejected line why) = 2
-status_of (Matched table) = 0
+status_of (Matched matching) = 0
 status_of NoMatching = 1
 status_of Informed = 0
 status_of Made = 0

@@ -4,7 +4,7 @@ use Rattle.circuits.specs.Circuits.{Circuit}
 use Rattle.circuits.specs.Functions.{Computes}
 use Rattle.circuits.specs.Levels.{IsAcyclic, IsOrderOf}
 use Rattle.circuits.specs.Matches.{IsMatchOfFunctions, HaveNpnpEqualFunctions}
-use Rattle.circuits.specs.Netlists.{Net, IsOrdered}
+use Rattle.circuits.specs.Netlists.{Net}
 use Rattle.shelf_core.specs.Fault.{Rose}
 use Rattle.shelf_core.specs.State.{ShelfState, SinkState, Closed}
 use Rattle.net_core.specs.Sides.{Graphs}
@@ -19,10 +19,10 @@ use Rattle.run_steps.specs.Circuits.{IsCircuit, IsCircuitFault}
 use Rattle.shelf_files.specs.Files.{HoldsFirst}
 use Rattle.run_steps.specs.Info.{IsInfoText, IsSpentOf, with_itself}
 use Rattle.run_steps.specs.Held.{Netlist, HoldsNetlist}
-use Rattle.run_steps.specs.Make.{IsCutFrom, IsPrintedPair}
+use Rattle.run_steps.specs.Make.{IsCutFrom}
 use Rattle.run_steps.specs.Trial.{IsSpentOnPairOf, IsTrialOf}
 use Rattle.run_steps.specs.Outcomes.{EndsAt, FollowsWords, IsRight, IsSound, IsTold, Leaves}
-use Rattle.run_steps.specs.Report.{HasTable, IsOneLine, IsReport, line_of, report_on}
+use Rattle.run_steps.specs.Report.{HasMatching, IsOneLine, IsReport, line_of, report_on}
 use Rattle.run_steps.specs.declared.outcome.Which.{Which}
 use Rattle.run_steps.specs.declared.outcome.Which.TheVariants.{Account}
 use Rattle.run_steps.specs.declared.outcome.Outcome.{Outcome}
@@ -104,8 +104,8 @@ graphs_of first second = record { first = first.graph; second = second.graph }
 
 -- what an outcome says of two graphs and of what the account's name holds
 abbrev pub IsVerdict : Graphs → Option (List ℕ) → Outcome → Type 0
-IsVerdict graphs content (AcceptedMatch table) =
-    (account : List ℕ) × (content ≡ Some account) × Proves graphs account (verdict.Match table)
+IsVerdict graphs content (AcceptedMatch matching) =
+    (account : List ℕ) × (content ≡ Some account) × Proves graphs account (verdict.Match matching)
 IsVerdict graphs content AcceptedRefusal =
     (account : List ℕ) × (content ≡ Some account) × Proves graphs account verdict.None
 IsVerdict graphs content (Rejected line why) =
@@ -113,10 +113,10 @@ IsVerdict graphs content (Rejected line why) =
 IsVerdict graphs content (Absent file) = (file ≡ Account) × (content ≡ None)
 IsVerdict graphs content other = ⊥
 
--- a table that is accepted or found is a match of the graphs
-abbrev pub IsMatchIfTable : Net → Net → Outcome → Type 0
-IsMatchIfTable f g outcome =
-    (table : Matching) → HasTable outcome table → IsMatchOfFunctions f g table.inputs table.outputs
+-- a matching that is accepted or found is a match of the graphs
+abbrev pub IsMatchIfAny : Net → Net → Outcome → Type 0
+IsMatchIfAny f g outcome =
+    (matching : Matching) → HasMatching outcome matching → IsMatchOfFunctions f g matching.inputs matching.outputs
 
 -- where a refusal is accepted, no signed bijections make the graphs' functions equal
 abbrev pub IsUnequalIfRefused : Net → Net → Outcome → Type 0
@@ -131,13 +131,13 @@ pub record IsJudged (outcome : Outcome) : Type 0 where
   pub no_match : outcome ≢ NoMatching
   pub no_pair : outcome ≢ Made
   pub no_trial : (number : ℕ) (account : List ℕ) → outcome ≢ Tried number account
-  pub no_table : (table : Matching) → outcome ≢ Matched table
+  pub unmatched : (matching : Matching) → outcome ≢ Matched matching
 
 -- Judging two graphs by what the account's name holds.
 pub record Judges (tells : Bool) (graphs : Graphs) (content : Option (List ℕ)) (old new : ShelfState) (result : Result Outcome ReadStop) : Type 0 where
   pub files : (n : List ℕ) → new.held n ≡ old.held n
   pub right : IsTrue tells → IfOk result (IsVerdict graphs content)
-  pub matches : IfOk result (IsMatchIfTable graphs.first graphs.second)
+  pub matches : IfOk result (IsMatchIfAny graphs.first graphs.second)
   pub refuses : IfOk result (IsUnequalIfRefused graphs.first graphs.second)
   pub judged : IfOk result IsJudged
   pub faults : old.faults ≤ new.faults
@@ -146,18 +146,18 @@ pub record Judges (tells : Bool) (graphs : Graphs) (content : Option (List ℕ))
 -- an answer for two graphs, with an account that is accepted: a match, or that there is none
 abbrev pub IsAnswered : Graphs → List ℕ → Outcome → Type 0
 IsAnswered graphs account outcome =
-    ((table : Matching) × (outcome ≡ Matched table)
-    × Proves graphs account (verdict.Match table)
-    × IsMatchOfFunctions graphs.first graphs.second table.inputs table.outputs)
+    ((matching : Matching) × (outcome ≡ Matched matching)
+    × Proves graphs account (verdict.Match matching)
+    × IsMatchOfFunctions graphs.first graphs.second matching.inputs matching.outputs)
     ⊎ ((outcome ≡ NoMatching)
     × Proves graphs account verdict.None
     × (HaveNpnpEqualFunctions graphs.first graphs.second → ⊥))
 
 -- an account of a match of two graphs that is accepted
 pub record IsProvedMatch (graphs : Graphs) (account : List ℕ) : Type 0 where
-  pub table : Matching
-  pub accepted : Proves graphs account (verdict.Match table)
-  pub matches : IsMatchOfFunctions graphs.first graphs.second table.inputs table.outputs
+  pub matching : Matching
+  pub accepted : Proves graphs account (verdict.Match matching)
+  pub matches : IsMatchOfFunctions graphs.first graphs.second matching.inputs matching.outputs
 
 -- Nothing was asked in a ledger.
 abbrev pub IsNew : Ledgered → Type 0
@@ -228,15 +228,6 @@ pub record WritesPair (tells : Bool) (first_name second_name first second : List
   pub faults : old.faults ≤ new.faults
   pub failed : result ≡ Err WriteFault → Rose old.faults new.faults
 
--- Printing the pair of a number.
-pub record PrintsPair (number : ℕ) (first_text second_text : List ℕ) : Type 0 where
-  pub first : Named
-  pub second : Named
-  pub table : Matching
-  pub printed : IsPrintedPair number first second table first_text second_text
-  pub first_ordered : IsOrdered first.graph
-  pub second_ordered : IsOrdered second.graph
-
 -- what ends the trial of a pair: the budget is spent on it, or memory ran out
 abbrev pub IsStopOfTrial : ℕ → Outcome → Type 0
 IsStopOfTrial number outcome =
@@ -276,7 +267,7 @@ pub record Decides (tells : Bool) (command : Command) (old new : ShelfState) (re
       → IsRight old.held words (ended result)
   -- and what the words alone say
   pub by_words : (words : List (List ℕ)) → Ask words command → FollowsWords words (ended result)
-  -- an accepted table is a match of the files' netlists, and an accepted refusal is right
+  -- an accepted matching is a match of the files' netlists, and an accepted refusal is right
   pub sound : IsTrue tells
       → (words : List (List ℕ))
       → Ask words command

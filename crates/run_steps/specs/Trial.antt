@@ -10,14 +10,14 @@ use Rattle.run_steps.specs.Info.{IsSpentOf}
 use Rattle.run_steps.specs.Make.{IsPairOf}
 use Rattle.command_words.specs.Words.{AsksTrial}
 
--- The account is accepted for the pair of a number: it proves that a table is a match of the two, which it is.
+-- The account is accepted for the pair of a number: it proves that a matching is a match of the two, which it is.
 pub record IsTrialOf (number : ℕ) (account : List ℕ) : Type 0 where
   pub graphs : Graphs
   pub hidden : Matching
   pub pair : IsPairOf number graphs.first graphs.second hidden
-  pub table : Matching
-  pub accepted : Proves graphs account (verdict.Match table)
-  pub matches : IsMatchOfFunctions graphs.first graphs.second table.inputs table.outputs
+  pub matching : Matching
+  pub accepted : Proves graphs account (verdict.Match matching)
+  pub matches : IsMatchOfFunctions graphs.first graphs.second matching.inputs matching.outputs
 
 -- The words ask for a trial of a number, and the account is accepted for its pair.
 pub record IsTried (words : List (List ℕ)) (number : ℕ) (account : List ℕ) : Type 0 where

@@ -4,8 +4,9 @@ ghost use Rattle.std.specs.Prelude.{ℕ, List, ◌≡◌, ◌≢◌, ◌+◌, �
 ghost use Rattle.net_core.specs.Sides.{Graphs as TwoGraphs};
 ghost use Rattle.account_check.specs.Checking.{HasTaken, IsUnderWay};
 ghost use Rattle.shelf_core.specs.State.{Closed, Reading};
+ghost use Rattle.shelf_files.specs.Files.{HasUnread};
 ghost use Rattle.run_steps.specs.Judging.{FeedsNext, FeedsRest, JudgesRest};
-ghost use Rattle.run_steps.specs.Steps.{IsJudged, IsMatchIfTable, IsVerdict, Judges, graphs_of};
+ghost use Rattle.run_steps.specs.Steps.{IsJudged, IsMatchIfAny, IsVerdict, Judges, graphs_of};
 
 use crate::outcome::{Outcome, Which};
 use account_check::{AccountCheck, CheckStop, Verdict, Why};
@@ -77,9 +78,7 @@ fn judge_open<S: Shelf, W: Watch>(
     size: u64,
     watch: &W,
 ) -> Result<Outcome, ReadStop>
-    requires reading { (S.state shelf.old).mode ≡ Reading }
-    requires left { (S.state shelf.old).left ≡ size }
-    requires told { IsTrue S.tells → length (S.state shelf.old).unread ≡ size }
+    requires { HasUnread S.tells (S.state shelf.old) size }
     ensures { Judges S.tells graphs.now (Some (S.state shelf.old).unread)
         (S.state shelf.old) (S.state shelf.new) result }
 {
@@ -98,9 +97,7 @@ fn judge_by<S: Shelf, W: Watch>(
     size: u64,
     watch: &W,
 ) -> Result<Outcome, ReadStop>
-    requires reading { (S.state shelf.old).mode ≡ Reading }
-    requires left { (S.state shelf.old).left ≡ size }
-    requires told { IsTrue S.tells → length (S.state shelf.old).unread ≡ size }
+    requires unread { HasUnread S.tells (S.state shelf.old) size }
     requires room { 0 < length piece.old }
     ensures judges { Judges S.tells graphs.now (Some (S.state shelf.old).unread)
         (S.state shelf.old) (S.state shelf.new) result }
@@ -121,9 +118,7 @@ fn judge_rest<S: Shelf, W: Watch>(
     check: &mut AccountCheck<'_>,
     watch: &W,
 ) -> Result<Outcome, ReadStop>
-    requires reading { (S.state shelf.old).mode ≡ Reading }
-    requires left { (S.state shelf.old).left ≡ size }
-    requires told { IsTrue S.tells → length (S.state shelf.old).unread ≡ size }
+    requires unread { HasUnread S.tells (S.state shelf.old) size }
     requires room { 0 < length piece.old }
     requires begun { (graphs : TwoGraphs) × HasTaken graphs [] check.old }
     ensures { (graphs : TwoGraphs) → HasTaken graphs [] check.old
@@ -145,9 +140,7 @@ fn feed_rest<S: Shelf, W: Watch>(
     check: &mut AccountCheck<'_>,
     watch: &W,
 ) -> Result<(), Halt>
-    requires reading { (S.state shelf.old).mode ≡ Reading }
-    requires left { (S.state shelf.old).left ≡ size }
-    requires told { IsTrue S.tells → length (S.state shelf.old).unread ≡ size }
+    requires unread { HasUnread S.tells (S.state shelf.old) size }
     requires room { 0 < length piece.old }
     requires begun { (graphs : TwoGraphs) × HasTaken graphs [] check.old }
     ensures { (graphs : TwoGraphs) → HasTaken graphs [] check.old
@@ -187,12 +180,12 @@ fn settle(alloc: Global, check: &mut AccountCheck<'_>) -> Result<Outcome, ReadSt
     ensures verdict { (graphs : TwoGraphs) (bytes : List ℕ) → HasTaken graphs bytes check.old
         → IfOk result (IsVerdict graphs (Some bytes)) }
     ensures matches { (graphs : TwoGraphs) (bytes : List ℕ) → HasTaken graphs bytes check.old
-        → IfOk result (IsMatchIfTable graphs.first graphs.second) }
+        → IfOk result (IsMatchIfAny graphs.first graphs.second) }
     ensures judged { IfOk result IsJudged }
     ensures no_fault { result ≢ Err ReadStop.ReadFault }
 {
     match check.finish(alloc) {
-        Ok(Verdict::Match(table)) => Ok(Outcome::AcceptedMatch(table)),
+        Ok(Verdict::Match(matching)) => Ok(Outcome::AcceptedMatch(matching)),
         Ok(Verdict::None) => Ok(Outcome::AcceptedRefusal),
         Err(CheckStop::Rejected { line, why }) => Ok(Outcome::Rejected { line, why }),
         Err(CheckStop::Memory) => Err(ReadStop::Memory),

@@ -4,7 +4,8 @@ ghost use Rattle.std.specs.Prelude.{◌≡◌, IfOk};
 ghost use Rattle.net_print.specs.BlifLines.{blif_text};
 ghost use Rattle.net_print.specs.Files.{aig_text};
 ghost use Rattle.shelf_core.specs.State.{Closed};
-ghost use Rattle.run_steps.specs.Steps.{Decides, PrintsPair, WritesPair, WritesText};
+ghost use Rattle.run_steps.specs.Make.{IsDrawn};
+ghost use Rattle.run_steps.specs.Steps.{Decides, WritesPair, WritesText};
 ghost use Rattle.command_words.specs.Commands.{asked_make};
 
 use crate::concluding::unwritten;
@@ -36,9 +37,9 @@ pub fn make_files<S: Shelf>(
     Ok(Ending { outcome, report })
 }
 
-/// The pair of a number. Its graphs' gates stand in order, so that its texts can be read.
+/// The pair of a number. Its graphs' gates stand in order, so that what is printed of it can be read.
 fn pair_of(alloc: Global, number: u64) -> Result<GenPair, AllocError>
-    ensures { IfOk result (λ pair. PrintsPair number (aig_text pair.first) (blif_text pair.second.graph)) }
+    ensures { IfOk result (IsDrawn number) }
 {
     let pair = make(alloc, number)?;
     let graphs = Graphs::new(&pair.first.graph, &pair.second.graph);

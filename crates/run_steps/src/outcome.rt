@@ -25,9 +25,9 @@ pub enum Which {
 /// How a run ends.
 #[derive(Debug, Drop)]
 pub enum Outcome {
-    /// The account proves that this port table is a match of the circuits.
+    /// The account proves that this matching is a match of the circuits.
     AcceptedMatch(Matching),
-    /// The account proves that no port table is a match of the circuits.
+    /// The account proves that no matching is a match of the circuits.
     AcceptedRefusal,
     /// The first line of the account that is wrong, counted from 1, and why. Where a line is missing it is the one after the
     /// last.
@@ -35,9 +35,9 @@ pub enum Outcome {
         line: u64,
         why: Why,
     },
-    /// This port table is a match of the circuits, and the account that proves it was written.
+    /// This matching is a match of the circuits, and the account that proves it was written.
     Matched(Matching),
-    /// No port table is a match of the circuits, and the account that proves it was written.
+    /// No matching is a match of the circuits, and the account that proves it was written.
     NoMatching,
     /// What each output of the netlist depends on, and how, was reported.
     Informed,

@@ -4,7 +4,7 @@ ghost use Rattle.std.specs.Prelude.{◌≡◌, [], ◌∷◌, ◌++◌, OnOk, If
 ghost use Rattle.std.specs.Fmt.{decimal};
 ghost use Rattle.port_report.specs.Reports.{names_of};
 ghost use Rattle.run_steps.specs.Report.{file_word, line_of, report_on, tried_line};
-ghost use Rattle.run_steps.specs.Steps.{IsMatchIfTable};
+ghost use Rattle.run_steps.specs.Steps.{IsMatchIfAny};
 
 use crate::outcome::{Outcome, Which};
 use net_file::{Named, NetKind};
@@ -20,12 +20,12 @@ pub fn report_named(
     second: &Named,
     outcome: &Outcome,
 ) -> Result<Vec<u8>, AllocError>
-    requires { IsMatchIfTable first.now.graph second.now.graph outcome.now }
+    requires { IsMatchIfAny first.now.graph second.now.graph outcome.now }
     ensures { IfOk result (λ text. text.items ≡ report_on (names_of first.now) (names_of second.now) outcome.now) }
 {
     let mut text = report_line(alloc, outcome)?;
-    if let Outcome::AcceptedMatch(table) | Outcome::Matched(table) = outcome {
-        put_match(first, second, table, &mut text)?;
+    if let Outcome::AcceptedMatch(matching) | Outcome::Matched(matching) = outcome {
+        put_match(first, second, matching, &mut text)?;
     }
     Ok(text)
 }

@@ -2,14 +2,14 @@ ghost use Rattle.std.specs.Prelude.{◌≡◌, ◌+◌, ◌≤◌, ◌<◌, leng
 ghost use Rattle.shelf_core.specs.State.{Closed, Writing};
 ghost use Rattle.shelf_core.specs.Disk.{IsOpenToRead, disk_mode};
 
-use crate::outside::{Shelf, ShelfStop, failed};
+use crate::outside::{Shelf, ShelfStop, counted};
 use crate::stream::{Stream, read_next};
 use std::alloc::{Alloc, Allocator};
 use std::fs::{File, Metadata, OpenFile, OpenOptions};
-use std::io::{Error, ErrorKind, Read, Write};
+use std::io::{ErrorKind, Read, Write};
+use std::mem;
 use std::os::unix::fs::MetadataExt;
 use std::rt::{Files, Runtime};
-use std::{io, mem};
 
 /// The most bytes that are taken from a pipe or a device: 1 GiB.
 const STREAM_BOUND: usize = 1 << 30;
@@ -86,15 +86,12 @@ impl<R: Runtime> Shelf for DiskShelf<R> {
     ghost state = { λ shelf. disk_state shelf.opened shelf.faults };
 
     fn open(&mut self, name: &str) -> Result<Option<u64>, ShelfStop> {
-        match open_to_read(&self.rt, name, &mut self.read) {
-            Ok(Some((opened, left))) => {
-                self.opened = opened;
-                Ok(Some(left))
-            }
-            Ok(None) => Ok(None),
-            Err(ShelfStop::Memory) => Err(ShelfStop::Memory),
-            Err(ShelfStop::Failed) => Err(failed(&mut self.faults)),
-        }
+        let found = open_to_read(&self.rt, name, &mut self.read);
+        let Some((opened, left)) = counted(found, &mut self.faults)? else {
+            return Ok(None);
+        };
+        self.opened = opened;
+        Ok(Some(left))
     }
 
     fn read(&mut self, buf: &mut [u8]) -> Result<usize, ShelfStop> {
@@ -103,38 +100,26 @@ impl<R: Runtime> Shelf for DiskShelf<R> {
             Opened::Held(stream) => Ok(stream.read(buf)),
             _ => unreachable!(),
         };
-        match answer {
-            Ok(count) => Ok(count),
-            Err(_) => Err(failed(&mut self.faults)),
-        }
+        counted(answer, &mut self.faults)
     }
 
     fn create(&mut self, name: &str) -> Result<(), ShelfStop> {
-        match open_to_write(&self.rt, name, &self.read) {
-            Ok(opened) => {
-                self.opened = opened;
-                Ok(())
-            }
-            Err(_) => Err(failed(&mut self.faults)),
-        }
+        let opened = open_to_write(&self.rt, name, &self.read);
+        self.opened = counted(opened, &mut self.faults)?;
+        Ok(())
     }
 
     fn append(&mut self, piece: &[u8]) -> Result<(), ShelfStop> {
         let Opened::Writing { file, .. } = &mut self.opened else {
             unreachable!()
         };
-        match file.write_all(piece) {
-            Ok(()) => Ok(()),
-            Err(_) => Err(failed(&mut self.faults)),
-        }
+        let answer = file.write_all(piece).map_err(ShelfStop::from);
+        counted(answer, &mut self.faults)
     }
 
     fn close(&mut self) -> Result<(), ShelfStop> {
         let file = mem::replace(&mut self.opened, Opened::No);
-        match sync_written(&file) {
-            Ok(()) => Ok(()),
-            Err(_) => Err(failed(&mut self.faults)),
-        }
+        counted(sync_written(&file), &mut self.faults)
     }
 }
 
@@ -148,13 +133,10 @@ fn open_to_read<R: Files + Alloc>(
     ensures { IfOk result (λ found. IfSome found (λ sized. IsOpenToRead sized.0 sized.1)) }
 {
     let mut file = match File::open(rt, name) {
-        Ok(file) => file,
         Err(error) if error.kind() == ErrorKind::NotFound => return Ok(None),
-        Err(_) => return Err(ShelfStop::Failed),
+        opened => opened?,
     };
-    let Ok(metadata) = file.metadata() else {
-        return Err(ShelfStop::Failed);
-    };
+    let metadata = file.metadata()?;
     if !metadata.is_file() && !metadata.is_dir() {
         let stream = Stream::read_from(rt.alloc(), &mut file, STREAM_BOUND)?;
         let left = stream.left() as u64;
@@ -174,7 +156,7 @@ fn open_to_write<R: Files + Alloc>(
     rt: &R,
     name: &str,
     read: &[FileId],
-) -> io::Result<Opened<R::File, R::A>>
+) -> Result<Opened<R::File, R::A>, ShelfStop>
     ensures { IfOk result (λ opened. disk_mode opened ≡ Writing) }
 {
     let file = OpenOptions::new().write(true).create(true).open(rt, name)?;
@@ -183,7 +165,7 @@ fn open_to_write<R: Files + Alloc>(
     if regular {
         // a run reads two netlists, so that a scan is good enough
         if read.contains(&file_id(&metadata)) {
-            return Err(Error::from(ErrorKind::InvalidInput));
+            return Err(ShelfStop::Failed);
         }
         file.set_len(0)?;
     }
@@ -198,18 +180,18 @@ fn file_id(metadata: &Metadata) -> FileId {
 }
 
 /// Waits until the device holds what was written to a regular file, so that a write which fails late is an error.
-fn sync_written<F: OpenFile, A: Allocator>(opened: &Opened<F, A>) -> io::Result<()> {
+fn sync_written<F: OpenFile, A: Allocator>(opened: &Opened<F, A>) -> Result<(), ShelfStop> {
     match opened {
         Opened::Writing {
             file,
             regular: true,
-        } => file.sync_all(),
+        } => file.sync_all().map_err(ShelfStop::from),
         _ => Ok(()),
     }
 }
 
 /// Reads at most `left` bytes, and at least one if there is any and room for it. A file that ends before is an error.
-fn read_some<F: Read>(file: &mut F, buf: &mut [u8], left: &mut u64) -> io::Result<usize>
+fn read_some<F: Read>(file: &mut F, buf: &mut [u8], left: &mut u64) -> Result<usize, ShelfStop>
     ensures within { IfOk result (λ count. count ≤ length buf.old) }
     ensures left { IfOk result (λ count. count + left.new ≡ left.old) }
     ensures some { IfOk result (λ count. 0 < left.old → 0 < length buf.old → 0 < count) }
@@ -221,7 +203,7 @@ fn read_some<F: Read>(file: &mut F, buf: &mut [u8], left: &mut u64) -> io::Resul
     }
     let count = read_next(file, &mut buf[..room])?;
     if count == 0 {
-        return Err(Error::from(ErrorKind::UnexpectedEof));
+        return Err(ShelfStop::Failed);
     }
     *left -= count as u64;
     Ok(count)

@@ -1,9 +1,10 @@
 //! Calls that are told to fail.
 
-ghost use Rattle.std.specs.Prelude.{◌≡◌, ◌≤◌, ◌↔◌, IsTrue, Contains};
+ghost use Rattle.std.specs.Prelude.{◌≡◌, ◌≤◌, ◌↔◌, IsTrue, Err, IfErr, OnErr, Contains};
 ghost use Rattle.shelf_core.specs.Fault.{Rose};
 ghost use Rattle.shelf_core.specs.Failing.{FailsNext, IsCounted};
 
+use crate::outside::ShelfStop;
 use std::marker::Model;
 
 /// The numbers of the calls that fail, from 0, and how many calls and failures there were, each up to 2^64 - 1.
@@ -41,19 +42,21 @@ impl Failing {
         self.calls
     }
 
-    /// Counts a call, and answers whether it is to fail; then its failure is counted too.
-    pub(crate) fn next_fails(&mut self) -> bool
-        ensures fails { IsTrue result ↔ FailsNext self.old }
+    /// Counts a call, and fails where it is to; then its failure is counted too.
+    pub(crate) fn next(&mut self) -> Result<(), ShelfStop>
+        ensures fails { IfErr result (λ stop. stop ≡ ShelfStop.Failed) }
+        ensures next { (result ≡ Err ShelfStop.Failed) ↔ FailsNext self.old }
         ensures counted { IsCounted self.old self.new }
         ensures rises { self.old.faults ≤ self.new.faults }
-        ensures rose { IsTrue result → Rose self.old.faults self.new.faults }
+        ensures rose { OnErr result (Rose self.old.faults self.new.faults) }
     {
         let fails = is_among(&self.numbers, self.calls);
         self.calls = self.calls.saturating_add(1);
         if fails {
             self.faults = self.faults.saturating_add(1);
+            return Err(ShelfStop::Failed);
         }
-        fails
+        Ok(())
     }
 }
 

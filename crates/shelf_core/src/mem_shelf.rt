@@ -75,9 +75,7 @@ impl Shelf for MemShelf {
         ensures counted { IsCounted (failing_of self.old) (failing_of self.new) }
         ensures cut { most_read self.new ≡ most_read self.old }
     {
-        if self.failing.next_fails() {
-            return Err(ShelfStop::Failed);
-        }
+        self.failing.next()?;
         self.inside.open(name)
     }
 
@@ -90,9 +88,7 @@ impl Shelf for MemShelf {
         ensures counted { IsCounted (failing_of self.old) (failing_of self.new) }
         ensures cut { most_read self.new ≡ most_read self.old }
     {
-        if self.failing.next_fails() {
-            return Err(ShelfStop::Failed);
-        }
+        self.failing.next()?;
         self.inside.read(buf)
     }
 
@@ -105,9 +101,7 @@ impl Shelf for MemShelf {
         ensures counted { IsCounted (failing_of self.old) (failing_of self.new) }
         ensures cut { most_read self.new ≡ most_read self.old }
     {
-        if self.failing.next_fails() {
-            return Err(ShelfStop::Failed);
-        }
+        self.failing.next()?;
         self.inside.create(name)
     }
 
@@ -120,9 +114,7 @@ impl Shelf for MemShelf {
         ensures counted { IsCounted (failing_of self.old) (failing_of self.new) }
         ensures cut { most_read self.new ≡ most_read self.old }
     {
-        if self.failing.next_fails() {
-            return Err(ShelfStop::Failed);
-        }
+        self.failing.next()?;
         self.inside.append(piece)
     }
 
@@ -135,9 +127,6 @@ impl Shelf for MemShelf {
         ensures cut { most_read self.new ≡ most_read self.old }
     {
         self.inside.close()?;
-        if self.failing.next_fails() {
-            return Err(ShelfStop::Failed);
-        }
-        Ok(())
+        self.failing.next()
     }
 }

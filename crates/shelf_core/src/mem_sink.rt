@@ -52,9 +52,7 @@ impl Sink for MemSink {
             → (⟦<MemSink as Sink>⟧.state self.new).written ≡ (⟦<MemSink as Sink>⟧.state self.old).written }
         ensures counted { IsCounted (failing_puts self.old) (failing_puts self.new) }
     {
-        if self.failing.next_fails() {
-            return Err(ShelfStop::Failed);
-        }
+        self.failing.next()?;
         self.inside.put(piece)
     }
 }

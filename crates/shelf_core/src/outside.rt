@@ -1,11 +1,12 @@
-ghost use Rattle.std.specs.Prelude.{◌≡◌, ◌≢◌, ◌≤◌, Bool};
+ghost use Rattle.std.specs.Prelude.{◌≡◌, ◌≢◌, ◌≤◌, Bool, Err};
 ghost use Rattle.shelf_core.specs.Fault.{Rose};
 ghost use Rattle.shelf_core.specs.State.{ShelfState, SinkState, Closed, Reading, Writing};
 ghost use Rattle.shelf_core.specs.Calls.{Opens, Reads, Creates, Appends, Closes};
 ghost use Rattle.shelf_core.specs.Puts.{Puts};
-ghost use Rattle.shelf_core.specs.declared.outside.ShelfStop.TheVariants.{Memory};
+ghost use Rattle.shelf_core.specs.declared.outside.ShelfStop.TheVariants.{Failed, Memory};
 
 use std::alloc::{AllocError, AllocFailed};
+use std::io;
 use thiserror::Error;
 use watch_core::Watch;
 
@@ -20,14 +21,16 @@ pub enum ShelfStop {
     Memory,
 }
 
-/// Counts a fault of the outside, and tells it.
-pub(crate) fn failed(faults: &mut u64) -> ShelfStop
-    ensures stop { result ≡ ShelfStop.Failed }
+/// The answer of the outside, which counts a fault where it failed.
+pub(crate) fn counted<T>(answer: Result<T, ShelfStop>, faults: &mut u64) -> Result<T, ShelfStop>
+    ensures same { result ≡ answer }
     ensures kept { faults.old ≤ faults.new }
-    ensures counted { Rose faults.old faults.new }
+    ensures failed { result ≡ Err ShelfStop.Failed → Rose faults.old faults.new }
 {
-    *faults = faults.saturating_add(1);
-    ShelfStop::Failed
+    if let Err(ShelfStop::Failed) = &answer {
+        *faults = faults.saturating_add(1);
+    }
+    answer
 }
 
 /// A place for files, each a name and its bytes, of which at most one is open at a time. `ShelfStop::Memory` may come
@@ -98,5 +101,13 @@ impl<T: Drop> From<AllocFailed<T>> for ShelfStop {
 
     fn from(_refused: AllocFailed<T>) -> ShelfStop {
         ShelfStop::Memory
+    }
+}
+
+impl From<io::Error> for ShelfStop {
+    ghost from_gives = { λ _ stop. stop ≡ Failed };
+
+    fn from(_error: io::Error) -> ShelfStop {
+        ShelfStop::Failed
     }
 }

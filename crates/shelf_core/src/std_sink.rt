@@ -1,6 +1,6 @@
 ghost use Rattle.std.specs.Prelude.{◌≡◌, [], false};
 
-use crate::outside::{ShelfStop, Sink, failed};
+use crate::outside::{ShelfStop, Sink, counted};
 use std::io;
 use std::io::Write;
 use std::rt::Runtime;
@@ -48,16 +48,13 @@ impl<R: Runtime, W: Watch> Sink for StdSink<R, W> {
     ghost state = { λ sink. record { written = []; faults = sink.faults } };
 
     fn put(&mut self, piece: &[u8]) -> Result<(), ShelfStop> {
-        match print_all(&self.rt, piece) {
-            Ok(()) => Ok(()),
-            Err(_) => Err(failed(&mut self.faults)),
-        }
+        counted(print_all(&self.rt, piece), &mut self.faults)
     }
 }
 
 /// Writes all of a piece to the standard output, and leaves nothing of it in a buffer.
-fn print_all<R: Runtime>(rt: &R, piece: &[u8]) -> io::Result<()> {
+fn print_all<R: Runtime>(rt: &R, piece: &[u8]) -> Result<(), ShelfStop> {
     let mut output = io::writer(rt);
     output.write_all(piece)?;
-    output.flush()
+    output.flush().map_err(ShelfStop::from)
 }

@@ -35,9 +35,7 @@ impl<A: Allocator> Stream<A> {
         let mut bytes = Vec::new(alloc);
         let mut piece = [0; PIECE];
         for _ in 0..u64::MAX {
-            let Ok(count) = read_next(file, &mut piece) else {
-                return Err(ShelfStop::Failed);
-            };
+            let count = read_next(file, &mut piece)?;
             if count == 0 {
                 return Ok(Stream { bytes, at: 0 });
             }

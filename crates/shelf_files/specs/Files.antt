@@ -20,6 +20,12 @@ abbrev pub IsWithin : ℕ → File → Type 0
 IsWithin limit (Bytes bytes) = length bytes.items ≤ limit
 IsWithin limit other = Unit {0}
 
+-- A file is open for reading, with this many bytes unread.
+pub record HasUnread (tells : Bool) (state : ShelfState) (count : ℕ) : Type 0 where
+  pub reading : state.mode ≡ Reading
+  pub left : state.left ≡ count
+  pub told : IsTrue tells → length state.unread ≡ count
+
 -- Reading whole what a name holds, if it has at most `limit` bytes.
 pub record ReadsFile (tells : Bool) (limit : ℕ) (held : Option (List ℕ)) (old new : ShelfState) (result : Result File ReadStop) : Type 0 where
   -- no file changes, and none is open after an answer

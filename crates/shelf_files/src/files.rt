@@ -3,7 +3,7 @@
 ghost use Rattle.std.specs.Prelude.{◌≡◌, ℕ, ◌<◌, ◌≤◌, List, IsTrue, IfOk, OnOk, Some, Err, length, replicate};
 ghost use Rattle.shelf_core.specs.Fault.{Rose};
 ghost use Rattle.shelf_core.specs.State.{Closed, Reading};
-ghost use Rattle.shelf_files.specs.Files.{ReadsFile, ReadsPiece};
+ghost use Rattle.shelf_files.specs.Files.{HasUnread, ReadsFile, ReadsPiece};
 
 use shelf_core::{Shelf, ShelfStop};
 use std::alloc::{AllocError, Global};
@@ -78,9 +78,7 @@ fn read_open<S: Shelf>(
     size: u64,
     limit: u64,
 ) -> Result<File, ReadStop>
-    requires reading { (S.state shelf.old).mode ≡ Reading }
-    requires left { (S.state shelf.old).left ≡ size }
-    requires told { IsTrue S.tells → length (S.state shelf.old).unread ≡ size }
+    requires { HasUnread S.tells (S.state shelf.old) size }
     ensures { ReadsFile S.tells limit (Some (S.state shelf.old).unread)
         (S.state shelf.old) (S.state shelf.new) result }
 {
@@ -101,9 +99,7 @@ fn read_rest<S: Shelf>(
     piece: &mut [u8],
     size: u64,
 ) -> Result<Vec<u8>, ReadStop>
-    requires reading { (S.state shelf.old).mode ≡ Reading }
-    requires left { (S.state shelf.old).left ≡ size }
-    requires told { IsTrue S.tells → length (S.state shelf.old).unread ≡ size }
+    requires unread { HasUnread S.tells (S.state shelf.old) size }
     requires room { 0 < length piece.old }
     ensures bytes { IsTrue S.tells
         → IfOk result (λ bytes. bytes.items ≡ (S.state shelf.old).unread) }

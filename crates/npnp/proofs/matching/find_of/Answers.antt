@@ -3,7 +3,7 @@ use Rattle.std.proofs.Common.{inr, refl, subst}
 use Rattle.account_write.specs.Records.{account_of, records_of}
 use Rattle.run_steps.specs.Steps.{IsAnswered, IsStopWithin, graphs_of}
 use Rattle.run_steps.specs.declared.outcome.Outcome.TheVariants.{Memory}
-use Rattle.run_steps.proofs.FindLemmas.{not_solved, solved, table_of_answer}
+use Rattle.run_steps.proofs.FindLemmas.{not_solved, solved, match_of_answer}
 use Rattle.npnp.proofs.ResultLemmas.{err_is}
 use Rattle.npnp.proofs.matching.find_of.Goals as goal
 
@@ -15,7 +15,7 @@ returns-in_err-solved g c =
 
 pub report_named-requires : goal.report_named-requires
 report_named-requires g c =
-    table_of_answer (graphs_of c.args.first.now c.args.second.now) (account_of (records_of c.in_ok-solved.solved.account)) c.in_ok-solved.solved.outcome
+    match_of_answer (graphs_of c.args.first.now c.args.second.now) (account_of (records_of c.in_ok-solved.solved.account)) c.in_ok-solved.solved.outcome
     (subst (λ graphs. IsAnswered graphs (account_of (records_of c.in_ok-solved.solved.account)) c.in_ok-solved.solved.outcome) c.new-graphs.ensures c.in_ok-solved.ensures.answer)
 
 pub returns-in_err-report : goal.returns-in_err-report

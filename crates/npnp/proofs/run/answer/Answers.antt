@@ -20,7 +20,7 @@ returns-in-Ok-clause-sound g c = λ tells. c.in-Ok.ensures.decides.sound tells _
 pub returns-in-Err-clause-sound : goal.returns-in-Err-clause-sound
 returns-in-Err-clause-sound g c = λ tells.
     by_line (IsSound _ _) c.end_by_line-in-Err.result c.end_by_line-in-Err.ensures (record {
-      matches = λ table is. absurd (c.in-Err.ensures.decides.early.line.no_table table (inl is));
+      matches = λ matching is. absurd (c.in-Err.ensures.decides.early.line.unmatched matching (inl is));
       refuses = λ is. absurd (c.in-Err.ensures.decides.early.no_refusal is);
     }) sound_memory
 

@@ -9,7 +9,7 @@ use Rattle.npnp.proofs.TellingLemmas.{answered_as, sound_memory}
 use Rattle.npnp.proofs.run.run.Goals as goal
 
 pub returns-clause-accepted : goal.returns-clause-accepted
-returns-clause-accepted g c = λ tells decided table. exactly _ _ _ _ (c.answer-ending.ensures.right tells) c.tell.ensures.same decided (AcceptedMatch table) (reached (AcceptedMatch table) tt) tt
+returns-clause-accepted g c = λ tells decided matching. exactly _ _ _ _ (c.answer-ending.ensures.right tells) c.tell.ensures.same decided (AcceptedMatch matching) (reached (AcceptedMatch matching) tt) tt
 
 pub returns-clause-accepted_refusal : goal.returns-clause-accepted_refusal
 returns-clause-accepted_refusal g c = λ tells decided. exactly _ _ _ _ (c.answer-ending.ensures.right tells) c.tell.ensures.same decided AcceptedRefusal (reached AcceptedRefusal tt) tt
@@ -18,7 +18,7 @@ pub returns-clause-rejected : goal.returns-clause-rejected
 returns-clause-rejected g c = λ tells decided line why. exactly _ _ _ _ (c.answer-ending.ensures.right tells) c.tell.ensures.same decided (Rejected line why) (reached (Rejected line why) tt) tt
 
 pub returns-clause-sound : goal.returns-clause-sound
-returns-clause-sound g c = λ tells table is. (c.answer-ending.ensures.sound tells).matches table (answered_as c.tell.ensures.same (reached (AcceptedMatch table) tt).told is)
+returns-clause-sound g c = λ tells matching is. (c.answer-ending.ensures.sound tells).matches matching (answered_as c.tell.ensures.same (reached (AcceptedMatch matching) tt).told is)
 
 pub returns-clause-sound_refusal : goal.returns-clause-sound_refusal
 returns-clause-sound_refusal g c = λ tells is. (c.answer-ending.ensures.sound tells).refuses (answered_as c.tell.ensures.same (reached AcceptedRefusal tt).told is)
@@ -39,10 +39,10 @@ pub returns-clause-answered : goal.returns-clause-answered
 returns-clause-answered g c = λ tells decided. of_match _ _ _ _ (c.answer-ending.ensures.right tells) c.tell.ensures.same decided
 
 pub returns-clause-matched : goal.returns-clause-matched
-returns-clause-matched g c = λ tells table is. subst (IsRight _ _) (answered_as c.tell.ensures.same (reached (Matched table) tt).told is) (c.answer-ending.ensures.right tells)
+returns-clause-matched g c = λ tells matching is. subst (IsRight _ _) (answered_as c.tell.ensures.same (reached (Matched matching) tt).told is) (c.answer-ending.ensures.right tells)
 
 pub returns-clause-matched_account : goal.returns-clause-matched_account
-returns-clause-matched_account g c = λ tells table is. subst (Leaves _ _ _) (answered_as c.tell.ensures.same (reached (Matched table) tt).told is) (c.answer-ending.ensures.left tells)
+returns-clause-matched_account g c = λ tells matching is. subst (Leaves _ _ _) (answered_as c.tell.ensures.same (reached (Matched matching) tt).told is) (c.answer-ending.ensures.left tells)
 
 pub returns-clause-no_matching : goal.returns-clause-no_matching
 returns-clause-no_matching g c = λ tells settled. exactly_none _ _ _ _ (c.answer-ending.ensures.right tells) c.tell.ensures.same settled.decided settled.unspent
@@ -103,5 +103,5 @@ returns-clause-part g c = λ tells told.
         | inl memory ↦ absurd (room memory)
         | inr report ↦ (c.answer-ending.result.outcome, c.answer-ending.result.report.items, c.answer-ending.ensures.right tells, c.answer-ending.ensures.sound tells, report, part)
       ]
-      | inr part ↦ (Memory, line_of Memory, tt, sound_memory, inl (record { no_table = λ table e. elim e [ inl e ↦ cc | inr e ↦ cc ]; no_rows = λ e. cc }, refl), part)
+      | inr part ↦ (Memory, line_of Memory, tt, sound_memory, inl (record { unmatched = λ matching e. elim e [ inl e ↦ cc | inr e ↦ cc ]; no_rows = λ e. cc }, refl), part)
     ]

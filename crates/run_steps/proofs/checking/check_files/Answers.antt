@@ -61,7 +61,7 @@ returns g c =
     let same = c.read_netlist.ensures.files c.args.check.now.second.now in
     record {
       files = λ tells n other. files n;
-      left = λ tells words asks. leaves _ _ words outcome judged.no_table judged.no_match judged.no_pair files;
+      left = λ tells words asks. leaves _ _ words outcome judged.unmatched judged.no_match judged.no_pair files;
       right = λ tells words asks. right_by_verdict _ words _ _ _ (graphs_of c.in_ok-first.first c.in_ok-second.second) asks
           (record { netlist = first; holds = first_read.held tells; numbered = first_read.numbered })
           (subst (λ content. HoldsGraph content c.in_ok-second.second.graph) same (record { netlist = second; holds = second_read.held tells; numbered = second_read.numbered }))

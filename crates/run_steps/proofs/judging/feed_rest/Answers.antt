@@ -6,9 +6,7 @@ use Rattle.run_steps.proofs.judging.feed_rest.Goals as goal
 
 pub loop-left-init : goal.loop-left-init
 loop-left-init g c = record {
-  reading = c.requires.reading;
-  left_is = c.requires.left;
-  unread = c.requires.told;
+  unread = c.requires.unread;
   files = λ n. refl;
   faults = omega arith;
   taken = λ graphs has. ([], has, omega arith, λ told. refl);
@@ -22,13 +20,13 @@ feed_next-requires-clause-under_way g c =
 pub feed_next-requires-clause-fits : goal.feed_next-requires-clause-fits
 feed_next-requires-clause-fits g c =
     let held = c.loop-left.invariant.taken c.requires.begun.0 c.requires.begun.1 in
-    omega (arith, held.1.so_far.read.total, held.2, c.loop-left.invariant.left_is, c.ranges.size.fits)
+    omega (arith, held.1.so_far.read.total, held.2, c.loop-left.invariant.unread.left, c.ranges.size.fits)
 
 pub overflow_sub-left : goal.overflow_sub-left
 overflow_sub-left g c =
     let held = c.loop-left.invariant.taken c.requires.begun.0 c.requires.begun.1 in
     let more = c.in_ok-left.ensures c.requires.begun.0 held.0 held.1 in
-    omega (arith, more.left.1, c.loop-left.invariant.left_is)
+    omega (arith, more.left.1, c.loop-left.invariant.unread.left)
 
 pub loop-left-preserved : goal.loop-left-preserved
 loop-left-preserved g c =
@@ -38,7 +36,7 @@ pub loop-left-smaller : goal.loop-left-smaller
 loop-left-smaller g c =
     let held = c.loop-left.invariant.taken c.requires.begun.0 c.requires.begun.1 in
     let more = c.in_ok-left.ensures c.requires.begun.0 held.0 held.1 in
-    omega (arith, more.left.0, more.left.1, c.loop-left.invariant.left_is)
+    omega (arith, more.left.0, more.left.1, c.loop-left.invariant.unread.left)
 
 pub returns : goal.returns
 returns g c graphs begun = fed_all _ _ _ _ _ _ _ c.loop-left.invariant (omega (arith, c.loop-left-test.false)) graphs begun

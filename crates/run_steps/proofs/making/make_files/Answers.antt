@@ -17,7 +17,7 @@ returns-in_err-pair g c =
 pub returns-in_err-write_pair : goal.returns-in_err-write_pair
 returns-in_err-write_pair g c =
     let p = err_from_is_err_and c.from_residual-in_err-write_pair.result c.from_residual-in_err-write_pair.ensures.1 in
-    pair_refused _ _ _ _ c.in_ok-pair.ensures _ _ _ c.in_err-write_pair.field-0.0 (cc (p.1, p.2)) c.in_err-write_pair.ensures
+    pair_refused _ _ _ c.in_ok-pair.ensures _ _ _ c.in_err-write_pair.field-0.0 (cc (p.1, p.2)) c.in_err-write_pair.ensures
 
 pub returns : goal.returns
-returns g c = pair_made _ _ _ _ c.in_ok-pair.ensures _ _ _ refl c.in_ok-report.ensures c.in_ok-write_pair.ensures
+returns g c = pair_made _ _ _ c.in_ok-pair.ensures _ _ _ refl c.in_ok-report.ensures c.in_ok-write_pair.ensures

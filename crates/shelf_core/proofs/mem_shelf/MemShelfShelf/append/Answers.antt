@@ -1,16 +1,17 @@
-use Rattle.std.proofs.Common.{refl, arith}
-use Rattle.shelf_core.proofs.Failures.{nothing_added}
+use Rattle.std.proofs.Common.{refl, rules, arith}
+use Rattle.shelf_core.proofs.Failures.{none_added}
 use Rattle.shelf_core.proofs.mem_shelf.MemShelfShelf.append.Goals as goal
 
-pub returns-then-next_fails-clause-appends : goal.returns-then-next_fails-clause-appends
-returns-then-next_fails-clause-appends c =
+pub returns-in_err-next-clause-appends : goal.returns-in_err-next-clause-appends
+returns-in_err-next-clause-appends c =
     let inside = c.args.self.now.inside in
+    let part = none_added inside.files.items inside.opened c.args.piece.now c.requires (omega (arith, inside.place)) in
     record {
       others = λ n other. refl;
       mode = c.requires;
       named = refl;
-      whole = λ tells. tt;
-      part = λ tells. (0, nothing_added inside.files.items inside.opened c.args.piece.now c.requires (omega (arith, inside.place)));
-      faults = c.next_fails.ensures.rises;
-      failed = λ e. c.next_fails.ensures.rose c.if-next_fails.true;
+      whole = search rules;
+      part = λ tells. search (rules, part);
+      faults = c.next.ensures.rises;
+      failed = search rules;
     }
