@@ -1,6 +1,5 @@
 pub mod ListLemmas
 pub mod BookLemmas
-mod HeadLemmas
 mod ChainLemmas
 pub mod ShownLemmas
 pub mod VectorLemmas
