@@ -1,5 +1,6 @@
 pub mod ListLemmas
 pub mod BookLemmas
 mod ChainLemmas
+pub mod CarriedLemmas
 pub mod ShownLemmas
 pub mod VectorLemmas
