@@ -1,25 +1,37 @@
 -- Chains of bans.
-use Rattle.std.proofs.Common.{◌≡◌, ◌≢◌, ◌⊎◌, ℕ, suc, ◌<◌, ◌≤◌, ◌+◌, Bool, true, false, List, [], ◌∷◌, ◌++◌, length, get_or, All, Contains, Option, None, Some, inl, inr, refl, sym, ap, subst, ◌∙◌, arith}
-use Rattle.std.specs.Prelude.{IfSome, slice_get}
+use Rattle.std.proofs.Common.{◌≡◌, ◌≢◌, ◌&&◌, eqb, ℕ, suc, ◌<◌, ◌≤◌, ◌+◌, Bool, true, false, List, [], ◌∷◌, ◌++◌, length, get_or, All, Contains, Option, None, Some, inl, inr, refl, sym, ap, subst, ◌∙◌, arith}
+use Rattle.std.specs.Prelude.{IfSome, slice_get, if◌then◌else◌}
+use Rattle.std.specs.Bool.{Decides, beq}
+use Rattle.std.specs.Cmp.{booleans_Decides}
+use Rattle.std.specs.Option.{option_eq}
 use Rattle.std.proofs.lemmas.Bool.{cases_lt, false≢true}
+use Rattle.std.proofs.lemmas.Bool.Decides.{Decides-eqb, Decides-and, Decides-like}
 use Rattle.std.proofs.lemmas.List.{get_or_append_left, get_or_push, get_or_default, length_push}
 use Rattle.std.proofs.lemmas.List.Elements.{All-contains}
 use Rattle.circuits.specs.declared.port.Pair.{Pair}
+use Rattle.circuits.specs.declared.port.PortKind.{PortKind}
+use Rattle.circuits.specs.declared.port.PortKind.TheVariants.{Input, Output}
 use Rattle.circuits.specs.contracts.port.PairPartialEq.TheImpl.{eq-value as pair_eq}
+use Rattle.circuits.specs.contracts.port.PortKindPartialEq.TheImpl.{eq-value as kind_eq}
 use Rattle.account_core.specs.declared.step.Ban.{Ban}
 use Rattle.ban_book.specs.Chains.{AreChained, HasNoneWithin, IsLast, IsOfChain, IsUpTo, IsWalked, first_of}
 use Rattle.ban_book.specs.Covering.{Covers, IsWithin}
-use Rattle.ban_book.proofs.HeadLemmas.{pair_decides}
 
-same_first : (x y : Option Pair) → (x ≡ y) ⊎ (x ≢ y)
-same_first None None = inl refl
-same_first None (Some y) = inr (λ e. cc)
-same_first (Some x) None = inr (λ e. cc)
-same_first (Some x) (Some y) = by_test (pair_eq.it x y) refl
-  where
-    by_test : (b : Bool) → pair_eq.it x y ≡ b → (Some x ≡ Some y) ⊎ (Some x ≢ Some y)
-    by_test true same = inl (ap Some ((pair_decides x y).0 same))
-    by_test false differ = inr (λ e. false≢true (sym differ ∙ (pair_decides x y).1 cc))
+kind_decides : (x y : PortKind) → Decides (kind_eq.it x y) (x ≡ y)
+kind_decides Input Input = (λ e. refl, λ e. refl)
+kind_decides Input Output = (λ e. cc, λ e. cc)
+kind_decides Output Input = (λ e. cc, λ e. cc)
+kind_decides Output Output = (λ e. refl, λ e. refl)
+
+pair_decides : (x y : Pair) → Decides (pair_eq.it x y) (x ≡ y)
+pair_decides x y =
+    Decides-like (pair_eq.it x y) (λ e i. record { kind = e.0 i; from = e.1.0 i; to = e.1.1.0 i; flip = e.1.1.1 i }) (λ e. (ap (λ (p : Pair). p.kind) e, (ap (λ (p : Pair). p.from) e, (ap (λ (p : Pair). p.to) e, ap (λ (p : Pair). p.flip) e)))) (Decides-and (kind_eq.it x.kind y.kind) (eqb x.from y.from && (eqb x.to y.to && beq x.flip y.flip)) (kind_decides x.kind y.kind) (Decides-and (eqb x.from y.from) (eqb x.to y.to && beq x.flip y.flip) (Decides-eqb x.from y.from) (Decides-and (eqb x.to y.to) (beq x.flip y.flip) (Decides-eqb x.to y.to) (booleans_Decides x.flip y.flip))))
+
+first_decides : (x y : Option Pair) → Decides (option_eq pair_eq.it x y) (x ≡ y)
+first_decides None None = (λ e. refl, λ e. refl)
+first_decides None (Some y) = (λ e. cc, λ e. cc)
+first_decides (Some x) None = (λ e. cc, λ e. cc)
+first_decides (Some x) (Some y) = Decides-like (pair_eq.it x y) (ap Some) (λ e. cc) (pair_decides x y)
 
 -- One ban more.
 module _ (bans : List Ban) (ban : Ban) where
@@ -71,13 +83,13 @@ module _ (bans : List Ban) (ban : Ban) where
       longer None found = tt
       longer (Some number) found = (omega (arith, found.0, one_more), found.1)
 
-  pub chained_more : (last last_after : Option Pair → Option ℕ) (before : List (Option ℕ)) → last_after (first_of ban) ≡ Some (length bans) → ((other : Option Pair) → other ≢ first_of ban → last_after other ≡ last other) → AreChained bans last before → AreChained (bans ++ ban ∷ []) last_after (before ++ last (first_of ban) ∷ [])
-  chained_more last last_after before here others are = record {
+  pub chained_more : (last last_after : Option Pair → Option ℕ) (before : List (Option ℕ))
+      → ((first : Option Pair) → last_after first ≡ (if option_eq pair_eq.it (first_of ban) first then Some (length bans) else last first))
+      → AreChained bans last before
+      → AreChained (bans ++ ban ∷ []) last_after (before ++ last (first_of ban) ∷ [])
+  chained_more last last_after before noted are = record {
     size = omega (arith, are.size, one_more, length_push before (last (first_of ban)));
-    lasts = λ first. elim (same_first first (first_of ban)) [
-      | inl same ↦ subst (λ f. IsLast (bans ++ ban ∷ []) f (length (bans ++ ban ∷ [])) (last_after f)) (sym same) (last_here (last_after (first_of ban)) here)
-      | inr apart ↦ last_apart first (last_after first) apart (subst (IsLast bans first (length bans)) (sym (others first apart)) (are.lasts first))
-    ];
+    lasts = λ first. by_test first (option_eq pair_eq.it (first_of ban) first) refl;
     befores = λ first number is. elim (cases_lt number (length bans)) [
       | inl less ↦
           subst (IsLast (bans ++ ban ∷ []) first number) (sym (get_or_append_left before (last (first_of ban) ∷ []) None number (omega (arith, less, are.size)))) (last_to first number (get_or before number None) (omega (arith, less)) (are.befores first number (chain_from first number less is)))
@@ -88,6 +100,15 @@ module _ (bans : List Ban) (ban : Ban) where
           (subst (λ n. IsLast (bans ++ ban ∷ []) first n (last first)) (sym e) (last_to first (length bans) (last first) (omega arith) (are.lasts first)))
     ];
   }
+    where
+      is_noted : (first : Option Pair) (b : Bool) → option_eq pair_eq.it (first_of ban) first ≡ b → last_after first ≡ (if b then Some (length bans) else last first)
+      is_noted first b is = noted first ∙ ap (λ (b : Bool). if b then Some (length bans) else last first) is
+
+      by_test : (first : Option Pair) (b : Bool) → option_eq pair_eq.it (first_of ban) first ≡ b → IsLast (bans ++ ban ∷ []) first (length (bans ++ ban ∷ [])) (last_after first)
+      by_test first true same =
+          subst (λ f. IsLast (bans ++ ban ∷ []) f (length (bans ++ ban ∷ [])) (last_after first)) ((first_decides (first_of ban) first).0 same) (last_here (last_after first) (is_noted first true same))
+      by_test first false differ =
+          last_apart first (last_after first) (λ e. false≢true (sym differ ∙ (first_decides (first_of ban) first).1 (sym e))) (subst (IsLast bans first (length bans)) (sym (is_noted first false differ)) (are.lasts first))
 
 -- A way down a chain.
 module _ (bans : List Ban) (last : Option Pair → Option ℕ) (before : List (Option ℕ)) (are : AreChained bans last before) (first : Option Pair) (pairs : List Pair) where

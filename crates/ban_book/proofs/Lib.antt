@@ -1,6 +1,6 @@
 pub mod ListLemmas
 pub mod BookLemmas
-mod HeadLemmas
 mod ChainLemmas
+pub mod CarriedLemmas
 pub mod ShownLemmas
 pub mod VectorLemmas

@@ -1,25 +1,12 @@
 -- Lists that grow at their end.
-use Rattle.std.proofs.Common.{◌≡◌, ℕ, ◌+◌, ◌<◌, List, [], ◌∷◌, ◌++◌, length, take, get_or, All, sym, ap, ◌∙◌, subst, append_assoc, arith}
+use Rattle.std.proofs.Common.{◌≡◌, ℕ, ◌+◌, ◌<◌, List, [], ◌∷◌, ◌++◌, length, take, get_or, All, sym, ap, ◌∙◌, subst, arith}
 use Rattle.std.specs.List.{AllZip, flat_map}
-use Rattle.std.proofs.lemmas.List.{take_more}
+use Rattle.std.proofs.lemmas.List.{flat_map_more, take_more}
 use Rattle.std.proofs.lemmas.List.Elements.{All-push}
 use Rattle.std.proofs.lemmas.List.Quantifiers.{all_pairs_push}
-use Rattle.std.proofs.lemmas.Slice.Zip.{AllZip-long}
+use Rattle.std.proofs.lemmas.Slice.Zip.{AllZip-long, all_zipped_more}
 use Rattle.account_core.specs.Tallies.{Ascend}
 use Rattle.circuits.proofs.Lists.{flat_push}
-
-pub zip_append : {A B : Type 0} (R : A → B → Type 0) (xs : List A) (ys : List B) (vs : List A) (ws : List B) → AllZip R xs ys → AllZip R vs ws → AllZip R (xs ++ vs) (ys ++ ws)
-zip_append R [] [] vs ws one other = other
-zip_append R [] (y ∷ ys) vs ws one other = absurd one
-zip_append R (x ∷ xs) [] vs ws one other = absurd one
-zip_append R (x ∷ xs) (y ∷ ys) vs ws one other = (one.0, zip_append R xs ys vs ws one.1 other)
-
-pub zip_length : {A B : Type 0} (R : A → B → Type 0) (xs : List A) (ys : List B) → AllZip R xs ys → length xs ≡ length ys
-zip_length R xs ys are = sym (AllZip-long R xs ys are)
-
--- numbers below one that comes after them ascend
-pub ascend_push : (numbers : List ℕ) (next : ℕ) → Ascend numbers → All (λ number. number < next) numbers → Ascend (numbers ++ next ∷ [])
-ascend_push numbers next ascend below = all_pairs_push (λ one other. one < other) numbers next ascend below
 
 pub below_push : (numbers : List ℕ) (next : ℕ) → All (λ number. number < next) numbers → All (λ number. number < next + 1) (numbers ++ next ∷ [])
 below_push numbers next below = All-push (λ number. number < next + 1) numbers next (λ k d within. omega (arith, below k d within)) (omega arith)
@@ -27,8 +14,9 @@ below_push numbers next below = All-push (λ number. number < next + 1) numbers 
 pub below_more : (numbers : List ℕ) (next : ℕ) → All (λ number. number < next) numbers → All (λ number. number < next + 1) numbers
 below_more numbers next below k d within = omega (arith, below k d within)
 
+-- numbers below one that comes after them ascend
 pub ascend_after : (numbers after : List ℕ) (next : ℕ) → Ascend numbers → All (λ number. number < next) numbers → after ≡ numbers ++ next ∷ [] → Ascend after
-ascend_after numbers after next ascend below is = subst Ascend (sym is) (ascend_push numbers next ascend below)
+ascend_after numbers after next ascend below is = subst Ascend (sym is) (all_pairs_push (λ one other. one < other) numbers next ascend below)
 
 pub below_after : (numbers after : List ℕ) (next : ℕ) → All (λ number. number < next) numbers → after ≡ numbers ++ next ∷ [] → All (λ number. number < next + 1) after
 below_after numbers after next below is = subst (All (λ number. number < next + 1)) (sym is) (below_push numbers next below)
@@ -42,20 +30,19 @@ zip_map R S [] (y ∷ ys) then are = absurd are
 zip_map R S (x ∷ xs) [] then are = absurd are
 zip_map R S (x ∷ xs) (y ∷ ys) then are = (then x y are.0, zip_map R S xs ys then are.1)
 
--- what the first elements give, and one more
-pub flat_taken : {A B : Type 0} (f : A → List B) (xs : List A) (index : ℕ) (d : A) (before after : List B) → index < length xs → before ≡ flat_map f (take index xs) → after ≡ before ++ f (get_or xs index d) → after ≡ flat_map f (take (index + 1) xs)
-flat_taken f xs index d before after below is more =
-    more ∙ (ap (λ l. l ++ f (get_or xs index d)) is ∙ (sym (flat_push f (take index xs) (get_or xs index d)) ∙ ap (flat_map f) (sym (take_more xs index d below))))
-
--- .. after others
+-- what the first elements give after others, and one more
 pub flat_more : {A B : Type 0} (f : A → List B) (xs : List A) (index : ℕ) (d : A) (before now after : List B) → index < length xs → now ≡ before ++ flat_map f (take index xs) → after ≡ now ++ f (get_or xs index d) → after ≡ before ++ flat_map f (take (index + 1) xs)
 flat_more f xs index d before now after below is more =
     more
     ∙ (ap (λ l. l ++ f (get_or xs index d)) is
-    ∙ (append_assoc before (flat_map f (take index xs)) (f (get_or xs index d))
-    ∙ ap (λ l. before ++ l) (sym (flat_push f (take index xs) (get_or xs index d)) ∙ ap (flat_map f) (sym (take_more xs index d below)))))
+    ∙ (flat_map_more f before (take index xs) (get_or xs index d)
+    ∙ ap (λ l. before ++ flat_map f l) (sym (take_more xs index d below))))
+
+-- .. after none
+pub flat_taken : {A B : Type 0} (f : A → List B) (xs : List A) (index : ℕ) (d : A) (before after : List B) → index < length xs → before ≡ flat_map f (take index xs) → after ≡ before ++ f (get_or xs index d) → after ≡ flat_map f (take (index + 1) xs)
+flat_taken f xs index d before after below is more = flat_more f xs index d [] before after below is more
 
 -- one more of two lists that go together
 pub zip_taken : {A B : Type 0} (R : A → B → Type 0) (xs : List A) (index : ℕ) (d : A) (ys : List B) (y : B) → index < length xs → AllZip R (take index xs) ys → R (get_or xs index d) y → AllZip R (take (index + 1) xs) (ys ++ y ∷ [])
 zip_taken R xs index d ys y below are here =
-    subst (λ l. AllZip R l (ys ++ y ∷ [])) (sym (take_more xs index d below)) (zip_append R (take index xs) ys (get_or xs index d ∷ []) (y ∷ []) are (here, tt))
+    subst (λ l. AllZip R l (ys ++ y ∷ [])) (sym (take_more xs index d below)) (all_zipped_more R (take index xs) ys (get_or xs index d) y are here)

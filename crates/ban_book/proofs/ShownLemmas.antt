@@ -26,13 +26,13 @@ module _ (one other : Given) where
     image = subst (λ (fact : Decided). IsImage pairs fact.claim (fact_at other holds).claim ⊎ IsImage pairs (fact_at other holds).claim fact.claim) first (subst (λ (fact : Decided). IsImage pairs (fact_at one fails).claim fact.claim ⊎ IsImage pairs fact.claim (fact_at one fails).claim) second is.image);
   }
 
-  shapes_in : (numbers : List ℕ) → All IsSame numbers → shapes_of one numbers ≡ shapes_of other numbers
+  pub shapes_in : (numbers : List ℕ) → All IsSame numbers → shapes_of one numbers ≡ shapes_of other numbers
   shapes_in [] same = refl
   shapes_in (k ∷ numbers) same =
       ap (λ (fact : Decided). fact.claim.shape ∷ shapes_of one numbers) (same 0 0 (omega arith))
       ∙ ap (λ (shapes : List Shape). (fact_at other k).claim.shape ∷ shapes) (shapes_in numbers (λ i d h. same (suc i) d (omega (arith, h))))
 
-  say_in : (numbers : List ℕ) (holds : Bool) (side : Side) (output : ℕ)
+  pub say_in : (numbers : List ℕ) (holds : Bool) (side : Side) (output : ℕ)
       → All IsSame numbers
       → SayOf one numbers holds side output
       → SayOf other numbers holds side output

@@ -1,22 +1,20 @@
 -- Bans that vectors show as a last resort: they stay so as facts and bans come.
-use Rattle.std.proofs.Common.{◌≡◌, ◌⊎◌, ℕ, ◌<◌, Bool, true, false, List, [], ◌∷◌, ◌++◌, length, map, get_or, All, Some, refl, sym, ap, subst, ◌∙◌, inl, inr, arith}
-use Rattle.std.specs.Prelude.{Contains, nat_lt, option_map, if◌then◌else◌}
+use Rattle.std.proofs.Common.{◌≡◌, ℕ, ◌<◌, Bool, true, false, List, [], ◌∷◌, ◌++◌, length, map, get_or, All, refl, sym, ap, subst, ◌∙◌, inl, inr, arith}
+use Rattle.std.specs.Prelude.{Contains}
 use Rattle.std.specs.List.{flat_map}
 use Rattle.std.proofs.lemmas.Bool.{cases_lt}
 use Rattle.std.proofs.lemmas.List.{get_or_append_left, get_or_default, get_or-map, length-map, map-append}
 use Rattle.std.proofs.lemmas.List.Elements.{All-append, All-cons, All-contains, All-nil, Contains-append_left}
 use Rattle.circuits.specs.declared.port.Pair.{Pair}
-use Rattle.circuits.specs.declared.port.PortKind.TheVariants.{Input, Output}
+use Rattle.circuits.specs.declared.port.PortKind.TheVariants.{Output}
 use Rattle.net_core.specs.Sides.{Graphs}
-use Rattle.net_core.specs.Sides.{graph_of}
 use Rattle.net_core.specs.declared.graphs.Side.{Side}
 use Rattle.net_core.specs.declared.graphs.Side.TheVariants.{First, Second}
 use Rattle.claim_core.specs.declared.claims.Claim.{Claim}
 use Rattle.claim_core.specs.declared.claims.Shape.{Shape}
-use Rattle.claim_core.specs.declared.claims.Shape.TheVariants.{Up, Down, Swap}
-use Rattle.claim_core.specs.Claims.{IsClaim, IsPlaced}
-use Rattle.claim_core.specs.Images.{claim_of_second, moved_one, moved_shape, moved_two, moved_value, one_input, pair_of}
-use Rattle.claim_core.proofs.ImageLemmas.{chained, mapped}
+use Rattle.claim_core.specs.declared.claims.Shape.TheVariants.{Up, Down}
+use Rattle.claim_core.specs.Claims.{IsClaim}
+use Rattle.claim_core.specs.Images.{moved_value, one_input}
 use Rattle.account_core.specs.declared.fact.Evidence.{Evidence}
 use Rattle.account_core.specs.declared.fact.Evidence.TheVariants as evidence
 use Rattle.account_core.specs.declared.fact.Fact.{Fact}
@@ -28,8 +26,9 @@ use Rattle.account_core.specs.Facts.{AreFacts}
 use Rattle.account_core.specs.Given.{Decided, Given, decided, decided_by, fact_at, given_of, no_fact, shown_by, IsFactGiven}
 use Rattle.account_core.specs.Mismatches.{IsImage}
 use Rattle.account_core.specs.Tallies.{other_side, port_on, shapes_of, AreOfEach, HaveShapes, LackShapes, SayOf}
-use Rattle.account_core.proofs.Matched.{pair_of-held}
+use Rattle.account_core.proofs.TallyLemmas.{both}
 use Rattle.ban_book.specs.Vectors.{AddsNoVector, AreDecided, AreEndsDecided, AreInputsDecided, AreLastResorts, HasOneInput, HaveNoFacts, IsDecided, IsLastResort, IsShownBy, IsVector}
+use Rattle.ban_book.proofs.CarriedLemmas.{carried_by, one_back}
 use Rattle.ban_book.proofs.ShownLemmas.{IsSame, mismatch_in, tally_in}
 use Rattle.account_core.proofs.TallyLemmas.{both}
 
@@ -65,116 +64,17 @@ pub inputs_later : (facts added : List Decided) (inputs : ℕ) (side : Side) (ou
     → AreInputsDecided facts inputs side output
     → AreInputsDecided (facts ++ added) inputs side output
 inputs_later facts added inputs side output are = record {
-  up = λ i below. decided_later facts added _ (are.up i below);
-  down = λ i below. decided_later facts added _ (are.down i below);
+  each = λ shape one placed. decided_later facts added _ (are.each shape one placed);
 }
 
 pub ends_later : (graphs : Graphs) (facts added : List Decided) (pair : Pair)
     → AreEndsDecided graphs facts pair
     → AreEndsDecided graphs (facts ++ added) pair
-ends_later graphs facts added pair are = record {
-  first = inputs_later facts added graphs.first.inputs First pair.from are.first;
-  second = inputs_later facts added graphs.second.inputs Second pair.to are.second;
-}
+ends_later graphs facts added pair are = record { each = λ side. inputs_later facts added _ side _ (are.each side) }
 
--- a claim of one input was decided where all of its output's are
-decided_one : (facts : List Decided) (inputs : ℕ) (side : Side) (output : ℕ) (shape : Shape)
-    → AreInputsDecided facts inputs side output
-    → HasOneInput shape
-    → IsPlaced inputs shape
-    → IsDecided facts (record { side = side; output = output; shape = shape })
-decided_one facts inputs side output (Up i) are one placed = are.up i placed
-decided_one facts inputs side output (Down i) are one placed = are.down i placed
-decided_one facts inputs side output (Swap i j a b) are one placed = absurd one
-
--- that of an output of a pair
-decided_end : (graphs : Graphs) (facts : List Decided) (pair : Pair) (side : Side) (output : ℕ) (shape : Shape)
-    → AreEndsDecided graphs facts pair
-    → output ≡ port_on side pair
-    → HasOneInput shape
-    → IsPlaced (graph_of graphs side).inputs shape
-    → IsDecided facts (record { side = side; output = output; shape = shape })
-decided_end graphs facts pair First output shape are same one placed =
-    decided_one facts graphs.first.inputs First output shape (subst (AreInputsDecided facts graphs.first.inputs First) (sym same) are.first) one placed
-decided_end graphs facts pair Second output shape are same one placed =
-    decided_one facts graphs.second.inputs Second output shape (subst (AreInputsDecided facts graphs.second.inputs Second) (sym same) are.second) one placed
-
--- the claim of an output of a pair
-claim_decided : (graphs : Graphs) (facts : List Decided) (pair : Pair) (side : Side) (claim : Claim)
-    → AreEndsDecided graphs facts pair
-    → claim.side ≡ side
-    → claim.output ≡ port_on side pair
-    → HasOneInput claim.shape
-    → IsClaim graphs claim
-    → IsDecided facts claim
-claim_decided graphs facts pair side claim are of_side of_output one placed =
-    decided_end graphs facts pair claim.side claim.output claim.shape are (of_output ∙ ap (λ (s : Side). port_on s pair) (sym of_side)) one placed.placed
-
--- a shape is moved to one of as many inputs
 one_is_one : (i : ℕ) (value : Bool) → HasOneInput (one_input i value)
 one_is_one i false = tt
 one_is_one i true = tt
-
-two_are_two : (c : Bool) (i j k l : ℕ) (a b d e : Bool) → HasOneInput (if c then Swap i j a b else Swap k l d e) → ⊥
-two_are_two false i j k l a b d e one = one
-two_are_two true i j k l a b d e one = one
-
-one_moved : (pairs : List Pair) (exchanged value : Bool) (i : ℕ) (moved : Shape)
-    → option_map (moved_one exchanged value) (pair_of pairs Input i) ≡ Some moved
-    → HasOneInput moved
-one_moved pairs exchanged value i moved is =
-    let at = mapped (moved_one exchanged value) (pair_of pairs Input i) moved is in
-    subst HasOneInput at.2 (one_is_one at.0.to (moved_value exchanged at.0 value))
-
-two_moved : (pairs : List Pair) (exchanged a b : Bool) (i j : ℕ) (moved : Shape)
-    → moved_shape pairs exchanged (Swap i j a b) ≡ Some moved
-    → HasOneInput moved
-    → ⊥
-two_moved pairs exchanged a b i j moved is one =
-    let first = chained (λ first. option_map (moved_two exchanged a b first) (pair_of pairs Input j)) (pair_of pairs Input i) moved is in
-    let second = mapped (moved_two exchanged a b first.0) (pair_of pairs Input j) moved first.2 in
-    let x = first.0.to in
-    let y = second.0.to in
-    let v = moved_value exchanged first.0 a in
-    let w = moved_value exchanged second.0 b in
-    two_are_two (nat_lt x y) x y y x v w w v (subst HasOneInput (sym second.2) one)
-
-pub shape_moved : (pairs : List Pair) (exchanged : Bool) (shape moved : Shape)
-    → moved_shape pairs exchanged shape ≡ Some moved
-    → (HasOneInput shape → HasOneInput moved) × (HasOneInput moved → HasOneInput shape)
-shape_moved pairs exchanged (Up i) moved is = (λ one. one_moved pairs exchanged false i moved is, λ one. tt)
-shape_moved pairs exchanged (Down i) moved is = (λ one. one_moved pairs exchanged true i moved is, λ one. tt)
-shape_moved pairs exchanged (Swap i j a b) moved is = (λ one. absurd one, λ one. two_moved pairs exchanged a b i j moved is one)
-
--- A claim and its image are of the outputs of a pair, and either is of one input where the other is.
-record AreOfPair (pairs : List Pair) (claim image : Claim) : Type 0 where
-  pair : Pair
-  held : Contains pairs pair
-  kind : pair.kind ≡ Output
-  first_side : claim.side ≡ First
-  first_output : claim.output ≡ port_on First pair
-  second_side : image.side ≡ Second
-  second_output : image.output ≡ port_on Second pair
-  one_there : HasOneInput claim.shape → HasOneInput image.shape
-  one_back : HasOneInput image.shape → HasOneInput claim.shape
-
-image_pair : (pairs : List Pair) (claim image : Claim) → IsImage pairs claim image → AreOfPair pairs claim image
-image_pair pairs claim image is =
-    let found = chained (λ output. option_map (claim_of_second output.to) (moved_shape pairs output.flip claim.shape)) (pair_of pairs Output claim.output) image is.1 in
-    let moved = mapped (claim_of_second found.0.to) (moved_shape pairs found.0.flip claim.shape) image found.2 in
-    let there = pair_of-held pairs Output claim.output found.0 found.1 in
-    let shapes = shape_moved pairs found.0.flip claim.shape moved.0 moved.1 in
-    record {
-      pair = found.0;
-      held = there.0;
-      kind = there.1;
-      first_side = is.0;
-      first_output = sym there.2;
-      second_side = sym (ap (λ (c : Claim). c.side) moved.2);
-      second_output = sym (ap (λ (c : Claim). c.output) moved.2);
-      one_there = λ one. subst (λ (c : Claim). HasOneInput c.shape) moved.2 (shapes.0 one);
-      one_back = λ one. shapes.1 (subst (λ (c : Claim). HasOneInput c.shape) (sym moved.2) one);
-    }
 
 -- the shapes of a tally are of one input
 each_is_one : (inputs : List ℕ) (shapes : List Shape) → AreOfEach inputs shapes → All HasOneInput shapes
@@ -227,15 +127,14 @@ module _ (graphs : Graphs) (facts added : List Decided) (are : AreDecided graphs
             absurd (are.distinct held.0 k no_fact (omega (arith, held.1, past)) below (ap (λ (f : Decided). f.claim) there))
       ]
 
-  told_before : (pair : Pair) (side : Side) (k : ℕ)
+  told_before : (pair : Pair) (side : Side) (shape : Shape) (k : ℕ)
       → AreEndsDecided graphs facts pair
+      → HasOneInput shape
       → k < length (facts ++ added)
-      → (fact_at after k).claim.side ≡ side
-      → (fact_at after k).claim.output ≡ port_on side pair
-      → HasOneInput (fact_at after k).claim.shape
+      → (fact_at after k).claim ≡ record { side = side; output = port_on side pair; shape = shape }
       → k < length facts
-  told_before pair side k ends below of_side of_output one =
-      stands_before k below (claim_decided graphs facts pair side (fact_at after k).claim ends of_side of_output one (are.placed k no_fact below))
+  told_before pair side shape k ends one below is =
+      stands_before k below (subst (IsDecided facts) (sym is) ((ends.each side).each shape one (subst (IsClaim graphs) is (are.placed k no_fact below)).placed))
 
   abbrev EndsDecided : List Pair → Type 0
   EndsDecided pairs = All (λ pair. pair.kind ≡ Output → AreEndsDecided graphs facts pair) pairs
@@ -249,16 +148,12 @@ module _ (graphs : Graphs) (facts added : List Decided) (are : AreDecided graphs
       → one < length (facts ++ added)
       → other < length (facts ++ added)
       → IsImage pairs (fact_at after one).claim (fact_at after other).claim
-      → HasOneInput (fact_at after one).claim.shape ⊎ HasOneInput (fact_at after other).claim.shape
+      → HasOneInput (fact_at after one).claim.shape
       → (one < length facts) × (other < length facts)
-  both_before pairs one other ends first second image either =
-      let are_of = image_pair pairs (fact_at after one).claim (fact_at after other).claim image in
-      let pair_ends = ends_of pairs are_of.pair ends are_of.held are_of.kind in
-      let ones : HasOneInput (fact_at after one).claim.shape × HasOneInput (fact_at after other).claim.shape = elim either [
-        | inl here ↦ (here, are_of.one_there here)
-        | inr there ↦ (are_of.one_back there, there)
-      ] in
-      (told_before are_of.pair First one pair_ends first are_of.first_side are_of.first_output ones.0, told_before are_of.pair Second other pair_ends second are_of.second_side are_of.second_output ones.1)
+  both_before pairs one other ends first second image single =
+      let is = carried_by pairs (fact_at after one).claim (fact_at after other).claim image single in
+      let pair_ends = ends_of pairs is.output ends is.output_held is.output_kind in
+      (told_before is.output First _ one pair_ends (one_is_one is.input.from is.value) first is.claim_is, told_before is.output Second _ other pair_ends (one_is_one is.input.to (moved_value is.output.flip is.input is.value)) second is.image_is)
 
   mismatch_before : (pairs : List Pair) (fails holds : ℕ)
       → HaveNoFacts graphs facts pairs
@@ -282,10 +177,10 @@ module _ (graphs : Graphs) (facts added : List Decided) (are : AreDecided graphs
   no_mismatch_later pairs fails holds ends none one shown =
       elim shown.rule.image [
         | inl image ↦
-            let both = both_before pairs fails holds ends shown.names.0 shown.names.1 image (inl one) in
+            let both = both_before pairs fails holds ends shown.names.0 shown.names.1 image one in
             mismatch_before pairs fails holds none one shown both.0 both.1
         | inr image ↦
-            let both = both_before pairs holds fails ends shown.names.1 shown.names.0 image (inr one) in
+            let both = both_before pairs holds fails ends shown.names.1 shown.names.0 image (one_back pairs _ _ image one) in
             mismatch_before pairs fails holds none one shown both.1 both.0
       ]
 
@@ -296,7 +191,8 @@ module _ (graphs : Graphs) (facts added : List Decided) (are : AreDecided graphs
       → All HasOneInput (shapes_of after numbers)
       → All (IsFactGiven before) numbers
   numbers_before pair side holds numbers ends known say ones k d below =
-      told_before pair side (get_or numbers k d) ends (known k d below) (say.of_side k d below) (say.of_output k d below) (shape_at after numbers k d ones below)
+      let number = get_or numbers k d in
+      told_before pair side (fact_at after number).claim.shape number ends (shape_at after numbers k d ones below) (known k d below) (λ i. record { side = say.of_side k d below i; output = say.of_output k d below i; shape = (fact_at after number).claim.shape })
 
   no_tally_later : (pairs : List Pair) (kind : Tallied) (have lack : List ℕ)
       → EndsDecided pairs

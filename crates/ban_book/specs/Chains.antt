@@ -1,15 +1,15 @@
 -- The bans with one first pair are a chain, from the last back to the first, and those without pairs are one.
 use Rattle.std.specs.Prelude.{◌≡◌, ℕ, ◌<◌, ◌≤◌, List, Option, None, Some, IfSome, length, slice_get, slice_index_or}
 use Rattle.std.specs.Map.{lookup}
+use Rattle.std.specs.Option.{option_eq}
 use Rattle.circuits.specs.declared.port.Pair.{Pair}
 use Rattle.circuits.specs.contracts.port.PairPartialEq.TheImpl.{eq-value as pair_eq}
 use Rattle.account_core.specs.declared.step.Ban.{Ban}
 use Rattle.ban_book.specs.Covering.{IsWithin}
 
 -- the number that is noted for a chain
-unfoldable pub last_of : Option ℕ → List (Pair × ℕ) → Option Pair → Option ℕ
-last_of empty by_first None = empty
-last_of empty by_first (Some pair) = lookup (pair_eq.it pair) by_first
+abbrev pub last_of : List (Option Pair × ℕ) → Option Pair → Option ℕ
+last_of heads first = lookup (option_eq pair_eq.it first) heads
 
 -- the chain that a ban is of
 abbrev pub first_of : Ban → Option Pair

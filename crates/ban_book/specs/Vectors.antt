@@ -1,21 +1,21 @@
 -- Bans that vectors show are a last resort: facts about single inputs show none of the pairs (unateness and support of
 -- functions, as in textbooks of logic synthesis; a match keeps both: Katebi and Markov, DATE 2010).
-use Rattle.std.specs.Prelude.{◌≡◌, ◌≢◌, ℕ, ◌<◌, ⊤, Bool, List, [], All, AllPairs, Contains}
+use Rattle.std.specs.Prelude.{◌≡◌, ◌≢◌, ℕ, ⊤, Bool, List, [], All, AllPairs, Contains}
 use Rattle.circuits.specs.declared.port.Pair.{Pair}
 use Rattle.circuits.specs.declared.port.PortKind.TheVariants.{Output}
-use Rattle.net_core.specs.Sides.{Graphs}
+use Rattle.net_core.specs.Sides.{Graphs, graph_of}
 use Rattle.net_core.specs.declared.graphs.Side.{Side}
-use Rattle.net_core.specs.declared.graphs.Side.TheVariants.{First, Second}
 use Rattle.claim_core.specs.declared.claims.Claim.{Claim}
 use Rattle.claim_core.specs.declared.claims.Shape.{Shape}
 use Rattle.claim_core.specs.declared.claims.Shape.TheVariants.{Up, Down, Swap}
-use Rattle.claim_core.specs.Claims.{IsClaim}
+use Rattle.claim_core.specs.Claims.{IsClaim, IsPlaced}
 use Rattle.account_core.specs.declared.step.Ban.{Ban}
 use Rattle.account_core.specs.declared.step.Step.{Step}
 use Rattle.account_core.specs.declared.step.Step.TheVariants as step
 use Rattle.account_core.specs.declared.step.Tallied.{Tallied}
 use Rattle.account_core.specs.Given.{Decided, decided, fact_at, given_of}
 use Rattle.account_core.specs.Steps.{AreNamesKnown, KeepsRule}
+use Rattle.account_core.specs.Tallies.{port_on}
 
 -- a step is a vector
 abbrev pub IsVector : Step → Type 0
@@ -41,13 +41,14 @@ IsDecided facts claim = (holds : Bool) × Contains facts (decided claim holds)
 
 -- For each input of a circuit it was decided whether an output may fall where the input goes up, and where it goes down.
 pub record AreInputsDecided (facts : List Decided) (inputs : ℕ) (side : Side) (output : ℕ) : Type 0 where
-  pub up : (i : ℕ) → i < inputs → IsDecided facts (record { side = side; output = output; shape = Up i })
-  pub down : (i : ℕ) → i < inputs → IsDecided facts (record { side = side; output = output; shape = Down i })
+  pub each : (shape : Shape)
+      → HasOneInput shape
+      → IsPlaced inputs shape
+      → IsDecided facts (record { side = side; output = output; shape = shape })
 
 -- That was decided of both outputs of a pair, at all inputs of their circuits.
 pub record AreEndsDecided (graphs : Graphs) (facts : List Decided) (pair : Pair) : Type 0 where
-  pub first : AreInputsDecided facts graphs.first.inputs First pair.from
-  pub second : AreInputsDecided facts graphs.second.inputs Second pair.to
+  pub each : (side : Side) → AreInputsDecided facts (graph_of graphs side).inputs side (port_on side pair)
 
 -- A step names facts that are there, and is valid for pairs.
 pub record IsShownBy (graphs : Graphs) (facts : List Decided) (pairs : List Pair) (step : Step) : Type 0 where

@@ -4,9 +4,9 @@ ghost use Rattle.std.specs.Prelude.{◌≡◌, ◌↔◌, [], ◌∷◌, ◌++�
 ghost use Rattle.ban_book.specs.Chains.{HasNoneWithin, first_of};
 ghost use Rattle.ban_book.specs.Covering.{Covers, IsWithin};
 
-use crate::heads::Heads;
 use account_core::Ban;
 use circuits::Pair;
+use indexmap::IndexMap;
 use items::Items;
 use std::alloc::{AllocError, Global};
 use std::marker::Model;
@@ -14,12 +14,14 @@ use std::marker::Model;
 /// Bans in the order in which they came, each under its number, from 0. Contracts see it as the list of the bans.
 /// Whether their steps are valid is for those to say who see the circuits and the facts.
 ///
-/// A ban is found by its first pair: the bans that have it as theirs are threaded from the last back to the first.
+/// A ban is found by its first pair: the bans with one first pair are a chain, from the last back to the first, and those without
+/// pairs are one.
 #[derive(Debug)]
 pub struct BanBook {
     bans: Vec<Ban>,
-    heads: Heads,
-    /// For each ban the one before it with the same first pair.
+    /// The last ban of each chain.
+    heads: IndexMap<Option<Pair>, u64>,
+    /// For each ban the one before it in its chain.
     before: Vec<Option<u64>>,
 }
 
@@ -43,7 +45,7 @@ impl Model for BanBook {
 
     ghost view = { λ a. a.bans.items };
 
-    ghost invariant = { λ a. AreChained a.bans.items (last_of a.heads.empty a.heads.by_first.entries) a.before.items };
+    ghost invariant = { λ a. AreChained a.bans.items (last_of a.heads.entries) a.before.items };
 }
 
 impl BanBook {
@@ -53,7 +55,7 @@ impl BanBook {
     {
         BanBook {
             bans: Vec::new(alloc),
-            heads: Heads::new(alloc),
+            heads: IndexMap::new(alloc),
             before: Vec::new(alloc),
         }
     }
@@ -67,7 +69,7 @@ impl BanBook {
         self.bans.reserve(1)?;
         self.before.reserve(1)?;
         let number = self.bans.len() as u64;
-        let before = self.heads.put(first_of(&ban), number)?;
+        let before = self.heads.insert(first_of(&ban), number)?;
         self.before.push_reserved(before);
         self.bans.push_reserved(ban);
         Ok(number)
@@ -90,12 +92,12 @@ impl BanBook {
         None
     }
 
-    // The last ban within the pairs of those with this first pair, or of those without pairs.
+    // The last ban of a chain that is within the pairs.
     fn last_within(&self, first: Option<Pair>, pairs: &[Pair]) -> Option<u64>
         ensures found { IfSome result (Covers self.now pairs.now) }
         ensures none { IfNone result (HasNoneWithin self.now first pairs.now) }
     {
-        let mut next = self.heads.last(first);
+        let mut next = self.heads.get(&first).copied();
         while let Some(number) = next {
             if is_within(pairs, &self.bans[number as usize]) {
                 return Some(number);

@@ -2,6 +2,5 @@
 #![tactic(auto)]
 
 mod book;
-mod heads;
 
 pub use book::BanBook;

@@ -1,8 +1,10 @@
 -- Lists of facts' numbers.
-use Rattle.std.proofs.Common.{◌≡◌, ◌⊎◌, ℕ, suc, ◌+◌, ◌*◌, ◌<◌, Bool, true, false, List, [], ◌∷◌, ◌++◌, length, get_or, All, refl, sym, ap, subst, ◌∙◌, inl, inr, append_assoc, arith}
+use Rattle.std.proofs.Common.{◌≡◌, ◌⊎◌, ℕ, ◌+◌, ◌*◌, ◌<◌, Bool, true, false, List, [], ◌∷◌, ◌++◌, length, get_or, All, refl, sym, ap, subst, ◌∙◌, inl, inr, append_assoc, arith}
 use Rattle.std.specs.List.{flat_map}
 use Rattle.std.proofs.lemmas.List.{map_push, get_or_append_left, length-append, length-map}
 use Rattle.std.proofs.lemmas.List.Elements.{All-push}
+use Rattle.std.proofs.lemmas.List.Quantifiers.{all_pairs_push}
+use Rattle.std.proofs.lemmas.Slice.Zip.{AllZip-long, all_zipped_more}
 use Rattle.net_core.specs.declared.graphs.Side.{Side}
 use Rattle.claim_core.specs.declared.claims.Claim.{Claim}
 use Rattle.claim_core.specs.declared.claims.Shape.{Shape}
@@ -10,9 +12,10 @@ use Rattle.claim_core.specs.declared.claims.Shape.TheVariants.{Up, Down}
 use Rattle.claim_core.specs.Images.{one_input}
 use Rattle.account_core.specs.Given.{Decided, fact_at, given_of, no_fact, IsFactGiven}
 use Rattle.account_core.specs.Tallies.{shapes_of, AreOfEach, SayOf}
+use Rattle.ban_book.proofs.ShownLemmas.{IsSame, say_in, shapes_in}
 use Rattle.claim_rows.specs.Told.{AddsFact, IsToldAs}
 use Rattle.claim_rows.specs.Listed.{ListsBoth, ListsOf, ListsOne}
-use Rattle.claim_rows.proofs.ListLemmas.{ascend_push, below_more, below_push, flat_push, zip_append, zip_length}
+use Rattle.claim_rows.proofs.ListLemmas.{below_more, below_push, flat_push}
 
 -- facts that come after leave what was told
 module _ (facts added : List Decided) where
@@ -25,25 +28,19 @@ module _ (facts added : List Decided) where
     says = fact_stays number is.within ∙ is.says;
   }
 
-  shapes_stay : (numbers : List ℕ) → All (IsFactGiven (given_of facts [])) numbers → shapes_of (given_of (facts ++ added) []) numbers ≡ shapes_of (given_of facts []) numbers
-  shapes_stay [] known = refl
-  shapes_stay (k ∷ numbers) known =
-      ap (λ (fact : Decided). fact.claim.shape ∷ shapes_of (given_of (facts ++ added) []) numbers) (fact_stays k (known 0 0 (omega arith)))
-      ∙ ap (λ (shapes : List Shape). (fact_at (given_of facts []) k).claim.shape ∷ shapes) (shapes_stay numbers (λ i d h. known (suc i) d (omega (arith, h))))
-
   pub lists_stay : (shaped : List ℕ → List Shape → Type 0) (holds : Bool) (side : Side) (output below : ℕ) (numbers : List ℕ) → ListsOf shaped facts holds side output below numbers → ListsOf shaped (facts ++ added) holds side output below numbers
-  lists_stay shaped holds side output below numbers is = record {
-    inputs = is.inputs;
-    ascends = is.ascends;
-    less = is.less;
-    shapes = subst (shaped is.inputs) (sym (shapes_stay numbers is.known)) is.shapes;
-    known = λ k d h. omega (arith, is.known k d h, length-append facts added);
-    say = record {
-      says = λ k d h. ap (λ (fact : Decided). fact.holds) (fact_stays (get_or numbers k d) (is.known k d h)) ∙ is.say.says k d h;
-      of_side = λ k d h. ap (λ (fact : Decided). fact.claim.side) (fact_stays (get_or numbers k d) (is.known k d h)) ∙ is.say.of_side k d h;
-      of_output = λ k d h. ap (λ (fact : Decided). fact.claim.output) (fact_stays (get_or numbers k d) (is.known k d h)) ∙ is.say.of_output k d h;
-    };
-  }
+  lists_stay shaped holds side output below numbers is =
+      let old = given_of facts [] in
+      let new = given_of (facts ++ added) [] in
+      let same : All (IsSame old new) numbers = λ k d h. sym (fact_stays (get_or numbers k d) (is.known k d h)) in
+      record {
+        inputs = is.inputs;
+        ascends = is.ascends;
+        less = is.less;
+        shapes = subst (shaped is.inputs) (shapes_in old new numbers same) is.shapes;
+        known = λ k d h. omega (arith, is.known k d h, length-append facts added);
+        say = say_in old new numbers holds side output same is.say;
+      }
 
 -- nothing is listed yet
 pub lists_none : (shaped : List ℕ → List Shape → Type 0) (facts : List Decided) (holds : Bool) (side : Side) (output : ℕ) (numbers : List ℕ) → numbers ≡ [] → shaped [] [] → ListsOf shaped facts holds side output 0 numbers
@@ -97,9 +94,9 @@ is_one i true = inr refl
 pub lists_one : (facts : List Decided) (holds : Bool) (side : Side) (output input : ℕ) (value : Bool) (before after : List ℕ) → ListsOne facts holds side output input before → AddsFact facts (record { side = side; output = output; shape = one_input input value }) holds before after → ListsOne facts holds side output (input + 1) after
 lists_one facts holds side output input value before after is adds = record {
   inputs = is.inputs ++ input ∷ [];
-  ascends = ascend_push is.inputs input is.ascends is.less;
+  ascends = all_pairs_push (λ one other. one < other) is.inputs input is.ascends is.less;
   less = below_push is.inputs input is.less;
-  shapes = subst (AreOfEach (is.inputs ++ input ∷ [])) (sym (shapes_push facts holds side output (one_input input value) before after adds)) (zip_append (λ i shape. (shape ≡ Up i) ⊎ (shape ≡ Down i)) is.inputs (shapes_of (given_of facts []) before) (input ∷ []) (one_input input value ∷ []) is.shapes (is_one input value, tt));
+  shapes = subst (AreOfEach (is.inputs ++ input ∷ [])) (sym (shapes_push facts holds side output (one_input input value) before after adds)) (all_zipped_more (λ i shape. (shape ≡ Up i) ⊎ (shape ≡ Down i)) is.inputs (shapes_of (given_of facts []) before) input (one_input input value) is.shapes (is_one input value));
   known = known_push facts holds side output (one_input input value) before after adds is.known;
   say = say_push facts holds side output (one_input input value) before after adds is.say;
 }
@@ -107,7 +104,7 @@ lists_one facts holds side output input value before after is adds = record {
 pub lists_both : (facts : List Decided) (holds : Bool) (side : Side) (output input : ℕ) (before mid after : List ℕ) → ListsBoth facts holds side output input before → AddsFact facts (record { side = side; output = output; shape = Up input }) holds before mid → AddsFact facts (record { side = side; output = output; shape = Down input }) holds mid after → ListsBoth facts holds side output (input + 1) after
 lists_both facts holds side output input before mid after is one other = record {
   inputs = is.inputs ++ input ∷ [];
-  ascends = ascend_push is.inputs input is.ascends is.less;
+  ascends = all_pairs_push (λ one other. one < other) is.inputs input is.ascends is.less;
   less = below_push is.inputs input is.less;
   shapes =
       shapes_push facts holds side output (Down input) mid after other
@@ -121,7 +118,7 @@ lists_both facts holds side output input before mid after is one other = record 
 -- as many inputs as facts, or half as many
 pub one_count : (facts : List Decided) (holds : Bool) (side : Side) (output below : ℕ) (numbers : List ℕ) (is : ListsOne facts holds side output below numbers) → length is.inputs ≡ length numbers
 one_count facts holds side output below numbers is =
-    zip_length (λ i shape. (shape ≡ Up i) ⊎ (shape ≡ Down i)) is.inputs (shapes_of (given_of facts []) numbers) is.shapes ∙ length-map numbers (λ k. (fact_at (given_of facts []) k).claim.shape)
+    sym (AllZip-long (λ i shape. (shape ≡ Up i) ⊎ (shape ≡ Down i)) is.inputs (shapes_of (given_of facts []) numbers) is.shapes) ∙ length-map numbers (λ k. (fact_at (given_of facts []) k).claim.shape)
 
 twice_length : (inputs : List ℕ) → length (flat_map (λ i. Up i ∷ Down i ∷ []) inputs) ≡ 2 * length inputs
 twice_length [] = refl

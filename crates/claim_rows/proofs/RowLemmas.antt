@@ -3,15 +3,17 @@ use Rattle.std.proofs.Common.{◌≡◌, ℕ, ◌<◌, Bool, true, false, List, 
 use Rattle.std.proofs.lemmas.Bool.{cases_order}
 use Rattle.std.proofs.lemmas.List.{get_or_default}
 use Rattle.circuits.specs.declared.port.Pair.{Pair}
-use Rattle.net_core.specs.Sides.{Graphs}
+use Rattle.net_core.specs.Sides.{Graphs, graph_of}
 use Rattle.net_core.specs.declared.graphs.Side.{Side}
 use Rattle.net_core.specs.declared.graphs.Side.TheVariants.{First, Second}
 use Rattle.claim_core.specs.declared.claims.Claim.{Claim}
-use Rattle.claim_core.specs.declared.claims.Shape.TheVariants.{Up, Down}
+use Rattle.claim_core.specs.declared.claims.Shape.{Shape}
+use Rattle.claim_core.specs.declared.claims.Shape.TheVariants.{Up, Down, Swap}
+use Rattle.claim_core.specs.Claims.{IsPlaced}
 use Rattle.claim_core.specs.Images.{one_input}
 use Rattle.account_core.specs.Given.{Decided, decided, fact_at, given_of, no_fact}
 use Rattle.account_core.specs.Tallies.{port_on}
-use Rattle.ban_book.specs.Vectors.{AreDecided, AreEndsDecided, AreInputsDecided, IsDecided}
+use Rattle.ban_book.specs.Vectors.{AreDecided, AreEndsDecided, AreInputsDecided, HasOneInput, IsDecided}
 use Rattle.circuits.proofs.EachLemmas.{each_push}
 use Rattle.claim_rows.specs.declared.told.InputTold.{InputTold}
 use Rattle.claim_rows.specs.Told.{IsToldAs}
@@ -41,16 +43,19 @@ told_decided facts claim holds number is =
     (holds, (number, is.within, get_or_default facts number (decided claim holds) no_fact is.within ∙ is.says))
 
 pub inputs_decided : (facts : List Decided) (inputs : ℕ) (side : Side) (output : ℕ) (row : List InputTold) → length row ≡ inputs → IsRow facts side output row → AreInputsDecided facts inputs side output
-inputs_decided facts inputs side output row whole is = record {
-  up = λ i below. told_decided facts (record { side = side; output = output; shape = Up i }) _ _ (is.each i no_told (omega (arith, below, whole))).up;
-  down = λ i below. told_decided facts (record { side = side; output = output; shape = Down i }) _ _ (is.each i no_told (omega (arith, below, whole))).down;
-}
+inputs_decided facts inputs side output row whole is = record { each = each }
+  where
+    each : (shape : Shape) → HasOneInput shape → IsPlaced inputs shape → IsDecided facts (record { side = side; output = output; shape = shape })
+    each (Up i) one below = told_decided facts _ _ _ (is.each i no_told (omega (arith, below, whole))).up
+    each (Down i) one below = told_decided facts _ _ _ (is.each i no_told (omega (arith, below, whole))).down
+    each (Swap i j a b) one placed = absurd one
 
 pub ends_decided : (graphs : Graphs) (facts : List Decided) (pair : Pair) (one other : List InputTold) → length one ≡ graphs.first.inputs → length other ≡ graphs.second.inputs → AreRows facts pair one other → AreEndsDecided graphs facts pair
-ends_decided graphs facts pair one other first second are = record {
-  first = inputs_decided facts graphs.first.inputs First pair.from one first are.first;
-  second = inputs_decided facts graphs.second.inputs Second pair.to other second are.second;
-}
+ends_decided graphs facts pair one other first second are = record { each = each }
+  where
+    each : (side : Side) → AreInputsDecided facts (graph_of graphs side).inputs side (port_on side pair)
+    each First = inputs_decided facts graphs.first.inputs First pair.from one first are.first
+    each Second = inputs_decided facts graphs.second.inputs Second pair.to other second are.second
 
 -- the row of a side
 pub row_of_side : (facts : List Decided) (pair : Pair) (side : Side) (one other : List InputTold) → AreRows facts pair one other → IsRow facts side (port_on side pair) (row_on side one other)

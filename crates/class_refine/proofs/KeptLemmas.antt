@@ -12,12 +12,12 @@ use Rattle.net_core.specs.declared.graphs.Side.TheVariants.{First, Second}
 use Rattle.account_core.specs.Tallies.{port_on}
 use Rattle.port_sides.specs.Held.{AreApart}
 use Rattle.class_refine.specs.declared.entry.Entry.{Entry}
-use Rattle.class_refine.specs.Numbers.{at_ports, pair_number, port_number}
+use Rattle.class_refine.specs.Numbers.{at_ports, pair_number, port_number, put_at_ports}
 use Rattle.class_refine.specs.Trails.{Domained, AreEntries, IsFreePort, IsOpen, IsPairOf, held_in, is_at, is_held, ports_of}
 use Rattle.class_refine.specs.Kept.{AreCounts, AreHolders, ArePlaces, IsKept, TellsHeld, TellsPlace}
 use Rattle.class_refine.proofs.NumberLemmas.{pair_number_below, pair_number_same}
 use Rattle.class_refine.proofs.EntryLemmas.{All-front, All-last, AllPairs-front, AllPairs-last, at_of, gone_deleted, gone_held, held_more, held_same, none_of_false, of_at, one_of_true}
-use Rattle.class_refine.proofs.TableLemmas.{both, both_at, both_other, both_size, counted_at, counted_other, counted_size}
+use Rattle.class_refine.proofs.TableLemmas.{changed_at, changed_other, changed_size}
 
 -- the entries
 apart_from : (x p : Pair) → is_at First p.kind p.from x ≡ false → is_at Second p.kind p.to x ≡ false → AreApart x p
@@ -157,17 +157,17 @@ held_before es e side kind port None is off tells = record {
   none = All-front (λ pair. is_at side kind port pair ≡ false) (held_in es) e.pair (subst (All (λ pair. is_at side kind port pair ≡ false)) (held_more es e is) tells.none);
 }
 
-holders_more : (n m : ℕ) (es : List Entry) (e : Entry) (hs : List (Option Pair)) → IsPairOf n m e.pair → is_held e.fate ≡ true → AreHolders n m es hs → AreHolders n m (es ++ e ∷ []) (both n m e.pair (Some e.pair) hs)
+holders_more : (n m : ℕ) (es : List Entry) (e : Entry) (hs : List (Option Pair)) → IsPairOf n m e.pair → is_held e.fate ≡ true → AreHolders n m es hs → AreHolders n m (es ++ e ∷ []) (put_at_ports (Some e.pair) n m e.pair hs)
 holders_more n m es e hs known is are = record {
-  size = both_size n m e.pair (Some e.pair) hs ∙ are.size;
+  size = changed_size None (λ old. Some e.pair) n m e.pair hs ∙ are.size;
   tells = λ side kind port below. elim (cases_Bool (is_at side kind port e.pair)) [
     | inl on ↦
-        subst (TellsHeld (es ++ e ∷ []) side kind port) (sym (both_at n m e.pair (Some e.pair) None hs side kind port known are.size on)) (record {
+        subst (TellsHeld (es ++ e ∷ []) side kind port) (sym (changed_at None (λ old. Some e.pair) n m e.pair hs side kind port known are.size on)) (record {
           found = record { held = subst (λ l. Contains l e.pair) (sym (held_more es e is)) (Contains-push (held_in es) e.pair); at = on };
           none = tt;
         })
     | inr off ↦
-        subst (TellsHeld (es ++ e ∷ []) side kind port) (sym (both_other n m e.pair (Some e.pair) None hs side kind port known below off)) (held_stays es e side kind port (get_or hs (port_number n m side kind port) None) is off (are.tells side kind port below))
+        subst (TellsHeld (es ++ e ∷ []) side kind port) (sym (changed_other None (λ old. Some e.pair) n m e.pair hs side kind port known below off)) (held_stays es e side kind port (get_or hs (port_number n m side kind port) None) is off (are.tells side kind port below))
   ];
 }
 
@@ -185,17 +185,17 @@ off_port x p side kind port apart on = elim (cases_Bool (is_at side kind port x)
     by_side First are kinds ports = are.from kinds ports
     by_side Second are kinds ports = are.to kinds ports
 
-holders_fewer : (n m : ℕ) (es : List Entry) (e : Entry) (hs : List (Option Pair)) → AreEntries n m (es ++ e ∷ []) → is_held e.fate ≡ true → AreHolders n m (es ++ e ∷ []) hs → AreHolders n m es (both n m e.pair None hs)
+holders_fewer : (n m : ℕ) (es : List Entry) (e : Entry) (hs : List (Option Pair)) → AreEntries n m (es ++ e ∷ []) → is_held e.fate ≡ true → AreHolders n m (es ++ e ∷ []) hs → AreHolders n m es (put_at_ports None n m e.pair hs)
 holders_fewer n m es e hs entries is are = record {
-  size = let nothing : Option Pair = None in both_size n m e.pair nothing hs ∙ are.size;
+  size = let nothing : Option Pair = None in changed_size nothing (λ old. nothing) n m e.pair hs ∙ are.size;
   tells = λ side kind port below. elim (cases_Bool (is_at side kind port e.pair)) [
     | inl on ↦
-        subst (TellsHeld es side kind port) (sym (both_at n m e.pair None None hs side kind port known are.size on)) (record {
+        subst (TellsHeld es side kind port) (sym (changed_at None (λ old. None) n m e.pair hs side kind port known are.size on)) (record {
           found = tt;
           none = λ k d within. off_port (get_or (held_in es) k d) e.pair side kind port (apart k d within) on;
         })
     | inr off ↦
-        subst (TellsHeld es side kind port) (sym (both_other n m e.pair None None hs side kind port known below off)) (held_before es e side kind port (get_or hs (port_number n m side kind port) None) is off (are.tells side kind port below))
+        subst (TellsHeld es side kind port) (sym (changed_other None (λ old. None) n m e.pair hs side kind port known below off)) (held_before es e side kind port (get_or hs (port_number n m side kind port) None) is off (are.tells side kind port below))
   ];
 }
   where
@@ -212,33 +212,33 @@ counts_held n m es e gs is are = record { size = are.size; tells = λ side kind 
 counts_unheld : (n m : ℕ) (es : List Entry) (e : Entry) (gs : List ℕ) → is_held e.fate ≡ true → AreCounts n m (es ++ e ∷ []) gs → AreCounts n m es gs
 counts_unheld n m es e gs is are = record { size = are.size; tells = λ side kind port below. are.tells side kind port below ∙ gone_held es e side kind port is }
 
-counts_more : (n m : ℕ) (es : List Entry) (e : Entry) (gs : List ℕ) → IsPairOf n m e.pair → is_held e.fate ≡ false → AreCounts n m es gs → AreCounts n m (es ++ e ∷ []) (at_ports (λ count. count + 1) n m e.pair gs)
+counts_more : (n m : ℕ) (es : List Entry) (e : Entry) (gs : List ℕ) → IsPairOf n m e.pair → is_held e.fate ≡ false → AreCounts n m es gs → AreCounts n m (es ++ e ∷ []) (at_ports 0 (λ count. count + 1) n m e.pair gs)
 counts_more n m es e gs known is are = record {
-  size = counted_size (λ count. count + 1) n m e.pair gs ∙ are.size;
+  size = changed_size 0 (λ count. count + 1) n m e.pair gs ∙ are.size;
   tells = λ side kind port below. elim (cases_Bool (is_at side kind port e.pair)) [
     | inl on ↦
         let one = one_of_true (is_at side kind port e.pair) on in
-        omega (arith, counted_at (λ count. count + 1) n m e.pair gs side kind port known are.size on, are.tells side kind port below, gone_deleted es e side kind port is, one)
+        omega (arith, changed_at 0 (λ count. count + 1) n m e.pair gs side kind port known are.size on, are.tells side kind port below, gone_deleted es e side kind port is, one)
     | inr off ↦
         let none = none_of_false (is_at side kind port e.pair) off in
-        omega (arith, counted_other (λ count. count + 1) n m e.pair gs side kind port known below off, are.tells side kind port below, gone_deleted es e side kind port is, none)
+        omega (arith, changed_other 0 (λ count. count + 1) n m e.pair gs side kind port known below off, are.tells side kind port below, gone_deleted es e side kind port is, none)
   ];
 }
 
-counts_fewer : (n m : ℕ) (es : List Entry) (e : Entry) (gs : List ℕ) → IsPairOf n m e.pair → is_held e.fate ≡ false → AreCounts n m (es ++ e ∷ []) gs → AreCounts n m es (at_ports (λ count. count - 1) n m e.pair gs)
+counts_fewer : (n m : ℕ) (es : List Entry) (e : Entry) (gs : List ℕ) → IsPairOf n m e.pair → is_held e.fate ≡ false → AreCounts n m (es ++ e ∷ []) gs → AreCounts n m es (at_ports 0 (λ count. count - 1) n m e.pair gs)
 counts_fewer n m es e gs known is are = record {
-  size = counted_size (λ count. count - 1) n m e.pair gs ∙ are.size;
+  size = changed_size 0 (λ count. count - 1) n m e.pair gs ∙ are.size;
   tells = λ side kind port below. elim (cases_Bool (is_at side kind port e.pair)) [
     | inl on ↦
         let one = one_of_true (is_at side kind port e.pair) on in
-        omega (arith, counted_at (λ count. count - 1) n m e.pair gs side kind port known are.size on, are.tells side kind port below, gone_deleted es e side kind port is, one)
+        omega (arith, changed_at 0 (λ count. count - 1) n m e.pair gs side kind port known are.size on, are.tells side kind port below, gone_deleted es e side kind port is, one)
     | inr off ↦
         let none = none_of_false (is_at side kind port e.pair) off in
-        omega (arith, counted_other (λ count. count - 1) n m e.pair gs side kind port known below off, are.tells side kind port below, gone_deleted es e side kind port is, none)
+        omega (arith, changed_other 0 (λ count. count - 1) n m e.pair gs side kind port known below off, are.tells side kind port below, gone_deleted es e side kind port is, none)
   ];
 }
 
-pub kept_held : (n m : ℕ) (es : List Entry) (e : Entry) (ws : List Pair) (ps : List (Option ℕ)) (hs : List (Option Pair)) (gs : List ℕ) (k : ℕ) → IsKept n m es ws ps hs gs → is_held e.fate ≡ true → IsPairOf n m e.pair → IsOpen es e.pair → IsFreePort es First e.pair.kind e.pair.from → IsFreePort es Second e.pair.kind e.pair.to → k ≡ length es → IsKept n m (es ++ e ∷ []) (ws ++ e.pair ∷ []) (set ps (pair_number n m e.pair) (Some k)) (both n m e.pair (Some e.pair) hs) gs
+pub kept_held : (n m : ℕ) (es : List Entry) (e : Entry) (ws : List Pair) (ps : List (Option ℕ)) (hs : List (Option Pair)) (gs : List ℕ) (k : ℕ) → IsKept n m es ws ps hs gs → is_held e.fate ≡ true → IsPairOf n m e.pair → IsOpen es e.pair → IsFreePort es First e.pair.kind e.pair.from → IsFreePort es Second e.pair.kind e.pair.to → k ≡ length es → IsKept n m (es ++ e ∷ []) (ws ++ e.pair ∷ []) (set ps (pair_number n m e.pair) (Some k)) (put_at_ports (Some e.pair) n m e.pair hs) gs
 kept_held n m es e ws ps hs gs k are is known free from to last = record {
   entries_are = entries_held n m es e are.entries_are is known free from to;
   pairs_are = ap (λ l. l ++ e.pair ∷ []) are.pairs_are ∙ sym (held_more es e is);
@@ -247,7 +247,7 @@ kept_held n m es e ws ps hs gs k are is known free from to last = record {
   gone_are = counts_held n m es e gs is are.gone_are;
 }
 
-pub kept_deleted : (n m : ℕ) (es : List Entry) (e : Entry) (ws : List Pair) (ps : List (Option ℕ)) (hs : List (Option Pair)) (gs : List ℕ) (k : ℕ) → IsKept n m es ws ps hs gs → is_held e.fate ≡ false → IsPairOf n m e.pair → IsOpen es e.pair → k ≡ length es → IsKept n m (es ++ e ∷ []) ws (set ps (pair_number n m e.pair) (Some k)) hs (at_ports (λ count. count + 1) n m e.pair gs)
+pub kept_deleted : (n m : ℕ) (es : List Entry) (e : Entry) (ws : List Pair) (ps : List (Option ℕ)) (hs : List (Option Pair)) (gs : List ℕ) (k : ℕ) → IsKept n m es ws ps hs gs → is_held e.fate ≡ false → IsPairOf n m e.pair → IsOpen es e.pair → k ≡ length es → IsKept n m (es ++ e ∷ []) ws (set ps (pair_number n m e.pair) (Some k)) hs (at_ports 0 (λ count. count + 1) n m e.pair gs)
 kept_deleted n m es e ws ps hs gs k are is known free last = record {
   entries_are = entries_deleted n m es e are.entries_are is known free;
   pairs_are = are.pairs_are ∙ sym (held_same es e is);
@@ -262,7 +262,7 @@ without_last ws now hs p rest is =
     let size : length ws - 1 ≡ length hs = omega (arith, ap length is, length_push hs p) in
     rest ∙ (ap (λ k. take k ws) size ∙ (ap (take (length hs)) is ∙ take_at hs (p ∷ []) (length hs) refl))
 
-pub kept_unheld : (n m : ℕ) (es : List Entry) (e : Entry) (ws now : List Pair) (ps : List (Option ℕ)) (hs : List (Option Pair)) (gs : List ℕ) → IsKept n m (es ++ e ∷ []) ws ps hs gs → is_held e.fate ≡ true → now ≡ take (length ws - 1) ws → IsKept n m es now (set ps (pair_number n m e.pair) None) (both n m e.pair None hs) gs
+pub kept_unheld : (n m : ℕ) (es : List Entry) (e : Entry) (ws now : List Pair) (ps : List (Option ℕ)) (hs : List (Option Pair)) (gs : List ℕ) → IsKept n m (es ++ e ∷ []) ws ps hs gs → is_held e.fate ≡ true → now ≡ take (length ws - 1) ws → IsKept n m es now (set ps (pair_number n m e.pair) None) (put_at_ports None n m e.pair hs) gs
 kept_unheld n m es e ws now ps hs gs are is rest = record {
   entries_are = entries_fewer n m es e are.entries_are;
   pairs_are = without_last ws now (held_in es) e.pair rest (are.pairs_are ∙ held_more es e is);
@@ -271,7 +271,7 @@ kept_unheld n m es e ws now ps hs gs are is rest = record {
   gone_are = counts_unheld n m es e gs is are.gone_are;
 }
 
-pub kept_undeleted : (n m : ℕ) (es : List Entry) (e : Entry) (ws : List Pair) (ps : List (Option ℕ)) (hs : List (Option Pair)) (gs : List ℕ) → IsKept n m (es ++ e ∷ []) ws ps hs gs → is_held e.fate ≡ false → IsKept n m es ws (set ps (pair_number n m e.pair) None) hs (at_ports (λ count. count - 1) n m e.pair gs)
+pub kept_undeleted : (n m : ℕ) (es : List Entry) (e : Entry) (ws : List Pair) (ps : List (Option ℕ)) (hs : List (Option Pair)) (gs : List ℕ) → IsKept n m (es ++ e ∷ []) ws ps hs gs → is_held e.fate ≡ false → IsKept n m es ws (set ps (pair_number n m e.pair) None) hs (at_ports 0 (λ count. count - 1) n m e.pair gs)
 kept_undeleted n m es e ws ps hs gs are is = record {
   entries_are = entries_fewer n m es e are.entries_are;
   pairs_are = are.pairs_are ∙ held_same es e is;

@@ -1,5 +1,5 @@
 -- What tables of ports have after a change at both ports of a pair.
-use Rattle.std.proofs.Common.{◌≡◌, ◌≢◌, ℕ, ◌+◌, ◌*◌, ◌<◌, true, false, List, length, get_or, set, sym, ap, ◌∙◌, arith}
+use Rattle.std.proofs.Common.{◌≡◌, ◌≢◌, ℕ, ◌+◌, ◌*◌, ◌<◌, true, false, List, length, get_or, sym, ap, ◌∙◌, arith}
 use Rattle.std.proofs.lemmas.Bool.{false≢true}
 use Rattle.std.proofs.lemmas.List.{get_or-set_other, get_or-set_same, length-set}
 use Rattle.circuits.specs.declared.port.Pair.{Pair}
@@ -36,64 +36,34 @@ not_own n m p known side kind port below off t e =
     let s = same_port n m side t kind p.kind port (port_on t p) below (in_range n m p known t) e in
     false≢true (sym off ∙ at_of side kind port p (sym s.1) (ap (λ u. port_on u p) s.0 ∙ sym s.2))
 
--- a value at both ports of a pair
-abbrev pub both : {X : Type 0} → ℕ → ℕ → Pair → X → List X → List X
-both n m p v t = set (set t (own n m p First) v) (own n m p Second) v
-
-both_own : {X : Type 0} (n m : ℕ) (p : Pair) (v d : X) (t : List X) → IsPairOf n m p → length t ≡ 2 * n + 2 * m → (side : Side) → get_or (both n m p v t) (own n m p side) d ≡ v
-both_own n m p v d t known size First =
+-- what is changed at both ports
+changed_own : {X : Type 0} (d : X) (f : X → X) (n m : ℕ) (p : Pair) (t : List X) → IsPairOf n m p → length t ≡ 2 * n + 2 * m → (side : Side) → get_or (at_ports d f n m p t) (own n m p side) d ≡ f (get_or t (own n m p side) d)
+changed_own d f n m p t known size First =
     let a = own n m p First in
     let b = own n m p Second in
-    get_or-set_other (set t a v) b a v d (own_apart n m p known)
-    ∙ get_or-set_same t a v d (omega (arith, size, port_number_below n m First p.kind p.from known.from))
-both_own n m p v d t known size Second =
+    get_or-set_other (with_at d f a t) b a (f (get_or (with_at d f a t) b d)) d (own_apart n m p known)
+    ∙ get_or-set_same t a (f (get_or t a d)) d (omega (arith, size, port_number_below n m First p.kind p.from known.from))
+changed_own d f n m p t known size Second =
     let a = own n m p First in
     let b = own n m p Second in
-    get_or-set_same (set t a v) b v d (omega (arith, size, length-set t a v, port_number_below n m Second p.kind p.to known.to))
+    get_or-set_same (with_at d f a t) b (f (get_or (with_at d f a t) b d)) d (omega (arith, size, length-set t a (f (get_or t a d)), port_number_below n m Second p.kind p.to known.to))
+    ∙ ap f (get_or-set_other t a b (f (get_or t a d)) d (λ e. own_apart n m p known (sym e)))
 
-pub both_at : {X : Type 0} (n m : ℕ) (p : Pair) (v d : X) (t : List X) (side : Side) (kind : PortKind) (port : ℕ) → IsPairOf n m p → length t ≡ 2 * n + 2 * m → is_at side kind port p ≡ true → get_or (both n m p v t) (port_number n m side kind port) d ≡ v
-both_at n m p v d t side kind port known size on =
-    ap (λ k. get_or (both n m p v t) k d) (own_at n m p side kind port on) ∙ both_own n m p v d t known size side
-
-pub both_other : {X : Type 0} (n m : ℕ) (p : Pair) (v d : X) (t : List X) (side : Side) (kind : PortKind) (port : ℕ) → IsPairOf n m p → port < ports_of n m kind → is_at side kind port p ≡ false → get_or (both n m p v t) (port_number n m side kind port) d ≡ get_or t (port_number n m side kind port) d
-both_other n m p v d t side kind port known below off =
-    let a = own n m p First in
-    let b = own n m p Second in
-    let k = port_number n m side kind port in
-    get_or-set_other (set t a v) b k v d (not_own n m p known side kind port below off Second)
-    ∙ get_or-set_other t a k v d (not_own n m p known side kind port below off First)
-
-pub both_size : {X : Type 0} (n m : ℕ) (p : Pair) (v : X) (t : List X) → length (both n m p v t) ≡ length t
-both_size n m p v t = length-set (set t (own n m p First) v) (own n m p Second) v ∙ length-set t (own n m p First) v
-
--- a number that is changed at both ports
-counted_own : (f : ℕ → ℕ) (n m : ℕ) (p : Pair) (t : List ℕ) → IsPairOf n m p → length t ≡ 2 * n + 2 * m → (side : Side) → get_or (at_ports f n m p t) (own n m p side) 0 ≡ f (get_or t (own n m p side) 0)
-counted_own f n m p t known size First =
-    let a = own n m p First in
-    let b = own n m p Second in
-    get_or-set_other (with_at f a t) b a (f (get_or (with_at f a t) b 0)) 0 (own_apart n m p known)
-    ∙ get_or-set_same t a (f (get_or t a 0)) 0 (omega (arith, size, port_number_below n m First p.kind p.from known.from))
-counted_own f n m p t known size Second =
-    let a = own n m p First in
-    let b = own n m p Second in
-    get_or-set_same (with_at f a t) b (f (get_or (with_at f a t) b 0)) 0 (omega (arith, size, length-set t a (f (get_or t a 0)), port_number_below n m Second p.kind p.to known.to))
-    ∙ ap f (get_or-set_other t a b (f (get_or t a 0)) 0 (λ e. own_apart n m p known (sym e)))
-
-pub counted_at : (f : ℕ → ℕ) (n m : ℕ) (p : Pair) (t : List ℕ) (side : Side) (kind : PortKind) (port : ℕ) → IsPairOf n m p → length t ≡ 2 * n + 2 * m → is_at side kind port p ≡ true → get_or (at_ports f n m p t) (port_number n m side kind port) 0 ≡ f (get_or t (port_number n m side kind port) 0)
-counted_at f n m p t side kind port known size on =
+pub changed_at : {X : Type 0} (d : X) (f : X → X) (n m : ℕ) (p : Pair) (t : List X) (side : Side) (kind : PortKind) (port : ℕ) → IsPairOf n m p → length t ≡ 2 * n + 2 * m → is_at side kind port p ≡ true → get_or (at_ports d f n m p t) (port_number n m side kind port) d ≡ f (get_or t (port_number n m side kind port) d)
+changed_at d f n m p t side kind port known size on =
     let at = own_at n m p side kind port on in
-    ap (λ k. get_or (at_ports f n m p t) k 0) at ∙ (counted_own f n m p t known size side ∙ ap (λ k. f (get_or t k 0)) (sym at))
+    ap (λ k. get_or (at_ports d f n m p t) k d) at ∙ (changed_own d f n m p t known size side ∙ ap (λ k. f (get_or t k d)) (sym at))
 
-pub counted_other : (f : ℕ → ℕ) (n m : ℕ) (p : Pair) (t : List ℕ) (side : Side) (kind : PortKind) (port : ℕ) → IsPairOf n m p → port < ports_of n m kind → is_at side kind port p ≡ false → get_or (at_ports f n m p t) (port_number n m side kind port) 0 ≡ get_or t (port_number n m side kind port) 0
-counted_other f n m p t side kind port known below off =
+pub changed_other : {X : Type 0} (d : X) (f : X → X) (n m : ℕ) (p : Pair) (t : List X) (side : Side) (kind : PortKind) (port : ℕ) → IsPairOf n m p → port < ports_of n m kind → is_at side kind port p ≡ false → get_or (at_ports d f n m p t) (port_number n m side kind port) d ≡ get_or t (port_number n m side kind port) d
+changed_other d f n m p t side kind port known below off =
     let a = own n m p First in
     let b = own n m p Second in
     let k = port_number n m side kind port in
-    get_or-set_other (with_at f a t) b k (f (get_or (with_at f a t) b 0)) 0 (not_own n m p known side kind port below off Second)
-    ∙ get_or-set_other t a k (f (get_or t a 0)) 0 (not_own n m p known side kind port below off First)
+    get_or-set_other (with_at d f a t) b k (f (get_or (with_at d f a t) b d)) d (not_own n m p known side kind port below off Second)
+    ∙ get_or-set_other t a k (f (get_or t a d)) d (not_own n m p known side kind port below off First)
 
-pub counted_size : (f : ℕ → ℕ) (n m : ℕ) (p : Pair) (t : List ℕ) → length (at_ports f n m p t) ≡ length t
-counted_size f n m p t =
+pub changed_size : {X : Type 0} (d : X) (f : X → X) (n m : ℕ) (p : Pair) (t : List X) → length (at_ports d f n m p t) ≡ length t
+changed_size d f n m p t =
     let a = own n m p First in
     let b = own n m p Second in
-    length-set (with_at f a t) b (f (get_or (with_at f a t) b 0)) ∙ length-set t a (f (get_or t a 0))
+    length-set (with_at d f a t) b (f (get_or (with_at d f a t) b d)) ∙ length-set t a (f (get_or t a d))

@@ -33,12 +33,16 @@ port_number inputs outputs Second Input port = inputs + port
 port_number inputs outputs First Output port = 2 * inputs + port
 port_number inputs outputs Second Output port = 2 * inputs + outputs + port
 
--- a table of numbers, changed at one place
-abbrev pub with_at : (ℕ → ℕ) → ℕ → List ℕ → List ℕ
-with_at change place numbers = slice_set numbers place (change (slice_index_or numbers place 0))
+-- a table, changed at one place; the first value stands for what isn't there
+abbrev pub with_at : {X : Type 0} → X → (X → X) → ℕ → List X → List X
+with_at none change place table = slice_set table place (change (slice_index_or table place none))
 
 -- a table of the ports, changed at both ports of a pair
-abbrev pub at_ports : (ℕ → ℕ) → ℕ → ℕ → Pair → List ℕ → List ℕ
-at_ports change inputs outputs pair numbers =
-    with_at change (port_number inputs outputs Second pair.kind pair.to)
-    (with_at change (port_number inputs outputs First pair.kind pair.from) numbers)
+abbrev pub at_ports : {X : Type 0} → X → (X → X) → ℕ → ℕ → Pair → List X → List X
+at_ports none change inputs outputs pair table =
+    with_at none change (port_number inputs outputs Second pair.kind pair.to)
+    (with_at none change (port_number inputs outputs First pair.kind pair.from) table)
+
+-- a table of the ports, with a value at both ports of a pair
+abbrev pub put_at_ports : {X : Type 0} → X → ℕ → ℕ → Pair → List X → List X
+put_at_ports value inputs outputs pair table = at_ports value (λ old. value) inputs outputs pair table

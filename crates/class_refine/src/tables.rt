@@ -2,7 +2,7 @@
 
 ghost use Rattle.std.specs.Prelude.{◌≡◌, ◌+◌, ◌-◌, ◌*◌, ◌^◌, ◌<◌, length, slice_set, slice_index_or};
 ghost use Rattle.net_core.specs.declared.graphs.Side.TheVariants.{First, Second};
-ghost use Rattle.class_refine.specs.Numbers.{at_ports, port_number};
+ghost use Rattle.class_refine.specs.Numbers.{at_ports, port_number, put_at_ports};
 ghost use Rattle.class_refine.specs.Trails.{IsPairOf};
 
 use crate::numbers::port_number;
@@ -19,9 +19,7 @@ pub(crate) fn put_at_ports(
 )
     requires known { IsPairOf inputs outputs pair }
     requires size { length held.old ≡ 2 * inputs + 2 * outputs }
-    ensures { held.new ≡ slice_set (slice_set held.old
-        (port_number inputs outputs First pair.kind pair.from) value)
-        (port_number inputs outputs Second pair.kind pair.to) value }
+    ensures { held.new ≡ put_at_ports value inputs outputs pair held.old }
 {
     let (first, second) = port_numbers(inputs, outputs, pair);
     held[first] = value;
@@ -34,7 +32,7 @@ pub(crate) fn count_at_ports(gone: &mut [usize], inputs: u32, outputs: u32, pair
     requires size { length gone.old ≡ 2 * inputs + 2 * outputs }
     requires first { slice_index_or gone.old (port_number inputs outputs First pair.kind pair.from) 0 < 2 ^ 63 }
     requires second { slice_index_or gone.old (port_number inputs outputs Second pair.kind pair.to) 0 < 2 ^ 63 }
-    ensures { gone.new ≡ at_ports (λ count. count + 1) inputs outputs pair gone.old }
+    ensures { gone.new ≡ at_ports 0 (λ count. count + 1) inputs outputs pair gone.old }
 {
     let (first, second) = port_numbers(inputs, outputs, pair);
     count_one(gone, first);
@@ -53,7 +51,7 @@ fn count_one(gone: &mut [usize], port: usize)
 pub(crate) fn uncount_at_ports(gone: &mut [usize], inputs: u32, outputs: u32, pair: Pair)
     requires known { IsPairOf inputs outputs pair }
     requires size { length gone.old ≡ 2 * inputs + 2 * outputs }
-    ensures { gone.new ≡ at_ports (λ count. count - 1) inputs outputs pair gone.old }
+    ensures { gone.new ≡ at_ports 0 (λ count. count - 1) inputs outputs pair gone.old }
 {
     let (first, second) = port_numbers(inputs, outputs, pair);
     uncount_one(gone, first);

@@ -14,9 +14,9 @@ use Rattle.account_core.specs.Given.{Decided, fact_at, given_of}
 use Rattle.account_core.specs.Mismatches.{IsImage}
 use Rattle.account_core.specs.Ports.{AreOrdered, IsKnown}
 use Rattle.ban_book.specs.Vectors.{HasOneInput, HaveNoFacts, IsShownBy}
+use Rattle.ban_book.proofs.CarriedLemmas.{IsCarried, carried_by, one_back}
 use Rattle.ban_book.proofs.ShownLemmas.{tally_in}
 use Rattle.claim_rows.specs.Shown.{IsShownBan}
-use Rattle.claim_rows.proofs.AlikeLemmas.{IsCarried, carried_by, one_back}
 use Rattle.claim_rows.proofs.MismatchLemmas.{one_image, pair_of-one}
 use Rattle.port_sides.specs.Held.{AreHeld}
 use Rattle.port_covers.proofs.ListLemmas.{among_more}

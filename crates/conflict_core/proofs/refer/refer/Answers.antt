@@ -1,7 +1,8 @@
 -- What stands for the first ways, and for one more.
 use Rattle.std.proofs.Common.{◌+◌, [], sym, subst, take, arith}
 use Rattle.std.proofs.lemmas.List.{take_all}
-use Rattle.ban_book.proofs.ListLemmas.{zip_length, zip_taken}
+use Rattle.std.proofs.lemmas.Slice.Zip.{AllZip-long}
+use Rattle.ban_book.proofs.ListLemmas.{zip_taken}
 use Rattle.port_covers.specs.Ways.{AreClosed, IsClosed}
 use Rattle.conflict_core.specs.Resolutions.{left_out}
 use Rattle.conflict_core.proofs.GroundedLemmas.{zip_at, closed_later, gathered_later, learns_none, learns_twice, resolved_later}
@@ -15,7 +16,7 @@ loop-place-init c = (
 
 pub bounds-noted-place : goal.bounds-noted-place
 bounds-noted-place c =
-    let long = zip_length _ c.args.ways.now c.args.noted.now c.requires.gathered in
+    let long = AllZip-long _ c.args.ways.now c.args.noted.now c.requires.gathered in
     omega (arith, long, c.loop-place-test.true)
 
 pub reference-requires-clause-known : goal.reference-requires-clause-known

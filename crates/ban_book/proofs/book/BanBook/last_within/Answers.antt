@@ -10,7 +10,7 @@ use Rattle.ban_book.proofs.book.BanBook.last_within.Goals as goal
 pub loop-next-init : goal.loop-next-init
 loop-next-init c =
     let old = c.self.inside in
-    walked_none old.bans.items (last_of old.heads.empty old.heads.by_first.entries) old.before.items c.self.invariant c.args.first c.args.pairs.now c.last-next.result c.last-next.ensures
+    walked_none old.bans.items (last_of old.heads.entries) old.before.items c.self.invariant c.args.first c.args.pairs.now c.copied-next.result (search rules)
 
 pub index-requires : goal.index-requires
 index-requires c =
@@ -44,10 +44,10 @@ loop-next-preserved c =
     let number = c.in-Some.number in
     let is = chain_there old.bans.items c.args.first pairs c.loop-next.next number c.in-Some.is c.loop-next.invariant in
     let next : c.index-next.result.now ≡ get_or old.before.items number None = c.index-next.ensures ∙ get_or_default old.before.items number c.index-next.result.now None (omega (arith, is.there, c.self.invariant.size)) in
-    walked_more old.bans.items (last_of old.heads.empty old.heads.by_first.entries) old.before.items c.self.invariant c.args.first pairs number c.index.result.now c.loop-next.next c.index-next.result.now c.in-Some.is (λ within. false≢true (sym c.if-is_within.false ∙ c.is_within.ensures.1 (subst (IsWithin pairs) (sym c.index.ensures) within))) next c.loop-next.invariant
+    walked_more old.bans.items (last_of old.heads.entries) old.before.items c.self.invariant c.args.first pairs number c.index.result.now c.loop-next.next c.index-next.result.now c.in-Some.is (λ within. false≢true (sym c.if-is_within.false ∙ c.is_within.ensures.1 (subst (IsWithin pairs) (sym c.index.ensures) within))) next c.loop-next.invariant
 
 pub returns-clause-none : goal.returns-clause-none
 returns-clause-none c =
     let old = c.self.inside in
     let end : c.loop-next.next ≡ None = search (rules, c.in_default.is) in
-    subst (λ (l : List Ban). HasNoneWithin l c.args.first c.args.pairs.now) c.self.view_is (walked_all old.bans.items (last_of old.heads.empty old.heads.by_first.entries) old.before.items c.self.invariant c.args.first c.args.pairs.now c.loop-next.next end c.loop-next.invariant)
+    subst (λ (l : List Ban). HasNoneWithin l c.args.first c.args.pairs.now) c.self.view_is (walked_all old.bans.items (last_of old.heads.entries) old.before.items c.self.invariant c.args.first c.args.pairs.now c.loop-next.next end c.loop-next.invariant)

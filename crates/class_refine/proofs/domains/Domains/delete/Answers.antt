@@ -6,8 +6,8 @@ use Rattle.class_refine.specs.declared.entry.Fate.TheVariants.{Deleted}
 use Rattle.class_refine.specs.Kept.{IsKept}
 use Rattle.class_refine.specs.Numbers.{at_ports, pair_number, port_number}
 use Rattle.class_refine.specs.Trails.{Domained, IsOpen, IsPairOf}
-use Rattle.class_refine.proofs.TableLemmas.{counted_size}
 use Rattle.class_refine.proofs.KeptLemmas.{few_gone, kept_deleted}
+use Rattle.class_refine.proofs.TableLemmas.{changed_size}
 use Rattle.class_refine.proofs.domains.Domains.delete.Goals as goal
 use Rattle.circuits.proofs.Lists.{given_back}
 
@@ -40,11 +40,11 @@ invariant_of-self-2 c =
     let place = c.len-place.result in
     let counts = c.count_at_ports.new.gone in
     let more : ℕ → ℕ = λ count. count + 1 in
-    let written : counts ≡ at_ports more n m e.pair old.gone.items = c.count_at_ports.ensures ∙ ap (at_ports more n m e.pair) c.deref_mut.ensures.value in
-    let size = ap length c.count_at_ports.ensures ∙ counted_size more n m e.pair c.deref_mut.result.now in
+    let written : counts ≡ at_ports 0 more n m e.pair old.gone.items = c.count_at_ports.ensures ∙ ap (at_ports 0 more n m e.pair) c.deref_mut.ensures.value in
+    let size = ap length c.count_at_ports.ensures ∙ changed_size 0 more n m e.pair c.deref_mut.result.now in
     let back = given_back old.gone.len old.gone.items c.deref_mut.result.now counts c.deref_mut.ensures.value size (omega (arith, old.gone.ok.0)) in
     let last : place ≡ length old.entries.items = omega (arith, c.len-place.ensures, old.entries.ok.0) in
     let kept = kept_deleted n m old.entries.items e old.pairs.items old.places.items old.holders.items old.gone.items place c.self.invariant refl known free last in
     subst (λ (gs : List ℕ). IsKept n m c.push.new.self.items old.pairs.items (slice_set old.places.items c.pair_number.result (Some place)) old.holders.items gs) (sym (back ∙ written))
-    (subst (λ k. IsKept n m c.push.new.self.items old.pairs.items (slice_set old.places.items k (Some place)) old.holders.items (at_ports more n m e.pair old.gone.items)) (sym c.pair_number.ensures.value)
-    (subst (λ (es : List Entry). IsKept n m es old.pairs.items (slice_set old.places.items (pair_number n m e.pair) (Some place)) old.holders.items (at_ports more n m e.pair old.gone.items)) (sym c.in_ok-push.ensures.items) kept))
+    (subst (λ k. IsKept n m c.push.new.self.items old.pairs.items (slice_set old.places.items k (Some place)) old.holders.items (at_ports 0 more n m e.pair old.gone.items)) (sym c.pair_number.ensures.value)
+    (subst (λ (es : List Entry). IsKept n m es old.pairs.items (slice_set old.places.items (pair_number n m e.pair) (Some place)) old.holders.items (at_ports 0 more n m e.pair old.gone.items)) (sym c.in_ok-push.ensures.items) kept))

@@ -5,10 +5,10 @@ use Rattle.circuits.specs.declared.port.Pair.{Pair}
 use Rattle.class_refine.specs.declared.entry.Entry.{Entry}
 use Rattle.class_refine.specs.declared.entry.Fate.TheVariants.{Held}
 use Rattle.class_refine.specs.Kept.{IsKept}
-use Rattle.class_refine.specs.Numbers.{pair_number}
+use Rattle.class_refine.specs.Numbers.{pair_number, put_at_ports}
 use Rattle.class_refine.specs.Trails.{Domained, IsFreePort, IsOpen, IsPairOf}
-use Rattle.class_refine.proofs.TableLemmas.{both, both_size}
 use Rattle.class_refine.proofs.KeptLemmas.{kept_held}
+use Rattle.class_refine.proofs.TableLemmas.{changed_size}
 use Rattle.class_refine.proofs.domains.Domains.hold.Goals as goal
 use Rattle.circuits.proofs.Lists.{given_back}
 
@@ -24,14 +24,14 @@ invariant_of-self-2 c =
     let to = subst (λ (t : Domained). IsFreePort t.entries Second e.pair.kind e.pair.to) (sym c.self.view_is) c.requires.to in
     let place = c.len-place.result in
     let pairs = c.put_at_ports.new.held in
-    let written : pairs ≡ both n m e.pair (Some e.pair) old.holders.items = c.put_at_ports.ensures ∙ ap (both n m e.pair (Some e.pair)) c.deref_mut.ensures.value in
-    let size = ap length c.put_at_ports.ensures ∙ both_size n m e.pair (Some e.pair) c.deref_mut.result.now in
+    let written : pairs ≡ put_at_ports (Some e.pair) n m e.pair old.holders.items = c.put_at_ports.ensures ∙ ap (put_at_ports (Some e.pair) n m e.pair) c.deref_mut.ensures.value in
+    let size = ap length c.put_at_ports.ensures ∙ changed_size (Some e.pair) (λ old. (Some e.pair)) n m e.pair c.deref_mut.result.now in
     let back = given_back old.holders.len old.holders.items c.deref_mut.result.now pairs c.deref_mut.ensures.value size (omega (arith, old.holders.ok.0)) in
     let last : place ≡ length old.entries.items = omega (arith, c.len-place.ensures, c.reserve.new.self.ok.0, ap length c.in_ok-reserve.ensures.items) in
     let entries = c.push_reserved.ensures.items ∙ ap (λ (es : List Entry). es ++ e ∷ []) c.in_ok-reserve.ensures.items in
     let chosen = c.push_reserved-2.ensures.items ∙ ap (λ (ws : List Pair). ws ++ e.pair ∷ []) c.in_ok-reserve-2.ensures.items in
     let kept = kept_held n m old.entries.items e old.pairs.items old.places.items old.holders.items old.gone.items place c.self.invariant refl known free from to last in
     subst (λ (hs : List (Option Pair)). IsKept n m c.push_reserved.new.self.items c.push_reserved-2.new.self.items (slice_set old.places.items c.pair_number.result (Some place)) hs old.gone.items) (sym (back ∙ written))
-    (subst (λ k. IsKept n m c.push_reserved.new.self.items c.push_reserved-2.new.self.items (slice_set old.places.items k (Some place)) (both n m e.pair (Some e.pair) old.holders.items) old.gone.items) (sym c.pair_number.ensures.value)
-    (subst (λ (ws : List Pair). IsKept n m c.push_reserved.new.self.items ws (slice_set old.places.items (pair_number n m e.pair) (Some place)) (both n m e.pair (Some e.pair) old.holders.items) old.gone.items) (sym chosen)
-    (subst (λ (es : List Entry). IsKept n m es (old.pairs.items ++ e.pair ∷ []) (slice_set old.places.items (pair_number n m e.pair) (Some place)) (both n m e.pair (Some e.pair) old.holders.items) old.gone.items) (sym entries) kept)))
+    (subst (λ k. IsKept n m c.push_reserved.new.self.items c.push_reserved-2.new.self.items (slice_set old.places.items k (Some place)) (put_at_ports (Some e.pair) n m e.pair old.holders.items) old.gone.items) (sym c.pair_number.ensures.value)
+    (subst (λ (ws : List Pair). IsKept n m c.push_reserved.new.self.items ws (slice_set old.places.items (pair_number n m e.pair) (Some place)) (put_at_ports (Some e.pair) n m e.pair old.holders.items) old.gone.items) (sym chosen)
+    (subst (λ (es : List Entry). IsKept n m es (old.pairs.items ++ e.pair ∷ []) (slice_set old.places.items (pair_number n m e.pair) (Some place)) (put_at_ports (Some e.pair) n m e.pair old.holders.items) old.gone.items) (sym entries) kept)))
