@@ -89,9 +89,7 @@ impl Profiles {
         inputs: Items<Lanes>,
         simulator: &mut FlipSim<'_>,
     ) -> Result<(), AllocError> {
-        for (input, lanes) in inputs.iter().enumerate() {
-            simulator.set_input(port_at(input), *lanes);
-        }
+        simulator.set_inputs(&inputs);
         simulator.run();
         let hashes = hashes_of(alloc, state, side, simulator)?;
         add_places(&hashes, self.blocks.len(), &mut self.places)?;

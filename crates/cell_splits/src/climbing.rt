@@ -3,7 +3,6 @@
 use crate::lane_counts::LaneCounts;
 use flip_sim::{Draws, FlipSim, Lanes, bit_of, with_bit};
 use items::Items;
-use port_cells::port_at;
 use std::alloc::{AllocError, Global};
 
 /// The most generations. With half as many adders of 128 bits aren't guessed, and twice as many gain nothing.
@@ -46,12 +45,23 @@ pub fn climbed(
     simulator: &mut FlipSim<'_>,
     draws: &mut Draws,
 ) -> Result<Items<Lanes>, AllocError> {
-    let mut vectors = Items::new(alloc);
-    for input in 0..simulator.graph().inputs() {
-        vectors.push(start_of(input as usize, starts, draws.lanes()))?;
-    }
+    let mut vectors = first_generation(alloc, simulator.graph().inputs(), starts, draws)?;
     for _ in 0..generations(simulator) {
         vectors = next_generation(alloc, &vectors, simulator, draws)?;
+    }
+    Ok(vectors)
+}
+
+// The vectors from which the climb starts.
+fn first_generation(
+    alloc: Global,
+    inputs: u32,
+    starts: &[Items<Lanes>],
+    draws: &mut Draws,
+) -> Result<Items<Lanes>, AllocError> {
+    let mut vectors = Items::new(alloc);
+    for input in 0..inputs {
+        vectors.push(start_of(input as usize, starts, draws.lanes()))?;
     }
     Ok(vectors)
 }
@@ -138,9 +148,7 @@ fn by_changes(
     vectors: &[Lanes],
     simulator: &mut FlipSim<'_>,
 ) -> Result<Vec<usize>, AllocError> {
-    for (input, lanes) in vectors.iter().enumerate() {
-        simulator.set_input(port_at(input), *lanes);
-    }
+    simulator.set_inputs(vectors);
     simulator.run();
     let mut changes = LaneCounts::new(alloc)?;
     for input in 0..simulator.graph().inputs() {

@@ -61,10 +61,6 @@ impl LaneCounts {
             ranked.push((Reverse(self.count(lane)), lane))?;
         }
         ranked.sort_unstable();
-        let mut lanes = Vec::with_capacity(alloc, 256)?;
-        for (_, lane) in ranked.iter() {
-            lanes.push(*lane)?;
-        }
-        Ok(lanes)
+        ranked.iter().map(|entry| entry.1).collect(alloc)
     }
 }

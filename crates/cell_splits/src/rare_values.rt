@@ -142,9 +142,7 @@ fn walk(
             return;
         }
         put_path(gate_signal(gate, simulator), wrong, paths);
-        for place in 0..gate.saturating_add(1) {
-            descend(gate.saturating_sub(place), simulator, paths, draws);
-        }
+        lead_on(gate, simulator, paths, draws);
         invert_ends(simulator, paths);
         simulator.run();
     }
@@ -163,6 +161,13 @@ fn steps(simulator: &FlipSim<'_>) -> u64 {
 
 fn gate_signal(gate: usize, simulator: &FlipSim<'_>) -> usize {
     gate.saturating_add(simulator.graph().inputs() as usize + 1)
+}
+
+// Leads paths that begin at a gate on to inputs.
+fn lead_on(gate: usize, simulator: &FlipSim<'_>, paths: &mut [Lanes], draws: &mut Draws) {
+    for place in 0..gate.saturating_add(1) {
+        descend(gate.saturating_sub(place), simulator, paths, draws);
+    }
 }
 
 // The vectors on which the path goes through a gate go on to one of its operands: to the one that is 0 where the other one is 1,

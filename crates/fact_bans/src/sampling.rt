@@ -103,15 +103,16 @@ fn unseen_row(alloc: Global, inputs: u32) -> Result<Vec<Flips>, AllocError> {
 
 fn mark_reached(simulator: &FlipSim<'_>, rows: &mut [Vec<Flips>]) {
     for input in 0..simulator.graph().inputs() {
-        for output in simulator.reached(input).iter() {
-            mark_reach(rows, *output, input);
-        }
+        mark_outputs(rows, simulator.reached(input), input);
     }
 }
 
-fn mark_reach(rows: &mut [Vec<Flips>], output: u32, input: u32) {
-    if (output as usize) < rows.len() {
-        mark_input(&mut rows[output as usize], input);
+// An input reaches these outputs.
+fn mark_outputs(rows: &mut [Vec<Flips>], outputs: &[u32], input: u32) {
+    for output in outputs.iter() {
+        if (*output as usize) < rows.len() {
+            mark_input(&mut rows[*output as usize], input);
+        }
     }
 }
 

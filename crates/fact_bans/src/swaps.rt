@@ -209,10 +209,7 @@ impl Swaps {
     // The inputs that reach each output.
     fn unseen(alloc: Global, simulator: &FlipSim<'_>) -> Result<Swaps, AllocError> {
         let graph = simulator.graph();
-        let mut rows = Vec::new(alloc);
-        for _ in 0..graph.outputs().len() {
-            rows.push(Row::new(alloc, graph.inputs())?)?;
-        }
+        let mut rows = unseen_rows(alloc, graph)?;
         for input in 0..graph.inputs() {
             add_reached(alloc, &mut rows, simulator.reached(input), input)?;
         }
@@ -267,6 +264,15 @@ impl Swaps {
     }
 }
 
+// A row for each output, which no input reaches yet.
+fn unseen_rows(alloc: Global, graph: &Graph) -> Result<Vec<Row>, AllocError> {
+    let mut rows = Vec::new(alloc);
+    for _ in 0..graph.outputs().len() {
+        rows.push(Row::new(alloc, graph.inputs())?)?;
+    }
+    Ok(rows)
+}
+
 // An input reaches these outputs.
 fn add_reached(
     alloc: Global,
@@ -314,11 +320,16 @@ fn pairs_of(alloc: Global, simulator: &FlipSim<'_>) -> Result<u64, AllocError> {
     for input in 0..graph.inputs() {
         count_reached(&mut counts, simulator.reached(input));
     }
+    Ok(pairs_among(&counts))
+}
+
+// How many pairs there are of so many inputs of each output.
+fn pairs_among(counts: &[u64]) -> u64 {
     let mut pairs = 0u64;
     for count in counts.iter() {
         pairs = pairs.saturating_add(count.saturating_mul(*count) / 2);
     }
-    Ok(pairs)
+    pairs
 }
 
 fn count_reached(counts: &mut [u64], outputs: &[u32]) {

@@ -107,6 +107,13 @@ impl<'a> FlipSim<'a> {
         }
     }
 
+    /// Gives the inputs their bits, a column for each, from the first on.
+    pub fn set_inputs(&mut self, columns: &[Lanes]) {
+        for (input, lanes) in (0..self.graph.inputs()).zip(columns.iter()) {
+            self.set_input(input, *lanes);
+        }
+    }
+
     /// What an input has.
     pub fn input(&self, input: u32) -> Lanes {
         if input < self.graph.inputs() {

@@ -41,6 +41,18 @@ pub fn port_at(place: usize) -> u32 {
     (place % (1 << 32)) as u32
 }
 
+/// Lists without elements.
+pub(crate) fn empty_lists<T: Drop>(
+    alloc: Global,
+    count: usize,
+) -> Result<Vec<Items<T>>, AllocError> {
+    let mut lists = Vec::with_capacity(alloc, count)?;
+    for _ in 0..count {
+        lists.push(Items::new(alloc))?;
+    }
+    Ok(lists)
+}
+
 // A literal, by its cell and by a key that those have which it may correspond to.
 #[derive(Clone, Copy, Debug, Drop, PartialEq, Eq, PartialOrd, Ord)]
 struct Ranked {
@@ -126,10 +138,7 @@ impl Cells {
     ///
     /// Only when out of memory.
     pub fn members(&self, alloc: Global, side: Side) -> Result<Items<Items<usize>>, AllocError> {
-        let mut members = Vec::with_capacity(alloc, self.count)?;
-        for _ in 0..self.count {
-            members.push(Items::new(alloc))?;
-        }
+        let mut members = empty_lists(alloc, self.count)?;
         for (literal, cell) in self.of(side).iter().enumerate() {
             add_member(literal, *cell, members.as_mut_slice())?;
         }

@@ -1,6 +1,6 @@
 //! How outputs hang on inputs, counted on vectors.
 
-use crate::cells::port_at;
+use crate::cells::{empty_lists, port_at};
 use flip_sim::{FlipSim, Lanes, ones_in};
 use items::Items;
 use std::alloc::{AllocError, Global};
@@ -234,10 +234,7 @@ fn turned(
     of_inputs: &[Items<Influence>],
     outputs: usize,
 ) -> Result<Items<Items<Influence>>, AllocError> {
-    let mut of_outputs = Vec::with_capacity(alloc, outputs)?;
-    for _ in 0..outputs {
-        of_outputs.push(Items::new(alloc))?;
-    }
+    let mut of_outputs = empty_lists(alloc, outputs)?;
     for (input, influences) in of_inputs.iter().enumerate() {
         turn(port_at(input), influences, of_outputs.as_mut_slice())?;
     }

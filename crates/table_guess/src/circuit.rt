@@ -158,17 +158,11 @@ fn signs_on(
     tally: &mut Tally,
 ) -> Result<Counts, AllocError> {
     for block in blocks.iter() {
-        put_columns(block, simulator);
+        simulator.set_inputs(block);
         simulator.run();
         tally.add(simulator);
     }
     tally.signs(alloc)
-}
-
-fn put_columns(block: &[Lanes], simulator: &mut FlipSim<'_>) {
-    for (input, lanes) in block.iter().enumerate() {
-        simulator.set_input(port_at(input), *lanes);
-    }
 }
 
 // Gives the inputs a block of all vectors, or a drawn one.

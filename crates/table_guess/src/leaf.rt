@@ -1,10 +1,11 @@
 //! Whole matchings of inputs, tried on vectors.
 
-use crate::circuit::Circuit;
+use crate::circuit::{Circuit, Sample};
 use crate::kept::Kept;
 use cell_splits::{Patterns, State, add_hashes};
-use flip_sim::{Draws, Lanes, all_lanes, blocks_of_all};
+use flip_sim::{Draws, all_lanes, blocks_of_all};
 use net_core::Side;
+use port_cells::Cells;
 use std::alloc::{AllocError, Global};
 
 /// How many blocks of 256 drawn vectors a matching is tried on at first: most wrong ones fail on them, for a hundredth of what
@@ -29,15 +30,19 @@ pub(crate) fn with_paired_outputs(
     let Some(state) = on_kept(alloc, state, first, second, kept)? else {
         return Ok(None);
     };
-    let Some(state) = on_drawn(alloc, state, first, second, FIRST_BLOCKS, draws)? else {
+    let few = Sample {
+        blocks: FIRST_BLOCKS,
+        is_all: false,
+    };
+    let Some(state) = on_sample(alloc, state, first, second, few, draws)? else {
         return Ok(None);
     };
     let all = blocks_of_all(first.graph().inputs());
-    if all <= MORE_BLOCKS {
-        on_all(alloc, state, first, second, all)
-    } else {
-        on_drawn(alloc, state, first, second, MORE_BLOCKS, draws)
-    }
+    let many = Sample {
+        blocks: all.min(MORE_BLOCKS),
+        is_all: all <= MORE_BLOCKS,
+    };
+    on_sample(alloc, state, first, second, many, draws)
 }
 
 // Pairs outputs by the vectors on which matchings failed.
@@ -54,46 +59,39 @@ fn on_kept(
     hashes.split(alloc, state)
 }
 
-// Pairs outputs by drawn vectors.
-fn on_drawn(
+// Pairs outputs by a sample of vectors.
+fn on_sample(
     alloc: Global,
     state: State,
     first: &mut Circuit<'_>,
     second: &mut Circuit<'_>,
-    blocks: u64,
+    sample: Sample,
     draws: &mut Draws,
 ) -> Result<Option<State>, AllocError> {
     let mut hashes = Hashes::new(alloc, &state)?;
-    for _ in 0..blocks {
-        let patterns = Patterns::draw(alloc, &state.inputs, draws)?;
+    for block in 0..sample.blocks {
+        let patterns = if sample.is_all {
+            all_patterns(alloc, &state.inputs, first.graph().inputs(), block)?
+        } else {
+            Patterns::draw(alloc, &state.inputs, draws)?
+        };
         hashes.add(&state, &patterns, first, second);
     }
     hashes.split(alloc, state)
 }
 
-// Pairs outputs by all vectors.
-fn on_all(
+// What cells of inputs have in a block of all vectors.
+fn all_patterns(
     alloc: Global,
-    state: State,
-    first: &mut Circuit<'_>,
-    second: &mut Circuit<'_>,
-    blocks: u64,
-) -> Result<Option<State>, AllocError> {
-    let mut hashes = Hashes::new(alloc, &state)?;
-    for block in 0..blocks {
-        let lanes = lanes_of_block(alloc, first.graph().inputs(), block)?;
-        let patterns = Patterns::of_inputs(alloc, &state.inputs, &lanes)?;
-        hashes.add(&state, &patterns, first, second);
-    }
-    hashes.split(alloc, state)
-}
-
-fn lanes_of_block(alloc: Global, inputs: u32, block: u64) -> Result<Vec<Lanes>, AllocError> {
+    cells: &Cells,
+    inputs: u32,
+    block: u64,
+) -> Result<Patterns, AllocError> {
     let mut lanes = Vec::with_capacity(alloc, inputs as usize)?;
     for input in 0..inputs {
         lanes.push(all_lanes(input, block))?;
     }
-    Ok(lanes)
+    Patterns::of_inputs(alloc, cells, &lanes)
 }
 
 // Hashes of the bits of the outputs' literals.
