@@ -28,7 +28,7 @@ use Rattle.learn_solver.specs.Solvers.{IsExtended, Solving, wanted}
 use Rattle.learn_solver.specs.Solvers.{IsStopped as IsSolverStopped}
 use Rattle.dense_solver.specs.Renamings.{AreShort}
 use Rattle.dense_solver.specs.Solved.{start_of, with_lines_of}
-use Rattle.ask_core.specs.Answers.{IsAskedIn, IsAskedWith, IsStopped, IsStoppedAfter, IsStoppedWith}
+use Rattle.ask_core.specs.Answers.{IsAskedIn, IsAskedWith, IsStoppedAfter}
 use Rattle.circuits.proofs.Lists.{All-front, All-back}
 
 pub vector_more : (n : ℕ) (values : List Bool) → vector_in (n + 1) values ≡ vector_in n values ++ bit values (1 + n) ∷ []
@@ -61,7 +61,7 @@ meets_cones {O} graphs query lemmas s new first after values of extended meets =
     all-cones (λ clause. is_met values clause ≡ true) graphs query lemmas s of (subst (λ (cs : List (List SatLit)). Meets values cs) same meets)
 
 -- a query was asked by lemmas
-pub asked_with : (graphs : Graphs) (query : Query) (lemmas : List LogLine) (s new : Solving) (old first after : Ledgered) → IsOfCones graphs query lemmas s → 0 < length first.asked → first ≡ record old { asked = opened query lemmas old.asked } → IsExtended s new (charging_of first) (charging_of after) → IsAskedWith graphs query lemmas old after
+pub asked_with : (graphs : Graphs) (query : Query) (lemmas : List LogLine) (s new : Solving) (old first after : Ledgered) → IsOfCones graphs query lemmas s → 0 < length first.asked → first ≡ record old { asked = opened query lemmas old.asked } → IsExtended s new (charging_of first) (charging_of after) → IsAskedWith lemmas graphs query old after
 asked_with graphs query lemmas s new old first after of there opened_is extended = record {
   lines = new.lines;
   begin = ap (λ (ls : List LogLine). take (length ls) new.lines) (sym of.lines) ∙ (extended.kept ∙ of.lines);
@@ -89,7 +89,7 @@ stopped_weaker old new (Spent learned) weaker stopped = record {
   spent = stopped.spent;
 }
 
-pub stopped_with : (graphs : Graphs) (query : Query) (lemmas : List LogLine) (s new : Solving) (old first after : Ledgered) (stop : Stop) → IsOfCones graphs query lemmas s → 0 < length first.asked → first ≡ record old { asked = opened query lemmas old.asked } → IsSolverStopped s new (charging_of first) (charging_of after) stop → IsStoppedWith graphs query lemmas old after stop
+pub stopped_with : (graphs : Graphs) (query : Query) (lemmas : List LogLine) (s new : Solving) (old first after : Ledgered) (stop : Stop) → IsOfCones graphs query lemmas s → 0 < length first.asked → first ≡ record old { asked = opened query lemmas old.asked } → IsSolverStopped s new (charging_of first) (charging_of after) stop → IsStoppedAfter (IsAskedWith lemmas graphs query old after) old after stop
 stopped_with graphs query lemmas s new old first after Memory of there opened_is stopped = tt
 stopped_with graphs query lemmas s new old first after (Spent learned) of there opened_is stopped = record {
   asked = asked_with graphs query lemmas s new old first after of there opened_is stopped.extended;
@@ -166,7 +166,7 @@ module _ (graphs : Graphs) (query : Query) (lemmas : List LogLine) (cones : Cone
     with_them = asked_with graphs query lemmas start done old first after of there opened_is extended;
   }
 
-  pub cones_stopped : (stop : Stop) → 0 < length first.asked → first ≡ record old { asked = opened query lemmas old.asked } → IsSolverStopped start done (charging_of first) (charging_of after) stop → IsStopped graphs query old after stop
+  pub cones_stopped : (stop : Stop) → 0 < length first.asked → first ≡ record old { asked = opened query lemmas old.asked } → IsSolverStopped start done (charging_of first) (charging_of after) stop → IsStoppedAfter (IsAskedIn graphs query old after) old after stop
   cones_stopped stop there opened_is stopped =
       stopped_weaker old after stop (λ is. record { lemmas = lemmas; are = own; with_them = is }) (stopped_with graphs query lemmas start done old first after stop of there opened_is stopped)
 

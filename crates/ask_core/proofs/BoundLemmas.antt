@@ -1,5 +1,6 @@
--- How many lines can be learned for a query.
-use Rattle.std.proofs.Common.{◌≡◌, ◌+◌, ◌-◌, List, [], ◌∷◌, length, take, slice_index_or, slice_set, ◌∙◌, ap, arith}
+-- How many lines can be learned for a query, and what asking it comes to.
+use Rattle.std.proofs.Common.{◌≡◌, ◌+◌, ◌-◌, false, Result, Ok, Err, List, [], ◌∷◌, length, take, slice_index_or, slice_set, ◌∙◌, ap, sym, subst, arith}
+use Rattle.std.specs.Result.{IsErrAnd}
 use Rattle.std.proofs.lemmas.List.{get_or-set_same, get_or_at, length-append, length-set}
 use Rattle.cnf_core.specs.declared.log.LogLine.{LogLine}
 use Rattle.cnf_core.specs.declared.stop.Stop.{Stop}
@@ -12,7 +13,9 @@ use Rattle.claim_core.specs.declared.query.Query.{Query}
 use Rattle.query_core.specs.declared.ledger.Asked.{Asked}
 use Rattle.claim_core.specs.Formulas.{formula_of}
 use Rattle.query_core.specs.Ledgers.{Ledgered, charged_front, charged_in, entry_of, last_asked, nothing_asked, opened, with_lines}
-use Rattle.ask_core.specs.Answers.{IsAskedIn, IsAskedWith, IsBounded, IsBoundedStop, IsStoppedAfter}
+use Rattle.ask_core.specs.declared.question.Answer.{Answer}
+use Rattle.ask_core.specs.Answers.{Asks, IsAnswer, IsAskedIn, IsAskedWith, IsBounded, IsBoundedStop, IsStoppedAfter}
+use Rattle.ask_core.proofs.AskLemmas.{stopped_weaker}
 
 -- the last entry of a query that was opened, with lines in place of its lemmas
 last_with : (query : Query) (lemmas lines : List LogLine) (asked : List Asked) → last_asked (with_lines lines (opened query lemmas asked)) ≡ record (entry_of query lemmas) { lines = lines }
@@ -25,7 +28,7 @@ last_with query lemmas lines asked =
     let there = get_or-set_same xs (length xs - 1) e nothing_asked (omega (arith, size)) in
     ap (λ k. slice_index_or (slice_set xs (length xs - 1) e) (k - 1) nothing_asked) (length-set xs (length xs - 1) e) ∙ (there ∙ ap (λ (a : Asked). record a { lines = lines }) last)
 
-pub bounded_with : (graphs : Graphs) (query : Query) (lemmas : List LogLine) (old new : Ledgered) → IsAskedWith graphs query lemmas old new → IsBounded graphs query new
+pub bounded_with : (graphs : Graphs) (query : Query) (lemmas : List LogLine) (old new : Ledgered) → IsAskedWith lemmas graphs query old new → IsBounded graphs query new
 bounded_with graphs query lemmas old new is =
     let f = formula_of graphs query in
     let first = length lemmas in
@@ -43,3 +46,46 @@ bounded_in graphs query old new is = bounded_with graphs query is.lemmas old new
 pub bounded_stop : {P : Type 0} (graphs : Graphs) (query : Query) (old new : Ledgered) (stop : Stop) → (P → IsBounded graphs query new) → IsStoppedAfter P old new stop → IsBoundedStop graphs query new stop
 bounded_stop graphs query old new Memory bounded stopped = tt
 bounded_stop graphs query old new (Spent learned) bounded stopped = bounded stopped.asked
+
+module _ {Asked : Graphs → Query → Ledgered → Ledgered → Type 0} (graphs : Graphs) (query : Query) (old new : Ledgered) where
+  pub asks_ok : (answer : Answer) → (Asked graphs query old new → IsBounded graphs query new) → IsAnswer graphs query answer → Asked graphs query old new → new.spent ≡ false → Asks Asked graphs query old new (Ok answer)
+  asks_ok answer bounded right asked not_spent = record {
+    answer = right;
+    asked = asked;
+    not_spent = not_spent;
+    stop = tt;
+    bounded = bounded asked;
+    bounded_stop = tt;
+  }
+
+  pub asks_err : (r : Result Answer Stop) (stop : Stop) → (Asked graphs query old new → IsBounded graphs query new) → IsErrAnd r (λ e. e ≡ stop) → IsStoppedAfter (Asked graphs query old new) old new stop → Asks Asked graphs query old new r
+  asks_err (Ok answer) stop bounded is stopped = absurd is
+  asks_err (Err other) stop bounded is stopped =
+      let here = subst (IsStoppedAfter (Asked graphs query old new) old new) (sym is) stopped in
+      record {
+        answer = tt;
+        asked = tt;
+        not_spent = tt;
+        stop = here;
+        bounded = tt;
+        bounded_stop = bounded_stop graphs query old new other bounded here;
+      }
+
+  -- the same where less is said of what was asked
+  pub asks_weaker : {Less : Graphs → Query → Ledgered → Ledgered → Type 0} (r : Result Answer Stop) → (Asked graphs query old new → Less graphs query old new) → Asks Asked graphs query old new r → Asks Less graphs query old new r
+  asks_weaker (Ok answer) weaker is = record {
+    answer = is.answer;
+    asked = weaker is.asked;
+    not_spent = is.not_spent;
+    stop = tt;
+    bounded = is.bounded;
+    bounded_stop = tt;
+  }
+  asks_weaker (Err stop) weaker is = record {
+    answer = tt;
+    asked = tt;
+    not_spent = tt;
+    stop = stopped_weaker old new stop weaker is.stop;
+    bounded = tt;
+    bounded_stop = is.bounded_stop;
+  }

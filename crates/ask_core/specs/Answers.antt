@@ -1,5 +1,5 @@
 -- What an answer to a query says, and what the ledger says of it.
-use Rattle.std.specs.Prelude.{◌≡◌, ℕ, ◌+◌, ◌^◌, ◌<◌, ◌≤◌, Bool, true, false, List, length, take, All, None, slice_index_or}
+use Rattle.std.specs.Prelude.{◌≡◌, ℕ, ◌+◌, ◌^◌, ◌<◌, ◌≤◌, Bool, true, false, List, length, take, All, None, Result, IfOk, IfErr, slice_index_or}
 use Rattle.cnf_core.specs.declared.log.LogLine.{LogLine}
 use Rattle.cnf_core.specs.declared.stop.Stop.{Stop}
 use Rattle.cnf_core.specs.declared.stop.Stop.TheVariants.{Spent, Memory}
@@ -43,7 +43,7 @@ pub record IsLearnedLine (graphs : Graphs) (query : Query) (earlier : List LogLi
 
 -- A query was asked by these lemmas: it stands last in the ledger, with them and then with lines that were learned for it. The
 -- entries before stay.
-pub record IsAskedWith (graphs : Graphs) (query : Query) (lemmas : List LogLine) (old new : Ledgered) : Type 0 where
+pub record IsAskedWith (lemmas : List LogLine) (graphs : Graphs) (query : Query) (old new : Ledgered) : Type 0 where
   pub lines : List LogLine
   pub begin : take (length lemmas) lines ≡ lemmas
   pub derived : AreDerived (formula_of graphs query) lines
@@ -58,7 +58,7 @@ pub record IsAskedWith (graphs : Graphs) (query : Query) (lemmas : List LogLine)
 pub record IsAskedIn (graphs : Graphs) (query : Query) (old new : Ledgered) : Type 0 where
   pub lemmas : List LogLine
   pub are : AreLemmas (formula_of graphs query) lemmas
-  pub with_them : IsAskedWith graphs query lemmas old new
+  pub with_them : IsAskedWith lemmas graphs query old new
 
 -- The budget is spent, once this was asked, and the query's last line is the refused one.
 pub record IsSpentAfter (P : Type 0) (old new : Ledgered) (learned : ℕ) : Type 0 where
@@ -73,12 +73,6 @@ abbrev pub IsStoppedAfter : Type 0 → Ledgered → Ledgered → Stop → Type 0
 IsStoppedAfter P old new (Spent learned) = IsSpentAfter P old new learned
 IsStoppedAfter P old new Memory = Unit {0}
 
-abbrev pub IsStoppedWith : Graphs → Query → List LogLine → Ledgered → Ledgered → Stop → Type 0
-IsStoppedWith graphs query lemmas old new = IsStoppedAfter (IsAskedWith graphs query lemmas old new) old new
-
-abbrev pub IsStopped : Graphs → Query → Ledgered → Ledgered → Stop → Type 0
-IsStopped graphs query old new = IsStoppedAfter (IsAskedIn graphs query old new) old new
-
 -- at most 3^n lines were learned for the last entry, a refused one counted, over the n variables of a query's formula: as
 -- many as there are clauses in which each of them stands plain, stands negated or doesn't stand
 abbrev pub IsBounded : Graphs → Query → Ledgered → Type 0
@@ -88,3 +82,12 @@ IsBounded graphs query ledger = charged_in (last_asked ledger.asked) ≤ 3 ^ (fo
 abbrev pub IsBoundedStop : Graphs → Query → Ledgered → Stop → Type 0
 IsBoundedStop graphs query ledger (Spent learned) = IsBounded graphs query ledger
 IsBoundedStop graphs query ledger Memory = Unit {0}
+
+-- What asking a query comes to: an answer, in a ledger that isn't spent, or none; and Asked says what was asked.
+pub record Asks (Asked : Graphs → Query → Ledgered → Ledgered → Type 0) (graphs : Graphs) (query : Query) (old new : Ledgered) (result : Result Answer Stop) : Type 0 where
+  pub answer : IfOk result (IsAnswer graphs query)
+  pub asked : IfOk result (λ _. Asked graphs query old new)
+  pub not_spent : IfOk result (λ _. new.spent ≡ false)
+  pub stop : IfErr result (IsStoppedAfter (Asked graphs query old new) old new)
+  pub bounded : IfOk result (λ _. IsBounded graphs query new)
+  pub bounded_stop : IfErr result (IsBoundedStop graphs query new)

@@ -1,11 +1,11 @@
 //! One question, asked with lemmas of any length.
 
-ghost use Rattle.std.specs.Prelude.{◌≡◌, false, IfOk, IfErr};
+ghost use Rattle.std.specs.Prelude.{◌≡◌, false};
 ghost use Rattle.std.specs.List.{list_any};
 ghost use Rattle.cnf_core.specs.Derivations.{AreDerived, clauses_of, is_empty};
 ghost use Rattle.claim_core.specs.Formulas.{formula_of};
 ghost use Rattle.claim_core.specs.Queries.{IsQuery};
-ghost use Rattle.ask_core.specs.Answers.{IsAnswer, IsAskedWith, IsBounded, IsBoundedStop, IsStoppedWith};
+ghost use Rattle.ask_core.specs.Answers.{Asks, IsAskedWith};
 
 use crate::question::Answer;
 use crate::vector::vector_of;
@@ -40,12 +40,7 @@ pub fn ask_guided<G: QuestionGuide>(
     requires derived { AreDerived (formula_of graphs.now query.now) lemmas.now }
     requires unclosed { list_any is_empty (clauses_of lemmas.now) ≡ false }
     requires not_spent { ledger.old.spent ≡ false }
-    ensures answer { IfOk result (IsAnswer graphs.now query.now) }
-    ensures asked { IfOk result (λ _. IsAskedWith graphs.now query.now lemmas.now ledger.old ledger.new) }
-    ensures not_spent { IfOk result (λ _. ledger.new.spent ≡ false) }
-    ensures stop { IfErr result (IsStoppedWith graphs.now query.now lemmas.now ledger.old ledger.new) }
-    ensures bounded { IfOk result (λ _. IsBounded graphs.now query.now ledger.new) }
-    ensures bounded_stop { IfErr result (IsBoundedStop graphs.now query.now ledger.new) }
+    ensures { Asks (IsAskedWith lemmas.now) graphs.now query.now ledger.old ledger.new result }
 {
     ledger.open(alloc, query, lemmas)?;
     let base = QueryBase::new(alloc, graphs, query)?;

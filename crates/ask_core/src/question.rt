@@ -1,11 +1,11 @@
 //! One question, asked.
 
-ghost use Rattle.std.specs.Prelude.{◌≡◌, false, IfOk, IfErr};
+ghost use Rattle.std.specs.Prelude.{◌≡◌, false, IfOk};
 ghost use Rattle.claim_core.specs.Formulas.{formula_of};
 ghost use Rattle.claim_core.specs.Queries.{IsQuery};
 ghost use Rattle.joint_hash.specs.Merging.{AreLemmas};
 ghost use Rattle.joint_hash.specs.Trees.{AreJoined};
-ghost use Rattle.ask_core.specs.Answers.{IsAnswer, IsAskedIn, IsBounded, IsBoundedStop, IsPaidFor, IsStopped, JoinsTrees};
+ghost use Rattle.ask_core.specs.Answers.{Asks, IsAskedIn, IsPaidFor, JoinsTrees};
 
 use crate::vector::vector_of;
 use cnf_core::{Log, LogLine, Stop};
@@ -40,14 +40,9 @@ pub fn ask(
 ) -> Result<Answer, Stop>
     requires fits { IsQuery graphs.now query.now }
     requires not_spent { ledger.old.spent ≡ false }
-    ensures answer { IfOk result (IsAnswer graphs.now query.now) }
+    ensures asks { Asks IsAskedIn graphs.now query.now ledger.old ledger.new result }
     ensures joined { IfOk result (JoinsTrees graphs.now query.now) }
-    ensures asked { IfOk result (λ _. IsAskedIn graphs.now query.now ledger.old ledger.new) }
     ensures paid_for { IfOk result (IsPaidFor ledger.new) }
-    ensures not_spent { IfOk result (λ _. ledger.new.spent ≡ false) }
-    ensures stop { IfErr result (IsStopped graphs.now query.now ledger.old ledger.new) }
-    ensures bounded { IfOk result (λ _. IsBounded graphs.now query.now ledger.new) }
-    ensures bounded_stop { IfErr result (IsBoundedStop graphs.now query.now ledger.new) }
 {
     ask_watched(alloc, graphs, query, ledger, &Silent)
 }
@@ -62,14 +57,9 @@ pub fn ask_watched<W: Watch>(
 ) -> Result<Answer, Stop>
     requires fits { IsQuery graphs.now query.now }
     requires not_spent { ledger.old.spent ≡ false }
-    ensures answer { IfOk result (IsAnswer graphs.now query.now) }
+    ensures asks { Asks IsAskedIn graphs.now query.now ledger.old ledger.new result }
     ensures joined { IfOk result (JoinsTrees graphs.now query.now) }
-    ensures asked { IfOk result (λ _. IsAskedIn graphs.now query.now ledger.old ledger.new) }
     ensures paid_for { IfOk result (IsPaidFor ledger.new) }
-    ensures not_spent { IfOk result (λ _. ledger.new.spent ≡ false) }
-    ensures stop { IfErr result (IsStopped graphs.now query.now ledger.old ledger.new) }
-    ensures bounded { IfOk result (λ _. IsBounded graphs.now query.now ledger.new) }
-    ensures bounded_stop { IfErr result (IsBoundedStop graphs.now query.now ledger.new) }
 {
     let cones = ConeClauses::new(alloc, graphs, query)?;
     let lemmas = merge(alloc, &cones)?;
@@ -92,12 +82,9 @@ fn ask_cones<W: Watch>(
     requires lemmas { AreLemmas (formula_of cones.now.graphs cones.now.query) lemmas.now }
     requires joined { AreJoined cones.now.graphs cones.now.query lemmas.now }
     requires not_spent { ledger.old.spent ≡ false }
-    ensures answer { IfOk result (IsAnswer graphs.now query.now) }
+    ensures asks { Asks IsAskedIn graphs.now query.now ledger.old ledger.new result }
     ensures joined { IfOk result (JoinsTrees graphs.now query.now) }
-    ensures asked { IfOk result (λ _. IsAskedIn graphs.now query.now ledger.old ledger.new) }
     ensures paid_for { IfOk result (IsPaidFor ledger.new) }
-    ensures not_spent { IfOk result (λ _. ledger.new.spent ≡ false) }
-    ensures stop { IfErr result (IsStopped graphs.now query.now ledger.old ledger.new) }
 {
     let _ids = cones.ids();
     ledger.open(alloc, query, lemmas)?;

@@ -25,7 +25,9 @@ const STEPS_EACH: u64 = 2;
 
 const FIRST_STEPS: u64 = 40;
 
-/// How many words of gates a walk may compute, about a thirtieth of a second's.
+/// How many words of gates a walk may compute, about a thirtieth of a second's: all walks then take no more than counting all
+/// vectors may. One of 3,054 gates and 256 inputs (`drawn256`) may have all its steps; half and twice change neither `equal128`
+/// nor `adder128`.
 const MOST_WORDS: u64 = 1 << 24;
 
 /// Blocks of 256 vectors, a column for each input, on most of which a gate has a value that it has on hardly any of some thousand

@@ -6,7 +6,8 @@ use net_core::Graph;
 use port_cells::{Counts, Influence, Tally};
 use std::alloc::{AllocError, Global};
 
-/// How many words of gates may be computed of a circuit: about a tenth of a second.
+/// How many words of gates may be computed of a circuit: about a tenth of a second. On half and on twice as many five near misses
+/// are refused by as many bans of each kind.
 const MOST_WORDS: u64 = 1 << 25;
 
 /// The most blocks of 256 vectors. On 16,384 vectors an input that matters on one of a thousand is nearly always seen.

@@ -7,7 +7,7 @@ use query_core::Shape;
 use std::alloc::{AllocError, Global};
 
 /// How many words of gates may be computed of a circuit: about half a second. Nothing is seen of a circuit for which that isn't
-/// enough for one block of 256 vectors.
+/// enough for one block of 256 vectors. On half and on twice as many five near misses are refused by as many bans.
 const MOST_WORDS: u64 = 1 << 28;
 
 /// The most blocks. Claims of two inputs break more often than those of one.

@@ -1,6 +1,7 @@
 -- What an answered query, and one refuted by its outputs, make of a ledger.
+use Rattle.std.specs.Result.{IsErrAnd}
 use Rattle.std.proofs.lemmas.List.{length-take}
-use Rattle.std.proofs.Common.{◌≡◌, ℕ, zero, suc, ◌<◌, ◌≤◌, length, [], ◌∷◌, take, slice_index_or, List, ap, ◌∙◌, arith, ◌+◌, ◌*◌}
+use Rattle.std.proofs.Common.{◌≡◌, ℕ, zero, suc, ◌<◌, ◌≤◌, length, [], ◌∷◌, take, slice_index_or, List, Result, Ok, Err, inr, sym, subst, ap, ◌∙◌, arith, ◌+◌, ◌*◌}
 use Rattle.circuits.specs.declared.netlist.Gate.{Gate}
 use Rattle.circuits.specs.Netlists.{signals_of}
 use Rattle.cnf_core.specs.declared.log.LogLine.{LogLine}
@@ -20,15 +21,17 @@ use Rattle.query_core.specs.Ledgers.{Ledgered, opened, with_line, IsRefused}
 use Rattle.claim_core.specs.Queries.{IsQuery}
 use Rattle.claim_core.proofs.ClaimQueryLemmas.{claim_query_fits}
 use Rattle.oracle_core.specs.Work.{IsLearned, IsWorkOn}
-use Rattle.ask_core.specs.Answers.{IsAskedIn, IsAskedWith}
+use Rattle.ask_core.specs.declared.question.Answer.{Answer}
+use Rattle.ask_core.specs.Answers.{Asks, IsAnswer, IsAskedIn, IsAskedWith}
+use Rattle.ask_core.proofs.AskLemmas.{stopped_weaker}
 use Rattle.shared_lemmas.specs.Shared.{IsAskedBy}
-use Rattle.fact_tests.specs.Asking.{IsAsked, IsHalted, entry_with}
+use Rattle.fact_tests.specs.Asking.{Decides, IsAsked, IsHalted, entry_with}
 use Rattle.fact_tests.specs.Supports.{IsOutside, closing_line}
 use Rattle.fact_tests.proofs.ConeLemmas.{empty_is_new, graph_is}
 use Rattle.fact_tests.proofs.StructureLemmas.{outside_refuted}
 use Rattle.fact_tests.proofs.WorkLemmas.{asked_last, line_last}
 
-pub asked_with_of : (graphs : Graphs) (query : Query) (lemmas : List LogLine) (before after : Ledgered) → IsQuery graphs query → IsAskedWith graphs query lemmas before after → IsAsked graphs query before after
+pub asked_with_of : (graphs : Graphs) (query : Query) (lemmas : List LogLine) (before after : Ledgered) → IsQuery graphs query → IsAskedWith lemmas graphs query before after → IsAsked graphs query before after
 asked_with_of graphs query lemmas before after fits is = record {
   lemmas = length lemmas;
   lines = is.lines;
@@ -56,6 +59,31 @@ asked_of graphs query before after fits is = asked_with_of graphs query is.lemma
 
 pub asked_by_of : (graphs : Graphs) (query : Query) (before after : Ledgered) → IsQuery graphs query → IsAskedBy graphs query before after → IsAsked graphs query before after
 asked_by_of graphs query before after fits is = asked_with_of graphs query is.lemmas before after fits is.with_them
+
+-- a query that was asked is decided
+pub decides_of : {Asked : Graphs → Query → Ledgered → Ledgered → Type 0} (graphs : Graphs) (query : Query) (before after : Ledgered) (r : Result Answer Stop) → (Asked graphs query before after → IsAsked graphs query before after) → Asks Asked graphs query before after r → Decides (IsAnswer graphs query) graphs query before after r
+decides_of graphs query before after (Ok answer) weaker is = record {
+  answer = is.answer;
+  decided = inr (weaker is.asked);
+  unspent = is.not_spent;
+  stop = tt;
+}
+decides_of graphs query before after (Err stop) weaker is = record {
+  answer = tt;
+  decided = tt;
+  unspent = tt;
+  stop = stopped_weaker before after stop weaker is.stop;
+}
+
+-- a stop is passed on
+pub decides_err : {X : Type 0} {IsRight : X → Type 0} (graphs : Graphs) (query : Query) (before after : Ledgered) (r : Result X Stop) (stop : Stop) → IsErrAnd r (λ e. e ≡ stop) → IsHalted graphs query before after stop → Decides {X = X} IsRight graphs query before after r
+decides_err {X} graphs query before after (Ok answer) stop is halted = absurd is
+decides_err {X} graphs query before after (Err other) stop is halted = record {
+  answer = tt;
+  decided = tt;
+  unspent = tt;
+  stop = subst (IsHalted graphs query before after) (sym is) halted;
+}
 
 -- the output of a claim is a signal
 output_there : (graphs : Graphs) (claim : Claim) → IsGraph graphs.first → IsGraph graphs.second → IsClaim graphs claim → output_signal (graph_of graphs claim.side) claim.output < signals_of (graph_of graphs claim.side)

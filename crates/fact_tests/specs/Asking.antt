@@ -33,9 +33,13 @@ IsHalted graphs query before after = IsStoppedAfter (IsAsked graphs query before
 abbrev pub IsDecided : Graphs → Query → Ledgered → Ledgered → Type 0
 IsDecided graphs query before after = (after ≡ before) ⊎ IsAsked graphs query before after
 
--- What deciding a claim comes to: evidence, with its query decided in a ledger that isn't spent, or no answer.
-pub record Decides (graphs : Graphs) (claim : Claim) (before after : Ledgered) (result : Result Evidence Stop) : Type 0 where
-  pub evidence : IfOk result (IsEvidence graphs claim)
-  pub decided : IfOk result (λ _. IsDecided graphs (claim_query graphs claim) before after)
+-- What deciding a query comes to: an answer that is right, and the query decided in a ledger that isn't spent; or no answer.
+pub record Decides {X : Type 0} (IsRight : X → Type 0) (graphs : Graphs) (query : Query) (before after : Ledgered) (result : Result X Stop) : Type 0 where
+  pub answer : IfOk result IsRight
+  pub decided : IfOk result (λ _. IsDecided graphs query before after)
   pub unspent : IfOk result (λ _. after.spent ≡ false)
-  pub stop : IfErr result (IsHalted graphs (claim_query graphs claim) before after)
+  pub stop : IfErr result (IsHalted graphs query before after)
+
+-- the same of a claim: evidence for it, or against it, by its query
+abbrev pub DecidesClaim : Graphs → Claim → Ledgered → Ledgered → Result Evidence Stop → Type 0
+DecidesClaim graphs claim = Decides (IsEvidence graphs claim) graphs (claim_query graphs claim)

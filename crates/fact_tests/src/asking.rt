@@ -1,11 +1,11 @@
 //! Queries, decided at the cost of a ledger.
 
-ghost use Rattle.std.specs.Prelude.{◌≡◌, ◌+◌, ◌*◌, ◌^◌, ◌<◌, [], ◌∷◌, false, IfOk, IfErr};
+ghost use Rattle.std.specs.Prelude.{◌≡◌, ◌+◌, ◌*◌, ◌^◌, ◌<◌, [], ◌∷◌, false, IfOk};
 ghost use Rattle.net_core.specs.Sides.{graph_of};
 ghost use Rattle.claim_core.specs.Claims.{IsClaim};
 ghost use Rattle.claim_core.specs.Queries.{IsQuery};
 ghost use Rattle.ask_core.specs.Answers.{IsAnswer};
-ghost use Rattle.fact_tests.specs.Asking.{Decides, IsAsked, IsHalted};
+ghost use Rattle.fact_tests.specs.Asking.{Decides, DecidesClaim};
 ghost use Rattle.fact_tests.specs.Supports.{IsOutside};
 
 use account_core::Evidence;
@@ -30,10 +30,7 @@ pub(crate) fn answer_to<W: Watch>(
 ) -> Result<Answer, Stop>
     requires fits { IsQuery graphs.now query.now }
     requires unspent { ledger.old.spent ≡ false }
-    ensures answer { IfOk result (IsAnswer graphs.now query.now) }
-    ensures asked { IfOk result (λ _. IsAsked graphs.now query.now ledger.old ledger.new) }
-    ensures unspent { IfOk result (λ _. ledger.new.spent ≡ false) }
-    ensures stop { IfErr result (IsHalted graphs.now query.now ledger.old ledger.new) }
+    ensures { Decides (IsAnswer graphs.now query.now) graphs.now query.now ledger.old ledger.new result }
 {
     let answer = ask_watched(alloc, graphs, query, ledger, watch)?;
     match answer {
@@ -57,10 +54,7 @@ pub(crate) fn shared_answer_to<W: Watch>(
     requires fits { IsQuery shared.old query.now }
     requires unspent { ledger.old.spent ≡ false }
     ensures same { shared.new ≡ shared.old }
-    ensures answer { IfOk result (IsAnswer shared.old query.now) }
-    ensures asked { IfOk result (λ _. IsAsked shared.old query.now ledger.old ledger.new) }
-    ensures unspent { IfOk result (λ _. ledger.new.spent ≡ false) }
-    ensures stop { IfErr result (IsHalted shared.old query.now ledger.old ledger.new) }
+    ensures decides { Decides (IsAnswer shared.old query.now) shared.old query.now ledger.old ledger.new result }
 {
     shared.ask(alloc, query, ledger, watch)
 }
@@ -76,7 +70,7 @@ pub(crate) fn by_structure(
     requires placed { IsClaim graphs.now claim.now }
     requires outside { IsOutside (graph_of graphs.now claim.now.side) claim.now.output claim.now.shape }
     requires unspent { ledger.old.spent ≡ false }
-    ensures { Decides graphs.now claim.now ledger.old ledger.new result }
+    ensures { DecidesClaim graphs.now claim.now ledger.old ledger.new result }
 {
     let _first = graphs.first();
     let _second = graphs.second();

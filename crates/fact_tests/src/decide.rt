@@ -1,14 +1,12 @@
 //! What decides claims and answers queries.
 
-ghost use Rattle.std.specs.Prelude.{◌≡◌, false, IfOk, IfErr};
+ghost use Rattle.std.specs.Prelude.{◌≡◌, false};
 ghost use Rattle.net_core.specs.Sides.{Graphs as AnyGraphs};
 ghost use Rattle.claim_core.specs.Claims.{IsClaim};
-ghost use Rattle.claim_core.specs.ClaimQueries.{claim_query};
 ghost use Rattle.claim_core.specs.Queries.{IsQuery};
-ghost use Rattle.account_core.specs.Facts.{IsEvidence};
 ghost use Rattle.oracle_core.specs.Work.{IsOfMatch};
 ghost use Rattle.ask_core.specs.Answers.{IsAnswer};
-ghost use Rattle.fact_tests.specs.Asking.{IsDecided, IsHalted};
+ghost use Rattle.fact_tests.specs.Asking.{Decides, DecidesClaim};
 
 use account_core::Evidence;
 use ask_core::Answer;
@@ -43,12 +41,7 @@ pub trait Decide {
         requires placed { IsClaim (circuits self.old) claim.now }
         requires unspent { ledger.old.spent ≡ false }
         ensures same { circuits self.new ≡ circuits self.old }
-        ensures evidence { IfOk result (IsEvidence (circuits self.old) claim.now) }
-        ensures decided { IfOk result (λ _.
-            IsDecided (circuits self.old) (claim_query (circuits self.old) claim.now) ledger.old ledger.new) }
-        ensures unspent { IfOk result (λ _. ledger.new.spent ≡ false) }
-        ensures stop { IfErr result
-            (IsHalted (circuits self.old) (claim_query (circuits self.old) claim.now) ledger.old ledger.new) };
+        ensures decides { DecidesClaim (circuits self.old) claim.now ledger.old ledger.new result };
 
     /// A vector that meets a query of a matching, or a log that refutes it.
     ///
@@ -65,10 +58,8 @@ pub trait Decide {
         requires of_match { IsOfMatch (circuits self.old) query.now }
         requires unspent { ledger.old.spent ≡ false }
         ensures same { circuits self.new ≡ circuits self.old }
-        ensures answer { IfOk result (IsAnswer (circuits self.old) query.now) }
-        ensures decided { IfOk result (λ _. IsDecided (circuits self.old) query.now ledger.old ledger.new) }
-        ensures unspent { IfOk result (λ _. ledger.new.spent ≡ false) }
-        ensures stop { IfErr result (IsHalted (circuits self.old) query.now ledger.old ledger.new) };
+        ensures decides { Decides (IsAnswer (circuits self.old) query.now)
+            (circuits self.old) query.now ledger.old ledger.new result };
 
     /// Whoever watches is told what the run is at. No answer depends on it.
     fn at(&self, stage: Stage);

@@ -6,7 +6,7 @@ ghost use Rattle.claim_core.specs.Claims.{BreaksShape, IsClaim, IsPlaced, with_v
 ghost use Rattle.claim_core.specs.ClaimQueries.{claim_query};
 ghost use Rattle.account_core.specs.Facts.{IsEvidence};
 ghost use Rattle.ask_core.specs.Answers.{IsAnswer};
-ghost use Rattle.fact_tests.specs.Asking.{Decides};
+ghost use Rattle.fact_tests.specs.Asking.{DecidesClaim};
 ghost use Rattle.fact_tests.specs.Books.{IsSource};
 ghost use Rattle.fact_tests.specs.Supports.{IsOutside};
 
@@ -143,7 +143,7 @@ fn decide<W: Watch>(
     requires source { IsSource (graph_of graphs.now claim.now.side) source.old }
     requires unspent { ledger.old.spent ≡ false }
     ensures source { IsSource (graph_of graphs.now claim.now.side) source.new }
-    ensures decides { Decides graphs.now claim.now ledger.old ledger.new result }
+    ensures decides { DecidesClaim graphs.now claim.now ledger.old ledger.new result }
 {
     if is_outside(&source.supports, claim.output, &claim.shape) {
         return by_structure(alloc, graphs, claim, ledger);
@@ -204,7 +204,7 @@ fn by_asking<W: Watch>(
     requires nearby { nearby.old ≡ graph_of graphs.now claim.now.side }
     requires unspent { ledger.old.spent ≡ false }
     ensures nearby { nearby.new ≡ nearby.old }
-    ensures decides { Decides graphs.now claim.now ledger.old ledger.new result }
+    ensures decides { DecidesClaim graphs.now claim.now ledger.old ledger.new result }
 {
     let evidence = asked(alloc, graphs, claim, ledger, watch)?;
     if let Evidence::Fails(vector) = &evidence {
@@ -223,7 +223,7 @@ fn asked<W: Watch>(
 ) -> Result<Evidence, Stop>
     requires placed { IsClaim graphs.now claim.now }
     requires unspent { ledger.old.spent ≡ false }
-    ensures { Decides graphs.now claim.now ledger.old ledger.new result }
+    ensures { DecidesClaim graphs.now claim.now ledger.old ledger.new result }
 {
     let query = of_claim(alloc, graphs, claim)?;
     let answer = answer_to(alloc, graphs, &query, ledger, watch)?;

@@ -1,14 +1,12 @@
 -- Lines that hold of two circuits under the feeds of a query.
-use Rattle.std.specs.Prelude.{◌≡◌, ◌<◌, false, List, length, All, slice_index_or}
+use Rattle.std.specs.Prelude.{◌≡◌, ◌<◌, List, length, All, slice_index_or}
 use Rattle.cnf_core.specs.declared.log.LogLine.{LogLine}
-use Rattle.cnf_core.specs.declared.stop.Stop.{Stop}
 use Rattle.net_core.specs.Sides.{Graphs}
 use Rattle.claim_core.specs.declared.query.Query.{Query}
 use Rattle.claim_core.specs.Formulas.{formula_of}
 use Rattle.query_core.specs.Ledgers.{Ledgered}
 use Rattle.log_parts.specs.Parts.{MayGoOn}
-use Rattle.ask_core.specs.declared.question.Answer.{Answer}
-use Rattle.ask_core.specs.Answers.{IsAnswer, IsAskedWith, IsBounded, IsBoundedStop, IsStoppedAfter}
+use Rattle.ask_core.specs.Answers.{IsAskedWith}
 
 -- Two queries are of the same circuits, whose inputs get the same bits.
 pub record HaveSameFeeds (one other : Query) : Type 0 where
@@ -35,20 +33,4 @@ pub record IsUnder (query : Query) (held : List Query) : Type 0 where
 -- A query was asked, by some lemmas.
 pub record IsAskedBy (graphs : Graphs) (query : Query) (old new : Ledgered) : Type 0 where
   pub lemmas : List LogLine
-  pub with_them : IsAskedWith graphs query lemmas old new
-
--- no answer, by some lemmas: the budget is spent, or memory ran out
-abbrev pub IsStoppedBy : Graphs → Query → Ledgered → Ledgered → Stop → Type 0
-IsStoppedBy graphs query old new = IsStoppedAfter (IsAskedBy graphs query old new) old new
-
--- A query was answered, and the ledger says what was asked.
-pub record IsAnswered (graphs : Graphs) (query : Query) (old new : Ledgered) (answer : Answer) : Type 0 where
-  pub right : IsAnswer graphs query answer
-  pub asked : IsAskedBy graphs query old new
-  pub not_spent : new.spent ≡ false
-  pub bounded : IsBounded graphs query new
-
--- It wasn't, and the ledger says why.
-pub record IsHalted (graphs : Graphs) (query : Query) (old new : Ledgered) (stop : Stop) : Type 0 where
-  pub why : IsStoppedBy graphs query old new stop
-  pub bounded : IsBoundedStop graphs query new stop
+  pub with_them : IsAskedWith lemmas graphs query old new

@@ -1,11 +1,11 @@
 //! Questions that share what they learn.
 
-ghost use Rattle.std.specs.Prelude.{◌≡◌, ◌∷◌, [], false, IsTrue, IfOk, IfErr, OnOk};
+ghost use Rattle.std.specs.Prelude.{◌≡◌, ◌∷◌, [], false, IsTrue, IfOk, OnOk};
 ghost use Rattle.claim_core.specs.Formulas.{formula_of};
 ghost use Rattle.claim_core.specs.Queries.{IsQuery};
-ghost use Rattle.ask_core.specs.Answers.{IsAnswer, IsBounded, IsBoundedStop};
+ghost use Rattle.ask_core.specs.Answers.{Asks, IsAnswer};
 ghost use Rattle.log_parts.specs.Parts.{MayGoOn};
-ghost use Rattle.shared_lemmas.specs.Shared.{AreShared, HoldUnder, IsAnswered, IsAskedBy, IsHalted, IsStoppedBy, IsUnder};
+ghost use Rattle.shared_lemmas.specs.Shared.{AreShared, HoldUnder, IsAskedBy, IsUnder};
 
 use crate::feeds::have_same_feeds;
 use crate::guiding::{QuestionPairs, Reporter};
@@ -25,7 +25,8 @@ use watch_core::Watch;
 /// that is more than a question of small cones takes by itself.
 const LARGE: u64 = 60_000;
 
-/// Cones are small that have at most one of this many clauses.
+/// Cones are small that have at most one of this many clauses. Where 8 adders of 64 bits stand side by side, sharing takes
+/// questions that structure answers 1.5 times as long as asking alone, and others 0.4 times; where 24 do, 2 and 0.6 times.
 const PART: u64 = 8;
 
 /// How many lines questions may get as lemmas in a run. Each is copied for its question, 250 bytes or so, which are free again once
@@ -80,12 +81,7 @@ impl<'a> SharedLemmas<'a> {
         requires fits { IsQuery self.old query.now }
         requires not_spent { ledger.old.spent ≡ false }
         ensures same { self.new ≡ self.old }
-        ensures answer { IfOk result (IsAnswer self.old query.now) }
-        ensures asked { IfOk result (λ _. IsAskedBy self.old query.now ledger.old ledger.new) }
-        ensures not_spent { IfOk result (λ _. ledger.new.spent ≡ false) }
-        ensures stop { IfErr result (IsStoppedBy self.old query.now ledger.old ledger.new) }
-        ensures bounded { IfOk result (λ _. IsBounded self.old query.now ledger.new) }
-        ensures bounded_stop { IfErr result (IsBoundedStop self.old query.now ledger.new) }
+        ensures asks { Asks IsAskedBy self.old query.now ledger.old ledger.new result }
     {
         ask_sharing(alloc, self.graphs, query, &mut self.stock, ledger, watch)
     }
@@ -104,8 +100,7 @@ fn ask_sharing<W: Watch>(
     requires shared { AreShared graphs.now stock.old.held.items stock.old.lines.items }
     requires not_spent { ledger.old.spent ≡ false }
     ensures shared { AreShared graphs.now stock.new.held.items stock.new.lines.items }
-    ensures answered { IfOk result (IsAnswered graphs.now query.now ledger.old ledger.new) }
-    ensures halted { IfErr result (IsHalted graphs.now query.now ledger.old ledger.new) }
+    ensures asks { Asks IsAskedBy graphs.now query.now ledger.old ledger.new result }
 {
     turn_to(alloc, graphs, query, stock)?;
     let cones = ConeClauses::new(alloc, graphs, query)?;
@@ -131,8 +126,7 @@ fn ask_alone<W: Watch>(
 ) -> Result<Answer, Stop>
     requires fits { IsQuery graphs.now query.now }
     requires not_spent { ledger.old.spent ≡ false }
-    ensures answered { IfOk result (IsAnswered graphs.now query.now ledger.old ledger.new) }
-    ensures halted { IfErr result (IsHalted graphs.now query.now ledger.old ledger.new) }
+    ensures { Asks IsAskedBy graphs.now query.now ledger.old ledger.new result }
 {
     ask_watched(alloc, graphs, query, ledger, watch)
 }
@@ -150,13 +144,11 @@ fn ask_cones<W: Watch>(
     requires fits { IsQuery graphs.now query.now }
     requires of_graphs { cones.now.graphs ≡ graphs.now }
     requires of_query { cones.now.query ≡ query.now }
-    requires own { stock.old.held.items ≡ query.now ∷ [] }
     requires hold { HoldUnder graphs.now query.now stock.old.lines.items }
     requires not_spent { ledger.old.spent ≡ false }
-    ensures own { stock.new.held.items ≡ query.now ∷ [] }
+    ensures held { stock.new.held ≡ stock.old.held }
     ensures hold { HoldUnder graphs.now query.now stock.new.lines.items }
-    ensures answered { IfOk result (IsAnswered graphs.now query.now ledger.old ledger.new) }
-    ensures halted { IfErr result (IsHalted graphs.now query.now ledger.old ledger.new) }
+    ensures asks { Asks IsAskedBy graphs.now query.now ledger.old ledger.new result }
 {
     let base = QueryBase::new(alloc, graphs, query)?;
     let lemmas = lemmas_for(alloc, cones, &base, stock)?;
@@ -182,13 +174,11 @@ fn ask_by<W: Watch>(
     requires of_graphs { cones.now.graphs ≡ graphs.now }
     requires of_query { cones.now.query ≡ query.now }
     requires lemmas { MayGoOn (formula_of graphs.now query.now) lemmas.now.lines.items }
-    requires own { stock.old.held.items ≡ query.now ∷ [] }
     requires hold { HoldUnder graphs.now query.now stock.old.lines.items }
     requires not_spent { ledger.old.spent ≡ false }
-    ensures own { stock.new.held.items ≡ query.now ∷ [] }
+    ensures held { stock.new.held ≡ stock.old.held }
     ensures hold { HoldUnder graphs.now query.now stock.new.lines.items }
-    ensures answered { IfOk result (IsAnswered graphs.now query.now ledger.old ledger.new) }
-    ensures halted { IfErr result (IsHalted graphs.now query.now ledger.old ledger.new) }
+    ensures asks { Asks IsAskedBy graphs.now query.now ledger.old ledger.new result }
 {
     let reporter = Reporter {
         watch,
@@ -222,8 +212,7 @@ fn ask_pairs<W: Watch>(
     requires of_query { cones.now.query ≡ query.now }
     requires lemmas { MayGoOn (formula_of graphs.now query.now) lemmas.now }
     requires not_spent { ledger.old.spent ≡ false }
-    ensures answered { IfOk result (IsAnswered graphs.now query.now ledger.old ledger.new) }
-    ensures halted { IfErr result (IsHalted graphs.now query.now ledger.old ledger.new) }
+    ensures { Asks IsAskedBy graphs.now query.now ledger.old ledger.new result }
 {
     let mut guide = guide;
     ask_guided(alloc, graphs, query, cones, lemmas, &mut guide, ledger)

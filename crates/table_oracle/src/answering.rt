@@ -1,13 +1,11 @@
 //! Queries, answered by all vectors.
 
-ghost use Rattle.std.specs.Prelude.{◌≡◌, ◌≤◌, false, IfOk, IfErr};
+ghost use Rattle.std.specs.Prelude.{◌≡◌, ◌≤◌, false};
 ghost use Rattle.net_core.specs.Sides.{graph_of};
 ghost use Rattle.claim_core.specs.Claims.{IsClaim};
-ghost use Rattle.claim_core.specs.ClaimQueries.{claim_query};
 ghost use Rattle.claim_core.specs.Queries.{IsQuery, bits_in};
-ghost use Rattle.account_core.specs.Facts.{IsEvidence};
 ghost use Rattle.ask_core.specs.Answers.{IsAnswer};
-ghost use Rattle.fact_tests.specs.Asking.{IsDecided, IsHalted};
+ghost use Rattle.fact_tests.specs.Asking.{Decides, DecidesClaim};
 
 use crate::splitting::refute;
 use crate::vectors::meeting_vector;
@@ -91,10 +89,7 @@ fn answer_to(
     requires fits { IsQuery graphs.now query.now }
     requires small { bits_in graphs.now query.now ≤ 12 }
     requires unspent { ledger.old.spent ≡ false }
-    ensures answer { IfOk result (IsAnswer graphs.now query.now) }
-    ensures decided { IfOk result (λ _. IsDecided graphs.now query.now ledger.old ledger.new) }
-    ensures unspent { IfOk result (λ _. ledger.new.spent ≡ false) }
-    ensures stop { IfErr result (IsHalted graphs.now query.now ledger.old ledger.new) }
+    ensures { Decides (IsAnswer graphs.now query.now) graphs.now query.now ledger.old ledger.new result }
 {
     if let Some(vector) = meeting_vector(alloc, graphs, query)? {
         return Ok(Answer::Vector(vector));
@@ -113,11 +108,7 @@ fn decide(
     requires placed { IsClaim graphs.now claim.now }
     requires small { (graph_of graphs.now claim.now.side).inputs ≤ 12 }
     requires unspent { ledger.old.spent ≡ false }
-    ensures evidence { IfOk result (IsEvidence graphs.now claim.now) }
-    ensures decided { IfOk result
-        (λ _. IsDecided graphs.now (claim_query graphs.now claim.now) ledger.old ledger.new) }
-    ensures unspent { IfOk result (λ _. ledger.new.spent ≡ false) }
-    ensures stop { IfErr result (IsHalted graphs.now (claim_query graphs.now claim.now) ledger.old ledger.new) }
+    ensures { DecidesClaim graphs.now claim.now ledger.old ledger.new result }
 {
     let query = of_claim(alloc, graphs, claim)?;
     let answer = answer_to(alloc, graphs, &query, ledger)?;

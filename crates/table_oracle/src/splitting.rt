@@ -10,7 +10,7 @@ ghost use Rattle.query_core.specs.Ledgers.{charging_of};
 ghost use Rattle.claim_core.specs.Queries.{IsQuery, IsUnmet, bits_in};
 ghost use Rattle.learn_solver.specs.Searches.{last_line};
 ghost use Rattle.learn_solver.specs.Solvers.{IsAsking, IsExtended, IsStopped as IsHalted};
-ghost use Rattle.ask_core.specs.Answers.{IsAskedIn, IsStopped};
+ghost use Rattle.fact_tests.specs.Asking.{Decides};
 ghost use Rattle.table_oracle.specs.Splits.{AllExcluded, IsBeginning, IsClosed, IsCovering, IsExcluded, IsNew, IsSplitting, clauses_in, excluding, solving_of};
 
 use crate::clauses::has_all;
@@ -34,10 +34,8 @@ pub(crate) fn refute(
     requires small { bits_in graphs.now query.now ≤ 12 }
     requires unmet { IsUnmet graphs.now query.now }
     requires unspent { ledger.old.spent ≡ false }
-    ensures log { IfOk result (λ log. IsRefutation (formula_of graphs.now query.now) log.lines) }
-    ensures asked { IfOk result (λ _. IsAskedIn graphs.now query.now ledger.old ledger.new) }
-    ensures unspent { IfOk result (λ _. ledger.new.spent ≡ false) }
-    ensures stop { IfErr result (IsStopped graphs.now query.now ledger.old ledger.new) }
+    ensures { Decides (λ log. IsRefutation (formula_of graphs.now query.now) log.lines)
+        graphs.now query.now ledger.old ledger.new result }
 {
     let _first = graphs.first();
     let _second = graphs.second();

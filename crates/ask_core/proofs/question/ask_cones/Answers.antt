@@ -1,8 +1,7 @@
 -- A query's answer is that of a solver for the clauses of its cones.
-use Rattle.std.proofs.Common.{◌≡◌, ap, subst, ◌∙◌, arith}
+use Rattle.std.proofs.Common.{◌≡◌, ap, rules, subst, ◌∙◌, arith}
 use Rattle.cnf_core.specs.Derivations.{clauses_of}
 use Rattle.dense_solver.specs.declared.verdict.DenseVerdict.{DenseVerdict}
-use Rattle.learn_solver.proofs.StepLemmas.{passed_on}
 use Rattle.dense_solver.specs.Solved.{IsDenseVerdict, start_of, with_lines_of}
 use Rattle.claim_core.specs.Formulas.{formula_of}
 use Rattle.cnf_core.specs.Charges.{Charging}
@@ -10,11 +9,12 @@ use Rattle.query_core.specs.Ledgers.{Ledgered, charging_of, one_if}
 use Rattle.query_core.specs.declared.ledger.Asked.{Asked}
 use Rattle.query_core.proofs.ChargingLemmas.{is_opened}
 use Rattle.ask_core.proofs.AskLemmas.{cones_asked, cones_joined, cones_met, cones_stopped, short_from}
+use Rattle.ask_core.proofs.BoundLemmas.{asks_err, asks_ok, bounded_in}
 use Rattle.ask_core.proofs.question.ask_cones.Goals as goal
 
-pub returns-in_err-values-clause-stop : goal.returns-in_err-values-clause-stop
-returns-in_err-values-clause-stop g c =
-    passed_on _ _ _ c.from_residual-in_err-values.ensures.1 (cones_stopped c.args.graphs.now c.args.query.now c.args.lemmas.now c.args.cones.now c.args.ledger.now c.open.new.self c.solve_dense.new.ledger c.requires.of_graphs c.requires.of_query c.ids-ids.ensures.are c.requires.lemmas c.in_err-values.field-0.0 c.in_ok-open.ensures.some c.in_ok-open.ensures.opened c.in_err-values.ensures.stop)
+pub returns-in_err-values-clause-asks : goal.returns-in_err-values-clause-asks
+returns-in_err-values-clause-asks g c =
+    asks_err _ _ _ _ _ c.in_err-values.field-0.0 (bounded_in _ _ _ _) c.from_residual-in_err-values.ensures.1 (cones_stopped c.args.graphs.now c.args.query.now c.args.lemmas.now c.args.cones.now c.args.ledger.now c.open.new.self c.solve_dense.new.ledger c.requires.of_graphs c.requires.of_query c.ids-ids.ensures.are c.requires.lemmas c.in_err-values.field-0.0 c.in_ok-open.ensures.some c.in_ok-open.ensures.opened c.in_err-values.ensures.stop)
 
 pub vector_of-requires-clause-meets : goal.vector_of-requires-clause-meets
 vector_of-requires-clause-meets g c =
@@ -22,13 +22,13 @@ vector_of-requires-clause-meets g c =
     let model = subst (λ (v : DenseVerdict). IsDenseVerdict new v) c.in-Model.is c.in_ok-values.ensures.verdict in
     cones_met c.args.graphs.now c.args.query.now c.args.lemmas.now c.args.cones.now c.args.ledger.now c.open.new.self c.solve_dense.new.ledger c.requires.of_graphs c.requires.of_query c.ids-ids.ensures.are c.requires.lemmas c.in-Model.values c.in_ok-values.ensures.lines model.meets
 
-pub returns-in_ok-vector-in-Model-clause-asked : goal.returns-in_ok-vector-in-Model-clause-asked
-returns-in_ok-vector-in-Model-clause-asked g c =
-    cones_asked c.args.graphs.now c.args.query.now c.args.lemmas.now c.args.cones.now c.args.ledger.now c.open.new.self c.solve_dense.new.ledger c.requires.of_graphs c.requires.of_query c.ids-ids.ensures.are c.requires.lemmas c.in_ok-open.ensures.some c.in_ok-open.ensures.opened c.in_ok-values.ensures.lines
+pub returns-in_ok-vector-in-Model-clause-asks : goal.returns-in_ok-vector-in-Model-clause-asks
+returns-in_ok-vector-in-Model-clause-asks g c =
+    asks_ok _ _ _ _ _ (bounded_in _ _ _ _) (search rules) (cones_asked c.args.graphs.now c.args.query.now c.args.lemmas.now c.args.cones.now c.args.ledger.now c.open.new.self c.solve_dense.new.ledger c.requires.of_graphs c.requires.of_query c.ids-ids.ensures.are c.requires.lemmas c.in_ok-open.ensures.some c.in_ok-open.ensures.opened c.in_ok-values.ensures.lines) (search rules)
 
-pub returns-in-Refuted-clause-asked : goal.returns-in-Refuted-clause-asked
-returns-in-Refuted-clause-asked g c =
-    cones_asked c.args.graphs.now c.args.query.now c.args.lemmas.now c.args.cones.now c.args.ledger.now c.open.new.self c.solve_dense.new.ledger c.requires.of_graphs c.requires.of_query c.ids-ids.ensures.are c.requires.lemmas c.in_ok-open.ensures.some c.in_ok-open.ensures.opened c.in_ok-values.ensures.lines
+pub returns-in-Refuted-clause-asks : goal.returns-in-Refuted-clause-asks
+returns-in-Refuted-clause-asks g c =
+    asks_ok _ _ _ _ _ (bounded_in _ _ _ _) (search rules) (cones_asked c.args.graphs.now c.args.query.now c.args.lemmas.now c.args.cones.now c.args.ledger.now c.open.new.self c.solve_dense.new.ledger c.requires.of_graphs c.requires.of_query c.ids-ids.ensures.are c.requires.lemmas c.in_ok-open.ensures.some c.in_ok-open.ensures.opened c.in_ok-values.ensures.lines) (search rules)
 
 pub solve_dense-requires-clause-asking : goal.solve_dense-requires-clause-asking
 solve_dense-requires-clause-asking g c = record {

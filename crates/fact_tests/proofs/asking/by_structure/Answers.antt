@@ -5,8 +5,7 @@ use Rattle.cnf_core.specs.Derivations.{IsRefutation}
 use Rattle.claim_core.specs.ClaimQueries.{claim_query}
 use Rattle.claim_core.specs.Formulas.{formula_of}
 use Rattle.query_core.specs.Ledgers.{Ledgered}
-use Rattle.learn_solver.proofs.StepLemmas.{passed_on}
-use Rattle.fact_tests.proofs.AskingLemmas.{closed_asked, closed_halted, closing_is, outside_closed}
+use Rattle.fact_tests.proofs.AskingLemmas.{closed_asked, closed_halted, closing_is, decides_err, outside_closed}
 use Rattle.fact_tests.proofs.asking.by_structure.Goals as goal
 
 pub returns : goal.returns
@@ -16,7 +15,7 @@ returns c =
     let closed = outside_closed graphs claim c.first-first.ensures.sound c.second-second.ensures.sound c.requires.placed c.requires.outside in
     let line_is = closing_is graphs claim c.gates.result.now c.in_ok-line.line c.in_ok-line.ensures (c.gates.ensures.value ∙ ap (λ (n : Net). n.gates) c.side.ensures) in
     record {
-      evidence = subst (IsRefutation (formula_of graphs (claim_query graphs claim))) (sym (c.in_ok-log.ensures ∙ ap (λ l. l ∷ []) line_is)) closed.refuted;
+      answer = subst (IsRefutation (formula_of graphs (claim_query graphs claim))) (sym (c.in_ok-log.ensures ∙ ap (λ l. l ∷ []) line_is)) closed.refuted;
       decided = inr (closed_asked graphs claim c.in_ok-query.query c.in_ok-line.line c.args.ledger.now c.open.new.self c.charge.new.self closed c.in_ok-query.ensures.query line_is c.in_ok-open.ensures.opened (ap (λ (l : Ledgered). l.asked) c.in_ok-charge.ensures.charged) (ap (λ (l : Ledgered). l.budget) c.in_ok-charge.ensures.charged));
       unspent = search rules;
       stop = tt;
@@ -28,9 +27,4 @@ returns-in_err-charge c =
     let claim = c.args.claim.now in
     let closed = outside_closed graphs claim c.first-first.ensures.sound c.second-second.ensures.sound c.requires.placed c.requires.outside in
     let line_is = closing_is graphs claim c.gates.result.now c.in_ok-line.line c.in_ok-line.ensures (c.gates.ensures.value ∙ ap (λ (n : Net). n.gates) c.side.ensures) in
-    record {
-      evidence = search rules;
-      decided = search rules;
-      unspent = search rules;
-      stop = passed_on _ _ _ c.from_residual-in_err-charge.ensures.1 (closed_halted graphs claim c.in_ok-query.query c.in_ok-line.line c.args.ledger.now c.open.new.self c.charge.new.self c.in_err-charge.field-0.0 closed c.in_ok-query.ensures.query line_is c.in_ok-open.ensures.opened c.in_err-charge.ensures.refused);
-    }
+    decides_err _ _ _ _ _ _ c.from_residual-in_err-charge.ensures.1 (closed_halted graphs claim c.in_ok-query.query c.in_ok-line.line c.args.ledger.now c.open.new.self c.charge.new.self c.in_err-charge.field-0.0 closed c.in_ok-query.ensures.query line_is c.in_ok-open.ensures.opened c.in_err-charge.ensures.refused)
