@@ -63,51 +63,21 @@ fn is_shown(
     Ok(shown & keeps_rule(graphs, given, pairs, step))
 }
 
-/// Whether a vector shows a ban: the AND of a 0 is 0, and the OR of a 1 is 1.
-fn shown_by_vector(
-    alloc: Global,
-    graphs: &Graphs<'_>,
-    given: &Given,
-    pairs: &[Pair],
-) -> Result<bool, AllocError> {
-    let bits = Items::from_slice(alloc, &[Tri::Zero, Tri::X])?;
-    is_shown(
-        alloc,
-        graphs,
-        given,
-        pairs,
-        &Step::Vector { output: 0, bits },
-    )
-}
-
-/// Whether fact 0 and another one show a ban.
-fn shown_by_facts(
-    alloc: Global,
-    graphs: &Graphs<'_>,
-    given: &Given,
-    pairs: &[Pair],
-    holds: u64,
-) -> Result<bool, AllocError> {
-    is_shown(
-        alloc,
-        graphs,
-        given,
-        pairs,
-        &Step::Mismatch { fails: 0, holds },
-    )
-}
-
-/// Whether a ban is shown by a vector, by two facts, and by a fact that isn't there.
+/// Whether a ban is shown by a vector, by two facts, and by a fact that isn't there. The AND of a 0 is 0, and the OR of a 1 is 1.
 fn ways_shown(
     alloc: Global,
     graphs: &Graphs<'_>,
     given: &Given,
     pairs: &[Pair],
 ) -> Result<(bool, bool, bool), AllocError> {
+    let bits = Items::from_slice(alloc, &[Tri::Zero, Tri::X])?;
+    let vector = Step::Vector { output: 0, bits };
+    let facts = Step::Mismatch { fails: 0, holds: 1 };
+    let absent = Step::Mismatch { fails: 0, holds: 2 };
     Ok((
-        shown_by_vector(alloc, graphs, given, pairs)?,
-        shown_by_facts(alloc, graphs, given, pairs, 1)?,
-        shown_by_facts(alloc, graphs, given, pairs, 2)?,
+        is_shown(alloc, graphs, given, pairs, &vector)?,
+        is_shown(alloc, graphs, given, pairs, &facts)?,
+        is_shown(alloc, graphs, given, pairs, &absent)?,
     ))
 }
 
