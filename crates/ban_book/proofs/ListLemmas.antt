@@ -4,9 +4,8 @@ use Rattle.std.specs.List.{AllZip, flat_map}
 use Rattle.std.proofs.lemmas.List.{flat_map_more, take_more}
 use Rattle.std.proofs.lemmas.List.Elements.{All-push}
 use Rattle.std.proofs.lemmas.List.Quantifiers.{all_pairs_push}
-use Rattle.std.proofs.lemmas.Slice.Zip.{AllZip-long, all_zipped_more}
+use Rattle.std.proofs.lemmas.Slice.Zip.{all_zipped_more}
 use Rattle.account_core.specs.Tallies.{Ascend}
-use Rattle.circuits.proofs.Lists.{flat_push}
 
 pub below_push : (numbers : List ℕ) (next : ℕ) → All (λ number. number < next) numbers → All (λ number. number < next + 1) (numbers ++ next ∷ [])
 below_push numbers next below = All-push (λ number. number < next + 1) numbers next (λ k d within. omega (arith, below k d within)) (omega arith)

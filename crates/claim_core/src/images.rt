@@ -2,7 +2,7 @@
 
 ghost use Rattle.std.specs.Prelude.{◌≡◌, ◌⊎◌, ◌↔◌, IsNone};
 ghost use Rattle.circuits.specs.declared.port.PortKind.TheVariants.{Output as AnyOutput};
-ghost use Rattle.claim_core.specs.Images.{Lacks, LacksInput, image_of, is_of, moved_one, moved_shape, moved_two, moved_value, one_input, pair_of, two_inputs};
+ghost use Rattle.claim_core.specs.Images.{Lacks, LacksInput, image_of, is_of, moved_one, moved_shape, moved_two, moved_value, pair_of};
 
 use crate::claims::{Claim, Shape};
 use net_core::{Pair, PortKind, Side};

@@ -1,6 +1,6 @@
 //! Claims, decided by structure, by vectors that were seen, and by asking.
 
-ghost use Rattle.std.specs.Prelude.{◌≡◌, ◌<◌, false, IsTrue, IfOk, IfErr, IfSome, length};
+ghost use Rattle.std.specs.Prelude.{◌≡◌, ◌<◌, false, IsTrue, IfOk, IfSome, length};
 ghost use Rattle.net_core.specs.Sides.{graph_of};
 ghost use Rattle.claim_core.specs.Claims.{BreaksShape, IsClaim, IsPlaced, with_values};
 ghost use Rattle.claim_core.specs.ClaimQueries.{claim_query};

@@ -1,8 +1,7 @@
 //! A netlist under other places and signs of its ports.
 
-ghost use Rattle.std.specs.Prelude.{◌≡◌, ◌+◌, ◌-◌, ◌<◌, ◌^◌, All, IfOk, length, map, vec_len};
+ghost use Rattle.std.specs.Prelude.{◌≡◌, ◌+◌, ◌-◌, ◌<◌, ◌^◌, All, IfOk, length, map};
 ghost use Rattle.circuits.specs.Bijections.{IsSignedBijection};
-ghost use Rattle.circuits.specs.Literals.{signal_of};
 ghost use Rattle.circuits.specs.Matches.{IsMatchOfFunctions};
 ghost use Rattle.net_core.specs.Graph.{IsGraph};
 ghost use Rattle.gen_pair.specs.Moved.{signed, moved_literal, moved_gate, AreMovedOutputs};

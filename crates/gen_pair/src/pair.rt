@@ -1,10 +1,9 @@
 //! The pair that a number gives.
 
-ghost use Rattle.std.specs.Prelude.{◌≡◌, IfOk, length};
+ghost use Rattle.std.specs.Prelude.{◌≡◌, IfOk};
 ghost use Rattle.circuits.specs.Bijections.{IsSignedBijection};
 ghost use Rattle.circuits.specs.Matches.{IsMatchOfFunctions};
 ghost use Rattle.net_core.specs.Graph.{IsGraph};
-ghost use Rattle.gen_pair.specs.Drawing.{generator_of};
 ghost use Rattle.gen_pair.specs.Mixing.{making, made};
 ghost use Rattle.gen_pair.specs.Names.{HasNames};
 ghost use Rattle.gen_pair.specs.Pairs.{HasSizes, ArePairOf};

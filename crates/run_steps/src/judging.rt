@@ -1,6 +1,6 @@
 //! What an account says of two netlists, checked as it is read.
 
-ghost use Rattle.std.specs.Prelude.{ℕ, List, ◌≡◌, ◌≢◌, ◌+◌, ◌<◌, ◌^◌, [], IsTrue, IfOk, Some, Err, length};
+ghost use Rattle.std.specs.Prelude.{ℕ, List, ◌≡◌, ◌≢◌, ◌+◌, ◌<◌, ◌^◌, [], IfOk, Some, Err, length};
 ghost use Rattle.net_core.specs.Sides.{Graphs as TwoGraphs};
 ghost use Rattle.account_check.specs.Checking.{HasTaken, IsUnderWay};
 ghost use Rattle.shelf_core.specs.State.{Closed, Reading};

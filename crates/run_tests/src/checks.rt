@@ -1,6 +1,6 @@
 //! Checks of accounts and reports of netlists: what they print and how they end.
 
-ghost use Rattle.std.specs.Prelude.{◌≡◌, false, List, None, [], cond};
+ghost use Rattle.std.specs.Prelude.{◌≡◌, false, None, [], cond};
 ghost use Rattle.shelf_core.specs.State.{Closed, Reading, Writing};
 
 use crate::files::{A, AND, AND_OR, B, C17, C17_MOVED, EMPTY, OR, TABLE, WIRE};

@@ -1,6 +1,6 @@
 //! Matchings that may be a match.
 
-ghost use Rattle.std.specs.Prelude.{◌≡◌, IfOk, IfSome, length};
+ghost use Rattle.std.specs.Prelude.{◌≡◌, IfOk, IfSome};
 ghost use Rattle.circuits.specs.Matches.{HavePorts};
 
 use crate::choice::{Next, next_point};

@@ -1,6 +1,6 @@
 //! Matchings from cells.
 
-ghost use Rattle.std.specs.Prelude.{◌≡◌, IfOk, IfSome, length};
+ghost use Rattle.std.specs.Prelude.{◌≡◌, IfOk, IfSome};
 ghost use Rattle.circuits.specs.Matches.{HavePorts};
 
 use cell_splits::State;
