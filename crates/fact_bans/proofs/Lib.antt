@@ -1,3 +1,4 @@
+pub mod CarryLemmas
 pub mod ServeLemmas
 pub mod FactLemmas
 pub mod HoldingLemmas

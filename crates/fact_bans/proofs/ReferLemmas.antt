@@ -15,6 +15,7 @@ use Rattle.account_core.specs.Ports.{AreOrdered, IsKnown}
 use Rattle.oracle_core.specs.Oracles.{Known}
 use Rattle.port_covers.specs.Ways.{AreClosed, IsClosed}
 use Rattle.port_covers.proofs.BlockLemmas.{each_in}
+use Rattle.fact_bans.specs.Carrying.{IsPairOf}
 use Rattle.fact_bans.specs.Referred.{AreReferred, IsReferred}
 use Rattle.fact_bans.specs.Serving.{MayHold, OnlyAdds}
 use Rattle.fact_bans.proofs.HoldingLemmas.{held_same, held_then, HasHeld}
@@ -51,15 +52,15 @@ found_more graphs old mid new a b c bans first second ways k d number before aft
 }
 
 -- the ways to pair outputs with outputs
-pub ways_known : (graphs : Graphs) (from to : List ℕ) → All (λ port. port < length graphs.first.outputs) from → All (λ port. port < length graphs.second.outputs) to → All (IsKnown graphs) (ways Output from to)
-ways_known graphs from to from_below to_below =
-    each_in (IsKnown graphs) (record { kind = Output; from = from; to = to }) (λ f t flip here there. record {
-      from = All-contains (λ port. port < length graphs.first.outputs) from f from_below here;
-      to = All-contains (λ port. port < length graphs.second.outputs) to t to_below there;
+pub ways_of_outputs : (graphs : Graphs) (from to : List ℕ) → All (λ port. port < length graphs.first.outputs) from → All (λ port. port < length graphs.second.outputs) to → All (IsPairOf graphs Output) (ways Output from to)
+ways_of_outputs graphs from to from_below to_below =
+    each_in (IsPairOf graphs Output) (record { kind = Output; from = from; to = to }) (λ f t flip here there. record {
+      kind_is = refl;
+      known = record {
+        from = All-contains (λ port. port < length graphs.first.outputs) from f from_below here;
+        to = All-contains (λ port. port < length graphs.second.outputs) to t to_below there;
+      };
     })
-
-pub ways_of_outputs : (from to : List ℕ) → All (λ (pair : Pair). pair.kind ≡ Output) (ways Output from to)
-ways_of_outputs from to = each_in (λ (pair : Pair). pair.kind ≡ Output) (record { kind = Output; from = from; to = to }) (λ f t flip here there. refl)
 
 reference_of : (facts : List Decided) (bans : List Ban) (pair : Pair) (ref : Option ℕ) → IsReferred bans pair ref → IsReference (given_of facts bans) [] pair ref
 reference_of facts bans pair ref is =

@@ -3,6 +3,7 @@ use Rattle.std.proofs.Common.{◌≡◌, List, [], map, take, get_or, ◌++◌, 
 use Rattle.std.proofs.lemmas.List.{map-append}
 use Rattle.net_core.specs.Sides.{Graphs}
 use Rattle.circuits.specs.declared.port.Pair.{Pair}
+use Rattle.query_core.specs.Ledgers.{Ledgered}
 use Rattle.account_core.specs.declared.fact.Fact.{Fact}
 use Rattle.account_core.specs.declared.step.Ban.{Ban}
 use Rattle.account_core.specs.Facts.{AreFacts}
@@ -13,7 +14,14 @@ use Rattle.oracle_core.specs.Oracles.{Grows, Known}
 pub use Rattle.oracle_core.proofs.ServeLemmas.{grows_same, served_one, served_same, served_then, serves_err, serves_last, serves_memory, serves_ok}
 use Rattle.ban_book.specs.Vectors.{AreLastResorts}
 use Rattle.ban_book.proofs.VectorLemmas.{last_resorts_later}
-use Rattle.fact_bans.specs.Serving.{AreValid}
+use Rattle.fact_bans.specs.Serving.{AreValid, HasServed, MayAsk}
+
+-- after calls that were answered more may be asked
+pub ask_later : (graphs : Graphs) (old new : Known) (a b : Ledgered) → MayAsk graphs old a → HasServed old new a b → MayAsk graphs new b
+ask_later graphs old new a b may served = record {
+  graphs_are = may.graphs_are ∙ sym served.grows.graphs;
+  suits = served.suits;
+}
 
 -- facts that come after leave bans valid
 pub valid_later : (old new : Known) (graphs : Graphs) (bans : List Ban) → Grows old new → AreValidBans graphs (map decided_by old.facts) bans → AreValidBans graphs (map decided_by new.facts) bans

@@ -1,6 +1,7 @@
 pub mod Serving
 pub mod Referred
 pub mod Wanted
+pub mod Carrying
 pub use Rattle.account_core.specs.Steps
 pub use Rattle.account_core.specs.Shown
 pub use Rattle.account_core.specs.Facts

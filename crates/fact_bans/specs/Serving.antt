@@ -23,6 +23,11 @@ pub record OnlyAdds (before after : List Ban) : Type 0 where
   pub added : List Ban
   pub more : after ≡ before ++ added
 
+-- Claims may be asked: the oracle is of these circuits, and the ledger suits it.
+pub record MayAsk (graphs : Graphs) (known : Known) (ledger : Ledgered) : Type 0 where
+  pub graphs_are : graphs ≡ known.graphs
+  pub suits : Suits known ledger
+
 -- Claims may be asked, and bans held: the oracle is of these circuits, the ledger suits it, and the bans are valid.
 pub record MayHold (graphs : Graphs) (known : Known) (ledger : Ledgered) (bans : List Ban) : Type 0 where
   pub graphs_are : graphs ≡ known.graphs

@@ -1,12 +1,11 @@
 //! Bans of an output's pair and two inputs', by a claim of the two inputs that fails where its image holds.
 
-ghost use Rattle.std.specs.Prelude.{◌≡◌, ◌≢◌, ◌<◌, ◌∷◌, [], IfOk, IfSome};
-ghost use Rattle.circuits.specs.declared.port.PortKind.TheVariants.{Input, Output};
+ghost use Rattle.std.specs.Prelude.{◌≡◌, ◌≢◌, ◌<◌, IfOk, IfSome};
 ghost use Rattle.net_core.specs.declared.graphs.Side.TheVariants as AnySide;
-ghost use Rattle.account_core.specs.Ports.{IsKnown};
 ghost use Rattle.ban_book.specs.Covering.{Covers};
 ghost use Rattle.claim_core.specs.declared.claims.Shape.TheVariants as AnyShape;
 ghost use Rattle.claim_core.specs.Images.{moved_value, two_inputs};
+ghost use Rattle.fact_bans.specs.Carrying.{AreSwapPairs, all_of};
 ghost use Rattle.fact_bans.specs.Serving.{HoldsBans, MayHold};
 
 use crate::mismatched::hold_by;
@@ -21,6 +20,14 @@ use port_sides::PairableGraphs;
 use query_core::{Claim, Ledger, Shape};
 use std::alloc::Global;
 
+/// The pairs of two inputs and of an output.
+#[derive(Clone, Copy, Debug, Drop)]
+pub struct SwapPairs {
+    pub one: Pair,
+    pub other: Pair,
+    pub output: Pair,
+}
+
 /// Holds a ban of the pairs of two inputs and an output where a claim of both inputs of the one circuit fails that holds for the
 /// other one, as where two inputs may be exchanged and their partners may not. Answers its number; None where none was shown, or
 /// the inputs' pairs share a port. Only claims are asked of which vectors break one and not the other; none that holds since the
@@ -33,35 +40,29 @@ pub fn swap_mismatch<O: Oracle>(
     alloc: Global,
     graphs: &PairableGraphs<'_>,
     oracle: &mut O,
-    one: Pair,
-    other: Pair,
-    output: Pair,
+    pairs: SwapPairs,
     seen: &mut Seen,
     book: &mut BanBook,
     ledger: &mut Ledger,
 ) -> Result<Option<u64>, Stop>
     requires may { MayHold graphs.now (O.known oracle.old) ledger.old book.old }
-    requires one { one.kind ≡ Input }
-    requires other { other.kind ≡ Input }
-    requires output { output.kind ≡ Output }
-    requires one_known { IsKnown graphs.now one }
-    requires other_known { IsKnown graphs.now other }
-    requires output_known { IsKnown graphs.now output }
+    requires pairs { AreSwapPairs graphs.now pairs }
     ensures holds { HoldsBans graphs.now (O.known oracle.old) (O.known oracle.new) ledger.old ledger.new book.old book.new result }
-    ensures covers { IfOk result (λ found. IfSome found (Covers book.new (one ∷ other ∷ output ∷ []))) }
+    ensures covers { IfOk result (λ found. IfSome found (Covers book.new (all_of pairs))) }
 {
+    let SwapPairs { one, other, output } = pairs;
     if (one.from == other.from) | (one.to == other.to) {
         return Ok(None);
     }
     if one.from < other.from {
-        by_values(
-            alloc, graphs, oracle, one, other, output, seen, book, ledger,
-        )
-    } else {
-        by_values(
-            alloc, graphs, oracle, other, one, output, seen, book, ledger,
-        )
+        return by_values(alloc, graphs, oracle, pairs, seen, book, ledger);
     }
+    let exchanged = SwapPairs {
+        one: other,
+        other: one,
+        output,
+    };
+    by_values(alloc, graphs, oracle, exchanged, seen, book, ledger)
 }
 
 // Holds a ban of the pairs, of which the first input's comes first, by the claim of values that is worth to be asked.
@@ -69,49 +70,34 @@ fn by_values<O: Oracle>(
     alloc: Global,
     graphs: &PairableGraphs<'_>,
     oracle: &mut O,
-    one: Pair,
-    other: Pair,
-    output: Pair,
+    pairs: SwapPairs,
     seen: &mut Seen,
     book: &mut BanBook,
     ledger: &mut Ledger,
 ) -> Result<Option<u64>, Stop>
     requires may { MayHold graphs.now (O.known oracle.old) ledger.old book.old }
-    requires one { one.kind ≡ Input }
-    requires other { other.kind ≡ Input }
-    requires output { output.kind ≡ Output }
-    requires one_known { IsKnown graphs.now one }
-    requires other_known { IsKnown graphs.now other }
-    requires output_known { IsKnown graphs.now output }
-    requires before { one.from < other.from }
-    requires apart { one.to ≢ other.to }
+    requires pairs { AreSwapPairs graphs.now pairs }
+    requires before { pairs.one.from < pairs.other.from }
+    requires apart { pairs.one.to ≢ pairs.other.to }
     ensures holds { HoldsBans graphs.now (O.known oracle.old) (O.known oracle.new) ledger.old ledger.new book.old book.new result }
-    ensures covers { IfOk result (λ found. IfSome found (Covers book.new (one ∷ other ∷ output ∷ []))) }
+    ensures covers { IfOk result (λ found. IfSome found (Covers book.new (all_of pairs))) }
 {
     seen.look_at_swaps(alloc, graphs)?;
-    let Some(values) = values_to_ask(one, other, output, seen) else {
+    let Some(values) = values_to_ask(pairs, seen) else {
         return Ok(None);
     };
-    let carried = carried(one, other, output, values);
-    hold_by(
-        alloc,
-        graphs,
-        oracle,
-        &[one, other, output],
-        carried,
-        seen,
-        book,
-        ledger,
-    )
+    let carried = carried(pairs, values);
+    let pairs = [pairs.one, pairs.other, pairs.output];
+    hold_by(alloc, graphs, oracle, &pairs, carried, seen, book, ledger)
 }
 
 /// All values of two inputs.
 static VALUES: [(bool, bool); 4] = [(false, true), (true, false), (false, false), (true, true)];
 
 // The values whose claim vectors break for one circuit and not for the other one, for which it isn't unateness that keeps it.
-fn values_to_ask(one: Pair, other: Pair, output: Pair, seen: &Seen) -> Option<(bool, bool)> {
+fn values_to_ask(pairs: SwapPairs, seen: &Seen) -> Option<(bool, bool)> {
     for values in VALUES.iter() {
-        if is_worth(carried(one, other, output, *values), seen) {
+        if is_worth(carried(pairs, *values), seen) {
             return Some(*values);
         }
     }
@@ -130,18 +116,19 @@ fn is_worth(carried: Carried, seen: &Seen) -> bool {
 }
 
 // The claim of the inputs with values, and its image.
-fn carried(one: Pair, other: Pair, output: Pair, values: (bool, bool)) -> Carried
+fn carried(pairs: SwapPairs, values: (bool, bool)) -> Carried
     ensures claim { result.claim ≡ record {
       side = AnySide.First;
-      output = output.from;
-      shape = AnyShape.Swap one.from other.from values.0 values.1;
+      output = pairs.output.from;
+      shape = AnyShape.Swap pairs.one.from pairs.other.from values.0 values.1;
     } }
     ensures image { result.image ≡ record {
       side = AnySide.Second;
-      output = output.to;
-      shape = two_inputs one.to (moved_value output.flip one values.0) other.to (moved_value output.flip other values.1);
+      output = pairs.output.to;
+      shape = two_inputs pairs.one.to (moved_value pairs.output.flip pairs.one values.0) pairs.other.to (moved_value pairs.output.flip pairs.other values.1);
     } }
 {
+    let SwapPairs { one, other, output } = pairs;
     let (first, second) = values;
     Carried {
         claim: Claim {

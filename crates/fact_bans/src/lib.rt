@@ -16,7 +16,7 @@ mod tallies;
 mod told;
 
 pub use claim_rows::Unlike;
-pub use exchanges::swap_mismatch;
+pub use exchanges::{SwapPairs, swap_mismatch};
 pub use mismatches::{mismatch, tell_apart};
 pub use refusal::refuse;
 pub use rows::claims_of;

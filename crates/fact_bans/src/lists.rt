@@ -5,7 +5,7 @@ ghost use Rattle.net_core.specs.Sides.{graph_of};
 ghost use Rattle.claim_core.specs.Images.{one_input};
 ghost use Rattle.account_core.specs.Facts.{AreFacts};
 ghost use Rattle.oracle_core.specs.Oracles.{Serves, Suits};
-ghost use Rattle.fact_bans.specs.Wanted.{ListsWanted};
+ghost use Rattle.fact_bans.specs.Wanted.{ListsWanted, MayList};
 
 use crate::seen::Seen;
 use crate::told::add_fact;
@@ -83,11 +83,7 @@ fn add<O: Oracle>(
     seen: &mut Seen,
     ledger: &mut Ledger,
 ) -> Result<bool, Stop>
-    requires lawful { AreFacts (O.known oracle.old).graphs (O.known oracle.old).facts }
-    requires output { wanted.output < length (graph_of (O.known oracle.old).graphs wanted.side).outputs }
-    requires input { input < (graph_of (O.known oracle.old).graphs wanted.side).inputs }
-    requires suits { Suits (O.known oracle.old) ledger.old }
-    requires lists { ListsWanted (O.known oracle.old) wanted input numbers.old }
+    requires may { MayList (O.known oracle.old) ledger.old wanted input numbers.old }
     ensures serves { Serves (O.known oracle.old) (O.known oracle.new) ledger.old ledger.new result }
     ensures lists { IfOk result (λ added. IsTrue added → ListsWanted (O.known oracle.new) wanted (input + 1) numbers.new) }
 {
@@ -112,11 +108,7 @@ fn add_both<O: Oracle>(
     ledger: &mut Ledger,
 ) -> Result<bool, Stop>
     requires both { wanted.both ≡ true }
-    requires lawful { AreFacts (O.known oracle.old).graphs (O.known oracle.old).facts }
-    requires output { wanted.output < length (graph_of (O.known oracle.old).graphs wanted.side).outputs }
-    requires input { input < (graph_of (O.known oracle.old).graphs wanted.side).inputs }
-    requires suits { Suits (O.known oracle.old) ledger.old }
-    requires lists { ListsWanted (O.known oracle.old) wanted input numbers.old }
+    requires may { MayList (O.known oracle.old) ledger.old wanted input numbers.old }
     ensures serves { Serves (O.known oracle.old) (O.known oracle.new) ledger.old ledger.new result }
     ensures lists { IfOk result (λ added. IsTrue added → ListsWanted (O.known oracle.new) wanted (input + 1) numbers.new) }
 {

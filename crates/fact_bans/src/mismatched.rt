@@ -1,14 +1,12 @@
 //! Bans by a claim of the first circuit that is decided otherwise than the one that pairs carry it to.
 
-ghost use Rattle.std.specs.Prelude.{All, IfOk, IfSome, map};
-ghost use Rattle.claim_core.specs.Claims.{IsClaim};
+ghost use Rattle.std.specs.Prelude.{IfOk, IfSome, map};
 ghost use Rattle.account_core.specs.Facts.{AreFacts};
 ghost use Rattle.account_core.specs.Given.{decided_by};
-ghost use Rattle.account_core.specs.Mismatches.{IsImage};
-ghost use Rattle.account_core.specs.Ports.{AreOrdered, IsKnown};
 ghost use Rattle.ban_book.specs.Covering.{Covers};
 ghost use Rattle.oracle_core.specs.Oracles.{Serves, Suits};
 ghost use Rattle.claim_rows.specs.Mismatched.{IsBanBy, mismatch_of};
+ghost use Rattle.fact_bans.specs.Carrying.{Carry};
 ghost use Rattle.fact_bans.specs.Serving.{HoldsBans, MayHold};
 
 use crate::seen::Seen;
@@ -35,11 +33,7 @@ pub(crate) fn hold_by<O: Oracle>(
     ledger: &mut Ledger,
 ) -> Result<Option<u64>, Stop>
     requires may { MayHold graphs.now (O.known oracle.old) ledger.old book.old }
-    requires known { All (IsKnown graphs.now) pairs.now }
-    requires ordered { AreOrdered pairs.now }
-    requires image { IsImage pairs.now carried.claim carried.image }
-    requires claim_placed { IsClaim graphs.now carried.claim }
-    requires image_placed { IsClaim graphs.now carried.image }
+    requires carry { Carry graphs.now pairs.now carried }
     ensures holds { HoldsBans graphs.now (O.known oracle.old) (O.known oracle.new) ledger.old ledger.new book.old book.new result }
     ensures covers { IfOk result (λ found. IfSome found (Covers book.new pairs.now)) }
 {
@@ -61,11 +55,7 @@ pub(crate) fn unlike_by<O: Oracle>(
     ledger: &mut Ledger,
 ) -> Result<Option<Unlike>, Stop>
     requires lawful { AreFacts (O.known oracle.old).graphs (O.known oracle.old).facts }
-    requires known { All (IsKnown (O.known oracle.old).graphs) pairs.now }
-    requires ordered { AreOrdered pairs.now }
-    requires image { IsImage pairs.now carried.claim carried.image }
-    requires claim_placed { IsClaim (O.known oracle.old).graphs carried.claim }
-    requires image_placed { IsClaim (O.known oracle.old).graphs carried.image }
+    requires carry { Carry (O.known oracle.old).graphs pairs.now carried }
     requires suits { Suits (O.known oracle.old) ledger.old }
     ensures serves { Serves (O.known oracle.old) (O.known oracle.new) ledger.old ledger.new result }
     ensures shown { IfOk result (λ found. IfSome found (λ unlike.

@@ -1,13 +1,13 @@
 //! Bans of an output's pair and an input's, by a claim of one input that fails where its image holds.
 
-ghost use Rattle.std.specs.Prelude.{◌≡◌, ◌∷◌, [], IfOk, IfSome, map};
+ghost use Rattle.std.specs.Prelude.{◌∷◌, [], IfOk, IfSome, map};
 ghost use Rattle.circuits.specs.declared.port.PortKind.TheVariants.{Input, Output};
 ghost use Rattle.account_core.specs.Given.{decided_by};
-ghost use Rattle.account_core.specs.Ports.{IsKnown};
 ghost use Rattle.ban_book.specs.Covering.{Covers};
-ghost use Rattle.oracle_core.specs.Oracles.{Serves, Suits};
+ghost use Rattle.oracle_core.specs.Oracles.{Serves};
 ghost use Rattle.claim_rows.specs.Mismatched.{IsBanBy, mismatch_of};
-ghost use Rattle.fact_bans.specs.Serving.{HoldsBans, MayHold};
+ghost use Rattle.fact_bans.specs.Carrying.{IsPairOf};
+ghost use Rattle.fact_bans.specs.Serving.{HoldsBans, MayAsk, MayHold};
 
 use crate::mismatched::{hold_by, unlike_by};
 use crate::seen::Seen;
@@ -38,10 +38,8 @@ pub fn mismatch<O: Oracle>(
     ledger: &mut Ledger,
 ) -> Result<Option<u64>, Stop>
     requires may { MayHold graphs.now (O.known oracle.old) ledger.old book.old }
-    requires input { input.kind ≡ Input }
-    requires output { output.kind ≡ Output }
-    requires input_known { IsKnown graphs.now input }
-    requires output_known { IsKnown graphs.now output }
+    requires input { IsPairOf graphs.now Input input }
+    requires output { IsPairOf graphs.now Output output }
     ensures holds { HoldsBans graphs.now (O.known oracle.old) (O.known oracle.new) ledger.old ledger.new book.old book.new result }
     ensures covers { IfOk result (λ found. IfSome found (Covers book.new (input ∷ output ∷ []))) }
 {
@@ -76,12 +74,9 @@ pub fn tell_apart<O: Oracle>(
     seen: &mut Seen,
     ledger: &mut Ledger,
 ) -> Result<Option<Unlike>, Stop>
-    requires graphs { graphs.now ≡ (O.known oracle.old).graphs }
-    requires suits { Suits (O.known oracle.old) ledger.old }
-    requires input { input.kind ≡ Input }
-    requires output { output.kind ≡ Output }
-    requires input_known { IsKnown graphs.now input }
-    requires output_known { IsKnown graphs.now output }
+    requires may { MayAsk graphs.now (O.known oracle.old) ledger.old }
+    requires input { IsPairOf graphs.now Input input }
+    requires output { IsPairOf graphs.now Output output }
     ensures serves { Serves (O.known oracle.old) (O.known oracle.new) ledger.old ledger.new result }
     ensures shown { IfOk result (λ found. IfSome found (λ unlike. IsBanBy graphs.now
         (map decided_by (O.known oracle.new).facts) (input ∷ output ∷ []) (mismatch_of (input ∷ output ∷ []) unlike))) }

@@ -1,10 +1,10 @@
 //! A refusal by counts alone: outputs that all must go to others with which they don't fit.
 
-ghost use Rattle.std.specs.Prelude.{◌≡◌, ◌∷◌, [], All, IfOk, IfSome};
+ghost use Rattle.std.specs.Prelude.{◌∷◌, [], All, IfOk, IfSome};
 ghost use Rattle.circuits.specs.declared.port.PortKind.TheVariants.{Output};
-ghost use Rattle.account_core.specs.Ports.{IsKnown};
 ghost use Rattle.account_core.specs.Shown.{IsEmptyBan};
 ghost use Rattle.ban_book.specs.Covering.{Covers};
+ghost use Rattle.fact_bans.specs.Carrying.{IsPairOf};
 ghost use Rattle.fact_bans.specs.Referred.{AreReferred};
 ghost use Rattle.fact_bans.specs.Serving.{HoldsBans, MayHold};
 
@@ -100,8 +100,7 @@ fn bans_of<O: Oracle>(
     ledger: &mut Ledger,
 ) -> Result<Option<Items<Option<u64>>>, Stop>
     requires may { MayHold graphs.now (O.known oracle.old) ledger.old book.old }
-    requires outputs { All (λ pair. pair.kind ≡ Output) ways.now }
-    requires known { All (IsKnown graphs.now) ways.now }
+    requires outputs { All (IsPairOf graphs.now Output) ways.now }
     ensures holds { HoldsBans graphs.now (O.known oracle.old) (O.known oracle.new) ledger.old ledger.new book.old book.new result }
     ensures referred { IfOk result (λ found. IfSome found (AreReferred book.new ways.now)) }
 {
@@ -126,8 +125,7 @@ fn ban_of<O: Oracle>(
     ledger: &mut Ledger,
 ) -> Result<Option<u64>, Stop>
     requires may { MayHold graphs.now (O.known oracle.old) ledger.old book.old }
-    requires output { pair.kind ≡ Output }
-    requires known { IsKnown graphs.now pair }
+    requires outputs { IsPairOf graphs.now Output pair }
     ensures holds { HoldsBans graphs.now (O.known oracle.old) (O.known oracle.new) ledger.old ledger.new book.old book.new result }
     ensures covers { IfOk result (λ found. IfSome found (Covers book.new (pair ∷ []))) }
 {

@@ -5,6 +5,7 @@ ghost use Rattle.net_core.specs.Sides.{graph_of};
 ghost use Rattle.account_core.specs.Given.{decided_by};
 ghost use Rattle.oracle_core.specs.Oracles.{Serves, Suits};
 ghost use Rattle.claim_rows.specs.Rows.{IsRow, IsTold};
+ghost use Rattle.fact_bans.specs.Serving.{MayAsk};
 
 use crate::seen::Seen;
 use crate::told::decide;
@@ -33,9 +34,8 @@ pub fn claims_of<O: Oracle>(
     seen: &mut Seen,
     ledger: &mut Ledger,
 ) -> Result<Items<InputTold>, Stop>
-    requires graphs { graphs.now ≡ (O.known oracle.old).graphs }
+    requires may { MayAsk graphs.now (O.known oracle.old) ledger.old }
     requires output { output < length (graph_of graphs.now side).outputs }
-    requires suits { Suits (O.known oracle.old) ledger.old }
     ensures serves { Serves (O.known oracle.old) (O.known oracle.new) ledger.old ledger.new result }
     ensures row { IfOk result (IsRow (map decided_by (O.known oracle.new).facts) side output) }
     ensures whole { IfOk result (λ row. length row ≡ (graph_of graphs.now side).inputs) }

@@ -2,14 +2,13 @@
 
 ghost use Rattle.std.specs.Prelude.{◌≡◌, ◌+◌, ◌/◌, ◌∷◌, [], ◌<◌, IfOk, IfSome, IsTrue, length, map};
 ghost use Rattle.circuits.specs.declared.port.PortKind.TheVariants.{Output};
-ghost use Rattle.account_core.specs.Facts.{AreFacts};
 ghost use Rattle.account_core.specs.Given.{decided_by};
-ghost use Rattle.account_core.specs.Ports.{IsKnown};
 ghost use Rattle.account_core.specs.Tallies.{port_on};
 ghost use Rattle.ban_book.specs.Covering.{Covers};
-ghost use Rattle.oracle_core.specs.Oracles.{Serves, Suits};
+ghost use Rattle.oracle_core.specs.Oracles.{Serves};
 ghost use Rattle.claim_rows.specs.Listed.{AreLists};
-ghost use Rattle.fact_bans.specs.Serving.{HoldsBans, MayHold};
+ghost use Rattle.fact_bans.specs.Carrying.{IsPairOf};
+ghost use Rattle.fact_bans.specs.Serving.{HoldsBans, MayAsk, MayHold};
 
 use account_core::{other_side, port_on};
 use crate::lists::{Wanted, list};
@@ -42,8 +41,7 @@ pub fn tally<O: Oracle>(
     ledger: &mut Ledger,
 ) -> Result<Option<u64>, Stop>
     requires may { MayHold graphs.now (O.known oracle.old) ledger.old book.old }
-    requires output { pair.kind ≡ Output }
-    requires known { IsKnown graphs.now pair }
+    requires outputs { IsPairOf graphs.now Output pair }
     ensures holds { HoldsBans graphs.now (O.known oracle.old) (O.known oracle.new) ledger.old ledger.new book.old book.new result }
     ensures covers { IfOk result (λ found. IfSome found (Covers book.new (pair ∷ []))) }
 {
@@ -66,8 +64,7 @@ fn tally_by<O: Oracle>(
     ledger: &mut Ledger,
 ) -> Result<Option<u64>, Stop>
     requires may { MayHold graphs.now (O.known oracle.old) ledger.old book.old }
-    requires output { pair.kind ≡ Output }
-    requires known { IsKnown graphs.now pair }
+    requires outputs { IsPairOf graphs.now Output pair }
     ensures holds { HoldsBans graphs.now (O.known oracle.old) (O.known oracle.new) ledger.old ledger.new book.old book.new result }
     ensures covers { IfOk result (λ found. IfSome found (Covers book.new (pair ∷ []))) }
 {
@@ -93,15 +90,13 @@ fn ask<O: Oracle>(
     seen: &mut Seen,
     ledger: &mut Ledger,
 ) -> Result<Option<Lists>, Stop>
-    requires graphs { graphs.now ≡ (O.known oracle.old).graphs }
-    requires lawful { AreFacts graphs.now (O.known oracle.old).facts }
-    requires output { pair.kind ≡ Output }
-    requires known { IsKnown graphs.now pair }
-    requires suits { Suits (O.known oracle.old) ledger.old }
+    requires may { MayAsk graphs.now (O.known oracle.old) ledger.old }
+    requires outputs { IsPairOf graphs.now Output pair }
     ensures serves { Serves (O.known oracle.old) (O.known oracle.new) ledger.old ledger.new result }
     ensures lists { IfOk result (λ found. IfSome found
         (AreLists (map decided_by (O.known oracle.new).facts) pair plan.now.side plan.now.holds)) }
 {
+    let _facts = oracle.facts();
     let first = wanted_on(plan.side, pair, plan.holds, false);
     let inputs = graphs.side(first.side).inputs();
     let Some(one) = list(alloc, oracle, first, inputs, &plan.one, seen, ledger)? else {

@@ -65,30 +65,30 @@ impl Joint {
     /// Only when out of memory.
     pub(crate) fn of(alloc: Global, gates: &[LitGate]) -> Result<Option<Joint>, AllocError> {
         let inputs = inputs_of(alloc, gates)?;
-        let mut parts = Parts::new(alloc)?;
-        parts.add_all(&inputs, gates)?;
+        let mut parts = Parts::new(alloc, &inputs)?;
+        parts.add_gates(gates)?;
         let outputs = plain_literals(alloc, parts.signals.len())?;
         Ok(parts.into_joint(inputs.len(), outputs))
     }
 }
 
 impl Parts {
-    /// The constant: signal 0 is 0, and variable 0 is true.
-    fn new(alloc: Global) -> Result<Parts, AllocError> {
+    // The constant, and inputs: signal 0 is 0, and variable 0 is true.
+    fn new(alloc: Global, inputs: &[SatLit]) -> Result<Parts, AllocError> {
         let mut parts = Parts {
             numbers: IndexMap::new(alloc),
             signals: Vec::new(alloc),
             gates: Vec::new(alloc),
         };
         parts.add(SatLit::of(0, false), 0)?;
+        for input in inputs.iter() {
+            parts.add(*input, 0)?;
+        }
         Ok(parts)
     }
 
-    // Adds inputs, and gates each of which stands after its operands.
-    fn add_all(&mut self, inputs: &[SatLit], gates: &[LitGate]) -> Result<(), AllocError> {
-        for input in inputs.iter() {
-            self.add(*input, 0)?;
-        }
+    // Adds gates each of which stands after its operands.
+    fn add_gates(&mut self, gates: &[LitGate]) -> Result<(), AllocError> {
         for gate in gates.iter() {
             self.add_gate(*gate)?;
         }

@@ -1,10 +1,11 @@
 //! Bans that decided claims show of held pairs.
 
-ghost use Rattle.std.specs.Prelude.{◌≡◌, ◌<◌, Contains};
+ghost use Rattle.std.specs.Prelude.{◌<◌, Contains};
 ghost use Rattle.circuits.specs.declared.port.PortKind.TheVariants.{Input, Output};
 ghost use Rattle.account_core.specs.Ports.{IsKnown};
 ghost use Rattle.class_refine.specs.Trails.{held_in};
 ghost use Rattle.conflict_core.specs.Conflicts.{FitPorts};
+ghost use Rattle.fact_bans.specs.Carrying.{IsPairOf};
 ghost use Rattle.match_search.specs.States.{GoesOn, MayGoOn, MayStep, Steps, lent};
 
 use crate::session::Session;
@@ -116,10 +117,8 @@ fn ask_mismatch<O: Oracle>(
     output: Pair,
 ) -> Result<Option<u64>, Stop>
     requires may { MayGoOn graphs.now (lent O.known session.old) }
-    requires input { input.kind ≡ Input }
-    requires output { output.kind ≡ Output }
-    requires input_known { IsKnown graphs.now input }
-    requires output_known { IsKnown graphs.now output }
+    requires input { IsPairOf graphs.now Input input }
+    requires output { IsPairOf graphs.now Output output }
     ensures { GoesOn graphs.now (lent O.known session.old) (lent O.known session.new) result }
 {
     mismatch(

@@ -2,7 +2,7 @@
 
 ghost use Rattle.std.specs.Prelude.{◌≡◌, ◌<◌, [], IfNone, IfOk, IfSome, OnOk, length};
 ghost use Rattle.account_core.specs.Facts.{AreFacts};
-ghost use Rattle.oracle_core.specs.Oracles.{IsDifference, Serves, Suits};
+ghost use Rattle.oracle_core.specs.Oracles.{Serves, Suits};
 ghost use Rattle.circuits.specs.Matches.{HavePorts};
 ghost use Rattle.account_core.specs.Shown.{AreLogs};
 ghost use Rattle.match_search.specs.Founds.{IsComparison};
@@ -10,6 +10,7 @@ ghost use Rattle.port_sides.specs.Held.{AreHeld, IsWhole};
 ghost use Rattle.fact_bans.specs.Serving.{HoldsBans, MayHold};
 ghost use Rattle.match_search.specs.States.{IsSettled};
 ghost use Rattle.table_guess.specs.Trials.{AreTrials};
+ghost use Rattle.vector_bans.specs.Differences.{Differs};
 
 use crate::ahead::Settled;
 use crate::aids::Aids;
@@ -24,15 +25,8 @@ use oracle_core::{Compared, Oracle};
 use port_sides::PairableGraphs;
 use query_core::Ledger;
 use std::alloc::Global;
-use vector_bans::exclude;
+use vector_bans::{Difference, exclude};
 use watch_core::Stage;
-
-/// An output that differs from its partner, and a vector on which it does.
-#[derive(Drop)]
-pub(crate) struct Difference {
-    pub(crate) output: u32,
-    pub(crate) vector: Bits,
-}
 
 /// Compares all outputs under the pairs that are held, one of each port. Where one differs, it keeps the vector, and holds a
 /// ban of which all pairs are held.
@@ -66,8 +60,7 @@ pub(crate) fn compare_whole<O: Oracle>(
                 graphs,
                 oracle,
                 &matching,
-                found.output,
-                &found.vector,
+                &found,
                 &mut aids.seen,
                 book,
                 ledger,
@@ -94,10 +87,7 @@ pub(crate) fn compare_all<O: Oracle>(
     requires none { logs.old ≡ [] }
     ensures serves { Serves (O.known oracle.old) (O.known oracle.new) ledger.old ledger.new result }
     ensures same { IfOk result (λ found. IfNone found (AreLogs graphs.now matching.now logs.new)) }
-    ensures differs { IfOk result (λ found. IfSome found
-        (λ difference. difference.output < length graphs.now.first.outputs)) }
-    ensures vector { IfOk result (λ found. IfSome found
-        (λ difference. IsDifference graphs.now matching.now difference.output difference.vector)) }
+    ensures differs { IfOk result (λ found. IfSome found (Differs graphs.now matching.now)) }
 {
     let outputs = graphs.first().outputs().len() as u32;
     for output in 0..outputs {

@@ -1,16 +1,16 @@
 //! Bans that claims of two inputs show of the newest pair.
 
-ghost use Rattle.std.specs.Prelude.{◌≡◌, ◌∷◌, [], All, Contains, IfOk, IfSome, List};
+ghost use Rattle.std.specs.Prelude.{All, Contains, IfOk, IfSome, List};
 ghost use Rattle.circuits.specs.declared.port.Pair.{Pair as AnyPair};
-ghost use Rattle.circuits.specs.declared.port.PortKind.TheVariants.{Input, Output};
 ghost use Rattle.account_core.specs.Ports.{IsKnown};
 ghost use Rattle.ban_book.specs.Covering.{Covers};
+ghost use Rattle.fact_bans.specs.Carrying.{AreSwapPairs, all_of};
 ghost use Rattle.match_search.specs.States.{GoesOn, MayGoOn, lent};
 
 use crate::session::Session;
 use circuits::{Pair, PortKind};
 use cnf_core::Stop;
-use fact_bans::swap_mismatch;
+use fact_bans::{SwapPairs, swap_mismatch};
 use oracle_core::Oracle;
 use port_sides::PairableGraphs;
 
@@ -84,10 +84,20 @@ fn exclude_three<O: Oracle>(
 {
     match (one.kind, other.kind, third.kind) {
         (PortKind::Input, PortKind::Input, PortKind::Output) => {
-            exclude_swap(graphs, session, one, other, third)
+            let pairs = SwapPairs {
+                one,
+                other,
+                output: third,
+            };
+            exclude_swap(graphs, session, pairs)
         }
         (PortKind::Output, PortKind::Input, PortKind::Input) => {
-            exclude_swap(graphs, session, other, third, one)
+            let pairs = SwapPairs {
+                one: other,
+                other: third,
+                output: one,
+            };
+            exclude_swap(graphs, session, pairs)
         }
         _ => Ok(None),
     }
@@ -97,27 +107,18 @@ fn exclude_three<O: Oracle>(
 fn exclude_swap<O: Oracle>(
     graphs: &PairableGraphs<'_>,
     session: &mut Session<'_, O>,
-    one: Pair,
-    other: Pair,
-    output: Pair,
+    pairs: SwapPairs,
 ) -> Result<Option<u64>, Stop>
     requires may { MayGoOn graphs.now (lent O.known session.old) }
-    requires one { one.kind ≡ Input }
-    requires other { other.kind ≡ Input }
-    requires output { output.kind ≡ Output }
-    requires one_known { IsKnown graphs.now one }
-    requires other_known { IsKnown graphs.now other }
-    requires output_known { IsKnown graphs.now output }
+    requires pairs { AreSwapPairs graphs.now pairs }
     ensures goes_on { GoesOn graphs.now (lent O.known session.old) (lent O.known session.new) result }
-    ensures covers { IfOk result (λ found. IfSome found (Covers session.new.book.now (one ∷ other ∷ output ∷ []))) }
+    ensures covers { IfOk result (λ found. IfSome found (Covers session.new.book.now (all_of pairs))) }
 {
     swap_mismatch(
         session.alloc,
         graphs,
         session.oracle,
-        one,
-        other,
-        output,
+        pairs,
         &mut session.aids.seen,
         session.book,
         session.ledger,

@@ -1,12 +1,13 @@
 //! Ways that claims of one input tell from a held pair.
 
-ghost use Rattle.std.specs.Prelude.{◌≡◌, IfOk, IfSome, OnOk, map};
+ghost use Rattle.std.specs.Prelude.{IfOk, IfSome, OnOk, map};
 ghost use Rattle.account_core.specs.Given.{decided_by};
 ghost use Rattle.account_core.specs.Ports.{IsKnown};
 ghost use Rattle.class_refine.specs.declared.entry.Fate.TheVariants.{Deleted};
 ghost use Rattle.class_refine.specs.declared.entry.Reason.TheVariants.{Mismatch};
 ghost use Rattle.conflict_core.specs.Grounded.{IsGrounded};
-ghost use Rattle.oracle_core.specs.Oracles.{Serves, Suits};
+ghost use Rattle.oracle_core.specs.Oracles.{Serves};
+ghost use Rattle.fact_bans.specs.Serving.{MayAsk};
 ghost use Rattle.match_search.specs.States.{Deletes, MayDelete};
 
 use account_core::{Ban, port_on};
@@ -206,8 +207,7 @@ fn unlike_beside<O: Oracle>(
     seen: &mut Seen,
     ledger: &mut Ledger,
 ) -> Result<Option<Unlike>, Stop>
-    requires graphs { graphs.now ≡ (O.known oracle.old).graphs }
-    requires suits { Suits (O.known oracle.old) ledger.old }
+    requires may { MayAsk graphs.now (O.known oracle.old) ledger.old }
     requires known { IsKnown graphs.now pair }
     requires way { IsKnown graphs.now way }
     ensures serves { Serves (O.known oracle.old) (O.known oracle.new) ledger.old ledger.new result }

@@ -3,7 +3,8 @@
 ghost use Rattle.std.specs.Prelude.{◌≡◌, ◌<◌, [], IfOk, length, map, slice_index_or};
 ghost use Rattle.net_core.specs.Sides.{graph_of};
 ghost use Rattle.account_core.specs.Given.{decided_by};
-ghost use Rattle.oracle_core.specs.Oracles.{Serves, Suits};
+ghost use Rattle.oracle_core.specs.Oracles.{Serves};
+ghost use Rattle.fact_bans.specs.Serving.{MayAsk};
 ghost use Rattle.pair_refine.specs.Rows.{AreAllRows, AreRowsOf};
 
 use crate::swap_index::swaps_of;
@@ -46,8 +47,7 @@ pub(crate) fn rows_of<O: Oracle>(
     seen: &mut Seen,
     ledger: &mut Ledger,
 ) -> Result<Rows, Stop>
-    requires graphs { graphs.now ≡ (O.known oracle.old).graphs }
-    requires suits { Suits (O.known oracle.old) ledger.old }
+    requires may { MayAsk graphs.now (O.known oracle.old) ledger.old }
     ensures serves { Serves (O.known oracle.old) (O.known oracle.new) ledger.old ledger.new result }
     ensures rows { IfOk result (AreAllRows graphs.now (map decided_by (O.known oracle.new).facts)) }
 {
@@ -71,8 +71,7 @@ fn side_rows<O: Oracle>(
     seen: &mut Seen,
     ledger: &mut Ledger,
 ) -> Result<Items<Items<InputTold>>, Stop>
-    requires graphs { graphs.now ≡ (O.known oracle.old).graphs }
-    requires suits { Suits (O.known oracle.old) ledger.old }
+    requires may { MayAsk graphs.now (O.known oracle.old) ledger.old }
     ensures serves { Serves (O.known oracle.old) (O.known oracle.new) ledger.old ledger.new result }
     ensures rows { IfOk result (AreRowsOf graphs.now (map decided_by (O.known oracle.new).facts) side
         (length (graph_of graphs.now side).outputs)) }

@@ -6,17 +6,25 @@ use Rattle.circuits.specs.declared.port.Pair.{Pair}
 use Rattle.circuits.specs.declared.port.PortKind.{PortKind}
 use Rattle.circuits.specs.declared.port.PortKind.TheVariants.{Input}
 use Rattle.net_core.specs.Sides.{Graphs}
+use Rattle.net_core.specs.declared.matching.Matching.{Matching}
 use Rattle.word_sim.specs.declared.tri.Tri.{Tri}
 use Rattle.word_sim.specs.declared.tri.Tri.TheVariants.{X}
 use Rattle.account_core.specs.Ports.{AreOrdered, IsKnown}
 use Rattle.account_core.specs.Vectors.{first_value, second_value, signed}
 use Rattle.port_sides.specs.Held.{IsPart}
 use Rattle.claim_rows.specs.Rows.{HasOneOutput}
+use Rattle.oracle_core.specs.Oracles.{IsDifference}
+use Rattle.vector_bans.specs.declared.difference.Difference.{Difference}
 use Rattle.vector_bans.specs.declared.difference.Shown.{Shown}
 
 -- the pair of a port whose entries are these
 abbrev pub pair_from : PortKind → List (ℕ × Bool) → ℕ → Pair
 pair_from kind entries port = record { kind = kind; from = port; to = place_of entries port; flip = sign_of entries port }
+
+-- An output hasn't the bit that a matching asks of it, on a vector.
+pub record Differs (graphs : Graphs) (matching : Matching) (difference : Difference) : Type 0 where
+  pub output : difference.output < length graphs.first.outputs
+  pub vector : IsDifference graphs matching difference.output difference.vector
 
 -- The partner of an output has a definite value, and not the one that the pair asks of it.
 pub record IsWrong (graphs : Graphs) (pairs : List Pair) (pair : Pair) (values : List Tri) : Type 0 where

@@ -5,11 +5,10 @@ ghost use Rattle.circuits.specs.declared.port.Pair.{Pair as AnyPair};
 ghost use Rattle.circuits.specs.declared.port.PortKind.TheVariants.{Input};
 ghost use Rattle.circuits.specs.Matches.{HavePorts};
 ghost use Rattle.claim_core.specs.Images.{Extends};
-ghost use Rattle.oracle_core.specs.Oracles.{IsDifference};
 ghost use Rattle.account_core.specs.Ports.{IsKnown};
 ghost use Rattle.ban_book.specs.Covering.{Covers};
 ghost use Rattle.word_sim.specs.ThreeValues.{of_bit};
-ghost use Rattle.vector_bans.specs.Differences.{pair_from, pairs_from, AreShown, IsLeftOut, IsShown, IsWrong, MayTry};
+ghost use Rattle.vector_bans.specs.Differences.{pair_from, pairs_from, AreShown, IsLeftOut, IsShown, IsWrong, MayTry, Differs};
 ghost use Rattle.port_sides.specs.Held.{IsWhole};
 ghost use Rattle.fact_bans.specs.Serving.{HoldsBans, MayHold};
 
@@ -38,6 +37,13 @@ pub(crate) struct Shown {
     pub(crate) values: Items<Tri>,
 }
 
+/// An output that differs from its partner, and a vector on which it does.
+#[derive(Debug, Drop)]
+pub struct Difference {
+    pub output: u32,
+    pub vector: Bits,
+}
+
 /// Holds a ban of pairs that a matching has, an output's and some of inputs', where the output differs from its partner on a
 /// vector of the first circuit's inputs, and answers its number. The claims of one input of both outputs are decided. Where
 /// these show a ban of such pairs, that is held, and else the vector's.
@@ -50,38 +56,34 @@ pub fn exclude<O: Oracle>(
     graphs: &PairableGraphs<'_>,
     oracle: &mut O,
     matching: &Matching,
-    output: u32,
-    vector: &Bits,
+    difference: &Difference,
     seen: &mut Seen,
     book: &mut BanBook,
     ledger: &mut Ledger,
 ) -> Result<u64, Stop>
     requires may { MayHold graphs.now (O.known oracle.old) ledger.old book.old }
     requires ports { HavePorts graphs.now.first graphs.now.second matching.now.inputs matching.now.outputs }
-    requires output { output < length graphs.now.first.outputs }
-    requires differs { IsDifference graphs.now matching.now output vector.now }
+    requires differs { Differs graphs.now matching.now difference.now }
     ensures holds { HoldsBans graphs.now (O.known oracle.old) (O.known oracle.new) ledger.old ledger.new book.old book.new result }
     ensures covers { (held : List AnyPair)
         → IsWhole graphs.now held
         → Extends held matching.now.inputs matching.now.outputs
         → IfOk result (Covers book.new held) }
 {
-    let shown = difference(alloc, graphs, matching, output, vector)?;
+    let shown = shown_by(alloc, graphs, matching, difference)?;
     hold_shown(alloc, graphs, oracle, shown, seen, book, ledger)
 }
 
 // The pairs on which a vector shows that an output differs from the one that a matching sends it to. The pairs of inputs that the
 // difference doesn't need are left out.
-fn difference(
+fn shown_by(
     alloc: Global,
     graphs: &PairableGraphs<'_>,
     matching: &Matching,
-    output: u32,
-    vector: &Bits,
+    difference: &Difference,
 ) -> Result<Shown, AllocError>
     requires ports { HavePorts graphs.now.first graphs.now.second matching.now.inputs matching.now.outputs }
-    requires output { output < length graphs.now.first.outputs }
-    requires differs { IsDifference graphs.now matching.now output vector.now }
+    requires differs { Differs graphs.now matching.now difference.now }
     ensures shown { IfOk result (λ shown. AreShown graphs.now shown.pairs shown) }
     ensures held { (held : List AnyPair)
         → IsWhole graphs.now held
@@ -90,8 +92,8 @@ fn difference(
 {
     let _first = graphs.first();
     let _second = graphs.second();
-    let values = definite(alloc, vector)?;
-    let pair = pair_from(PortKind::Output, &matching.outputs, output);
+    let values = definite(alloc, &difference.vector)?;
+    let pair = pair_from(PortKind::Output, &matching.outputs, difference.output);
     let order = inputs_and(alloc, matching, pair)?;
     let whole = inputs_and(alloc, matching, pair)?;
     let pairs = leave_out(alloc, graphs, &order, whole, pair, &values)?;

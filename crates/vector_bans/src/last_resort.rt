@@ -7,8 +7,8 @@ ghost use Rattle.account_core.specs.Ports.{AreOrdered, IsKnown};
 ghost use Rattle.ban_book.specs.Covering.{Covers};
 ghost use Rattle.claim_rows.specs.Rows.{HasOneOutput};
 ghost use Rattle.claim_rows.specs.Shown.{IsShownBan};
-ghost use Rattle.oracle_core.specs.Oracles.{Serves, Suits};
-ghost use Rattle.fact_bans.specs.Serving.{HoldsBans, MayHold};
+ghost use Rattle.oracle_core.specs.Oracles.{Serves};
+ghost use Rattle.fact_bans.specs.Serving.{HoldsBans, MayAsk, MayHold};
 ghost use Rattle.vector_bans.specs.Differences.{AreShown};
 ghost use Rattle.vector_bans.specs.Resorts.{IsBanWithin, ShowNothing};
 
@@ -62,8 +62,7 @@ fn ban_of<O: Oracle>(
     seen: &mut Seen,
     ledger: &mut Ledger,
 ) -> Result<Ban, Stop>
-    requires graphs { graphs.now ≡ (O.known oracle.old).graphs }
-    requires suits { Suits (O.known oracle.old) ledger.old }
+    requires may { MayAsk graphs.now (O.known oracle.old) ledger.old }
     requires shown { AreShown graphs.now shown.pairs shown }
     ensures serves { Serves (O.known oracle.old) (O.known oracle.new) ledger.old ledger.new result }
     ensures ban { IfOk result (IsBanWithin graphs.now (map decided_by (O.known oracle.new).facts) shown.pairs) }
@@ -91,8 +90,7 @@ fn told_apart<O: Oracle>(
     seen: &mut Seen,
     ledger: &mut Ledger,
 ) -> Result<Option<Ban>, Stop>
-    requires graphs { graphs.now ≡ (O.known oracle.old).graphs }
-    requires suits { Suits (O.known oracle.old) ledger.old }
+    requires may { MayAsk graphs.now (O.known oracle.old) ledger.old }
     requires known { All (IsKnown graphs.now) pairs.now }
     requires ordered { AreOrdered pairs.now }
     requires output { HasOneOutput pairs.now pair }

@@ -5,5 +5,5 @@ mod difference;
 mod foresight;
 mod last_resort;
 
-pub use difference::exclude;
+pub use difference::{Difference, exclude};
 pub use foresight::foresee;

@@ -13,5 +13,5 @@ returns-clause-lists g c =
     let input = c.args.input in
     let before = c.args.numbers.now in
     let one = adds_grow mid new c.claim_of-up.result wanted.holds before c.add_fact.new.numbers c.add_fact-2.ensures.serves.grows (c.in_ok-add_fact.ensures.adds c.if-not-branch.false) in
-    let lists = wanted_grow mid new wanted input before c.add_fact-2.ensures.serves.grows (wanted_grow _ mid wanted input before c.in_ok-add_fact.ensures.serves.grows c.requires.lists) in
+    let lists = wanted_grow mid new wanted input before c.add_fact-2.ensures.serves.grows (wanted_grow _ mid wanted input before c.in_ok-add_fact.ensures.serves.grows c.requires.may.lists) in
     both_added new wanted input c.claim_of-up.result c.claim_of-down.result before c.add_fact.new.numbers c.add_fact-2.new.numbers c.add_fact-2.result c.requires.both c.claim_of-up.ensures c.claim_of-down.ensures lists one c.add_fact-2.ensures.adds

@@ -8,22 +8,19 @@ pub loop-input-init : goal.loop-input-init
 loop-input-init g c =
     listing_start (g.O.Oracle.known c.args.oracle.now) c.args.ledger.now c.args.wanted c.new-numbers.result c.requires.lawful c.requires.suits c.new-numbers.ensures
 
-pub add-requires-clause-lawful : goal.add-requires-clause-lawful
-add-requires-clause-lawful g c = c.loop-input.invariant.served.grows.lawful
-
-pub add-requires-clause-output : goal.add-requires-clause-output
-add-requires-clause-output g c =
-    subst (λ (gr : Graphs). c.args.wanted.output < length (graph_of gr c.args.wanted.side).outputs) (sym c.loop-input.invariant.served.grows.graphs) c.requires.output
-
-pub add-requires-clause-input : goal.add-requires-clause-input
-add-requires-clause-input g c =
-    subst (λ (gr : Graphs). c.loop-input.input < (graph_of gr c.args.wanted.side).inputs) (sym c.loop-input.invariant.served.grows.graphs) (omega (arith, c.loop-input-test.true, c.requires.inputs))
-
-pub add-requires-clause-suits : goal.add-requires-clause-suits
-add-requires-clause-suits g c = c.loop-input.invariant.served.suits
-
-pub add-requires-clause-lists : goal.add-requires-clause-lists
-add-requires-clause-lists g c = c.loop-input.invariant.lists
+pub add-requires : goal.add-requires
+add-requires g c =
+    let served = c.loop-input.invariant.served in
+    let wanted = c.args.wanted in
+    record {
+      may = record {
+        lawful = served.grows.lawful;
+        suits = served.suits;
+        output = subst (λ (gr : Graphs). wanted.output < length (graph_of gr wanted.side).outputs) (sym served.grows.graphs) c.requires.output;
+        within = subst (λ (gr : Graphs). c.loop-input.input < (graph_of gr wanted.side).inputs) (sym served.grows.graphs) (omega (arith, c.loop-input-test.true, c.requires.inputs));
+        lists = c.loop-input.invariant.lists;
+      };
+    }
 
 pub loop-input-preserved : goal.loop-input-preserved
 loop-input-preserved g c = record {

@@ -29,4 +29,4 @@ returns-clause-shown g c =
     let graphs = (g.O.Oracle.known c.args.oracle.now).graphs in
     let told = told_grows mid new claim c.in_ok-one.one.holds c.in_ok-one.one.number c.in_ok-other.ensures.serves.grows c.in_ok-one.ensures.told in
     subst (λ (unlike : Unlike). IsBanBy graphs (map decided_by new.facts) pairs (mismatch_of pairs unlike)) (sym c.unlike_of.ensures)
-    (mismatch_valid graphs (map decided_by new.facts) pairs claim image c.in_ok-one.one.holds c.in_ok-other.other.holds c.in_ok-one.one.number c.in_ok-other.other.number c.requires.known c.requires.ordered c.requires.image told c.in_ok-other.ensures.told (unlike c.in_ok-one.one.holds c.in_ok-other.other.holds c.if-one-other.false))
+    (mismatch_valid graphs (map decided_by new.facts) pairs claim image c.in_ok-one.one.holds c.in_ok-other.other.holds c.in_ok-one.one.number c.in_ok-other.other.number c.requires.carry.known c.requires.carry.ordered c.requires.carry.image told c.in_ok-other.ensures.told (unlike c.in_ok-one.one.holds c.in_ok-other.other.holds c.if-one-other.false))

@@ -1,10 +1,9 @@
-use Rattle.std.proofs.Common.{◌≡◌, ◌<◌, ◌∙◌, All, refl, sym, subst, arith}
-use Rattle.circuits.specs.declared.port.Pair.{Pair}
+use Rattle.std.proofs.Common.{◌<◌, ◌∙◌, All, refl, sym, subst, arith}
 use Rattle.circuits.specs.declared.port.PortKind.TheVariants.{Output}
-use Rattle.account_core.specs.Ports.{IsKnown}
+use Rattle.fact_bans.specs.Carrying.{IsPairOf}
 use Rattle.fact_bans.specs.Referred.{AreReferred}
 use Rattle.fact_bans.proofs.HoldingLemmas.{held_more, held_one, held_same, holds_err, holds_ok, holds_stop}
-use Rattle.fact_bans.proofs.ReferLemmas.{closed_of, nothing_known, nothing_ordered, ways_known, ways_of_outputs}
+use Rattle.fact_bans.proofs.ReferLemmas.{closed_of, nothing_known, nothing_ordered, ways_of_outputs}
 use Rattle.fact_bans.proofs.refusal.refuse_by.Goals as goal
 use Rattle.ban_book.proofs.BookLemmas.{empty_ban}
 
@@ -25,13 +24,9 @@ returns-in_err-ways-clause-holds g c =
 
 pub bans_of-requires-clause-outputs : goal.bans_of-requires-clause-outputs
 bans_of-requires-clause-outputs g c =
-    subst (All (λ (pair : Pair). pair.kind ≡ Output)) (sym (c.deref-3.ensures.value ∙ c.in_ok-ways.ensures)) (ways_of_outputs c.in_ok-from.from c.in_ok-to.to)
-
-pub bans_of-requires-clause-known : goal.bans_of-requires-clause-known
-bans_of-requires-clause-known g c =
     let from = subst (λ n. All (λ port. port < n) c.in_ok-from.from) c.ports-outputs.ensures.first c.in_ok-from.ensures.below in
     let to = subst (λ n. All (λ port. port < n) c.in_ok-to.to) c.ports-outputs.ensures.second c.in_ok-to.ensures.below in
-    subst (All (IsKnown c.args.graphs.now)) (sym (c.deref-3.ensures.value ∙ c.in_ok-ways.ensures)) (ways_known c.args.graphs.now c.in_ok-from.from c.in_ok-to.to from to)
+    subst (All (IsPairOf c.args.graphs.now Output)) (sym (c.deref-3.ensures.value ∙ c.in_ok-ways.ensures)) (ways_of_outputs c.args.graphs.now c.in_ok-from.from c.in_ok-to.to from to)
 
 pub returns-in_err-refs-clause-holds : goal.returns-in_err-refs-clause-holds
 returns-in_err-refs-clause-holds g c =

@@ -7,15 +7,15 @@ use Rattle.fact_bans.proofs.rows.claims_of.Goals as goal
 
 pub loop-input-init : goal.loop-input-init
 loop-input-init g c =
-    telling_start (g.O.Oracle.known c.args.oracle.now) c.args.ledger.now c.args.side c.args.output c.new-row.result c.facts-facts.ensures.lawful c.requires.suits c.new-row.ensures
+    telling_start (g.O.Oracle.known c.args.oracle.now) c.args.ledger.now c.args.side c.args.output c.new-row.result c.facts-facts.ensures.lawful c.requires.may.suits c.new-row.ensures
 
 pub decide_both-requires-clause-output : goal.decide_both-requires-clause-output
 decide_both-requires-clause-output g c =
-    subst (λ (gr : Graphs). c.args.output < length (graph_of gr c.args.side).outputs) (c.requires.graphs ∙ sym c.loop-input.invariant.served.grows.graphs) c.requires.output
+    subst (λ (gr : Graphs). c.args.output < length (graph_of gr c.args.side).outputs) (c.requires.may.graphs_are ∙ sym c.loop-input.invariant.served.grows.graphs) c.requires.output
 
 pub decide_both-requires-clause-input : goal.decide_both-requires-clause-input
 decide_both-requires-clause-input g c =
-    subst (λ (gr : Graphs). c.loop-input.input < (graph_of gr c.args.side).inputs) (c.requires.graphs ∙ sym c.loop-input.invariant.served.grows.graphs) (omega (arith, c.loop-input-test.true, c.inputs-inputs.ensures.value, ap (λ (net : Net). net.inputs) c.side.ensures))
+    subst (λ (gr : Graphs). c.loop-input.input < (graph_of gr c.args.side).inputs) (c.requires.may.graphs_are ∙ sym c.loop-input.invariant.served.grows.graphs) (omega (arith, c.loop-input-test.true, c.inputs-inputs.ensures.value, ap (λ (net : Net). net.inputs) c.side.ensures))
 
 pub decide_both-requires-clause-suits : goal.decide_both-requires-clause-suits
 decide_both-requires-clause-suits g c = c.loop-input.invariant.served.suits

@@ -39,7 +39,7 @@ returns-clause-holds g c =
     let one = subst (λ (l : List ℕ). 0 < length l) c.deref.ensures.value (c.are_many.ensures.some_one c.if-not-are_many.false) in
     let both = subst (λ (l : List ℕ). 1 < length l) c.deref-2.ensures.value (c.are_many.ensures.some_both c.if-not-are_many.false) in
     let many : graphs.first.inputs < length lists.one + length lists.both / 2 = omega (arith, c.are_many.ensures.many c.if-not-are_many.false, ap length c.deref.ensures.value, ap length c.deref-2.ensures.value, c.inputs.ensures.value, ap (λ (net : Net). net.inputs) c.first.ensures.value) in
-    let valid = tally_valid graphs (map decided_by new.facts) c.args.book.now c.args.pair c.args.plan.now.side c.args.plan.now.holds lists c.requires.output c.requires.known are one both many in
+    let valid = tally_valid graphs (map decided_by new.facts) c.args.book.now c.args.pair c.args.plan.now.side c.args.plan.now.holds lists c.requires.outputs.kind_is c.requires.outputs.known are one both many in
     let here = subst (λ (b : Ban). IsValidBan graphs (given_of (map decided_by new.facts) c.args.book.now) b) (sym c.in_ok-ban.ensures) valid in
     holds_ok _ _ _ _ _ _ _ _ _ refl (held_ban _ _ _ _ _ _ _ c.in_ok-ban.ban c.requires.may.valid (served_one _ _ _ _ _ c.in_ok-lists.ensures.serves) c.in_ok-number.ensures.held here (λ vector. absurd (tally_no_vector c.args.pair c.args.plan.now.holds lists (subst (λ (b : Ban). IsVector b.step) c.in_ok-ban.ensures vector))))
 

@@ -1,13 +1,13 @@
 use Rattle.std.proofs.Common.{◌∙◌, List, map, refl, subst, sym}
 use Rattle.account_core.specs.Given.{decided_by}
 use Rattle.account_core.specs.declared.fact.Fact.{Fact}
-use Rattle.fact_bans.proofs.ServeLemmas.{served_one, served_then, serves_err, serves_memory, serves_ok}
+use Rattle.fact_bans.proofs.ServeLemmas.{ask_later, served_one, served_then, serves_err, serves_memory, serves_ok}
 use Rattle.pair_refine.specs.Swaps.{IsSwapIndex}
 use Rattle.pair_refine.proofs.RowsLemmas.{rows_grow}
 use Rattle.pair_refine.proofs.rows.rows_of.Goals as goal
 
-pub side_rows-requires-2-clause-graphs : goal.side_rows-requires-2-clause-graphs
-side_rows-requires-2-clause-graphs g c = c.requires.graphs ∙ sym c.in_ok-first.ensures.serves.grows.graphs
+pub side_rows-requires-2 : goal.side_rows-requires-2
+side_rows-requires-2 g c = record { may = ask_later _ _ _ _ _ c.requires.may (served_one _ _ _ _ _ c.in_ok-first.ensures.serves) }
 
 pub returns-in_err-second-clause-serves : goal.returns-in_err-second-clause-serves
 returns-in_err-second-clause-serves g c =

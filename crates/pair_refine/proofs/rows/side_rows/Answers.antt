@@ -1,23 +1,20 @@
 use Rattle.std.proofs.Common.{◌∙◌, ap, length, map, refl, sym, subst, arith, ℕ}
 use Rattle.circuits.specs.Netlists.{Net}
 use Rattle.account_core.specs.Given.{decided_by}
-use Rattle.fact_bans.proofs.ServeLemmas.{served_one, served_then, serves_err, serves_memory, serves_ok}
+use Rattle.fact_bans.proofs.ServeLemmas.{ask_later, served_one, served_then, serves_err, serves_memory, serves_ok}
 use Rattle.pair_refine.specs.Rows.{AreRowsOf}
 use Rattle.pair_refine.proofs.RowsLemmas.{listing_more, listing_start}
 use Rattle.pair_refine.proofs.rows.side_rows.Goals as goal
 
 pub loop-output-init : goal.loop-output-init
 loop-output-init g c =
-    listing_start c.args.graphs.now (g.O.Oracle.known c.args.oracle.now) c.args.ledger.now c.args.side c.new-rows.result c.facts-facts.ensures.lawful c.requires.suits c.new-rows.ensures
+    listing_start c.args.graphs.now (g.O.Oracle.known c.args.oracle.now) c.args.ledger.now c.args.side c.new-rows.result c.facts-facts.ensures.lawful c.requires.may.suits c.new-rows.ensures
 
-pub claims_of-requires-clause-graphs : goal.claims_of-requires-clause-graphs
-claims_of-requires-clause-graphs g c = c.requires.graphs ∙ sym c.loop-output.invariant.served.grows.graphs
+pub claims_of-requires-clause-may : goal.claims_of-requires-clause-may
+claims_of-requires-clause-may g c = ask_later _ _ _ _ _ c.requires.may c.loop-output.invariant.served
 
 pub claims_of-requires-clause-output : goal.claims_of-requires-clause-output
 claims_of-requires-clause-output g c = omega (arith, c.loop-output-test.true, ap length c.outputs.ensures.value, ap (λ (net : Net). length net.outputs) c.side.ensures)
-
-pub claims_of-requires-clause-suits : goal.claims_of-requires-clause-suits
-claims_of-requires-clause-suits g c = c.loop-output.invariant.served.suits
 
 pub loop-output-preserved : goal.loop-output-preserved
 loop-output-preserved g c =

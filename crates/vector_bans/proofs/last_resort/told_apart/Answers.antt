@@ -5,15 +5,15 @@ use Rattle.account_core.specs.Facts.{AreFacts}
 use Rattle.account_core.specs.Given.{decided_by}
 use Rattle.claim_rows.specs.Rows.{IsRow}
 use Rattle.claim_rows.specs.declared.told.InputTold.{InputTold}
-use Rattle.fact_bans.proofs.ServeLemmas.{served_one, served_then, serves_err, serves_memory, serves_ok}
+use Rattle.fact_bans.proofs.ServeLemmas.{ask_later, served_one, served_then, serves_err, serves_memory, serves_ok}
 use Rattle.vector_bans.proofs.ResortLemmas.{both_rows, first_there, nothing_by_rows, second_there, shown_by_rows}
 use Rattle.vector_bans.proofs.last_resort.told_apart.Goals as goal
 
 pub claims_of-requires-clause-output : goal.claims_of-requires-clause-output
 claims_of-requires-clause-output g c = first_there c.args.graphs.now c.args.pairs.now c.args.pair c.requires.known c.requires.output
 
-pub claims_of-requires-2-clause-graphs : goal.claims_of-requires-2-clause-graphs
-claims_of-requires-2-clause-graphs g c = c.requires.graphs ∙ sym c.in_ok-first.ensures.serves.grows.graphs
+pub claims_of-requires-2-clause-may : goal.claims_of-requires-2-clause-may
+claims_of-requires-2-clause-may g c = ask_later _ _ _ _ _ c.requires.may (served_one _ _ _ _ _ c.in_ok-first.ensures.serves)
 
 pub claims_of-requires-2-clause-output : goal.claims_of-requires-2-clause-output
 claims_of-requires-2-clause-output g c = second_there c.args.graphs.now c.args.pairs.now c.args.pair c.requires.known c.requires.output
@@ -41,7 +41,7 @@ returns g c =
     let rows = both_rows mid new c.args.pair c.deref.result.now c.deref-2.result.now c.in_ok-second.ensures.serves.grows one other in
     let first = ap length c.deref.ensures.value ∙ c.in_ok-first.ensures.whole in
     let second = ap length c.deref-2.ensures.value ∙ c.in_ok-second.ensures.whole in
-    let graphs_are = c.requires.graphs ∙ (sym c.in_ok-first.ensures.serves.grows.graphs ∙ sym c.in_ok-second.ensures.serves.grows.graphs) in
+    let graphs_are = c.requires.may.graphs_are ∙ (sym c.in_ok-first.ensures.serves.grows.graphs ∙ sym c.in_ok-second.ensures.serves.grows.graphs) in
     let lawful = subst (λ (gr : Graphs). AreFacts gr new.facts) (sym graphs_are) c.in_ok-second.ensures.serves.grows.lawful in
     record {
       serves = serves_ok _ _ _ _ _ _ refl (served_then _ _ _ _ _ _ (served_one _ _ _ _ _ c.in_ok-first.ensures.serves) (served_one _ _ _ _ _ c.in_ok-second.ensures.serves));
