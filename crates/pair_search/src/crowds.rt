@@ -19,8 +19,7 @@ pub(crate) fn crowd(
     domains: &Domains,
     partners: &mut Partners,
 ) -> Result<Option<Block>, AllocError>
-    ensures { IfOk result (λ found. IfSome found
-        (HasNoWays domains.now.inputs domains.now.outputs domains.now.entries)) }
+    ensures { IfOk result (λ found. IfSome found (HasNoWays domains.now)) }
 {
     if are_few(domains, partners.kind) {
         return Ok(None);

@@ -49,7 +49,7 @@ pub fn conflict_of(
     book: &mut BanBook,
 ) -> Result<Conflict, AllocError>
     requires trail { IsTrail graphs.now book.old domains.now }
-    requires impasse { IsImpasse domains.now.inputs domains.now.outputs book.old domains.now.entries impasse }
+    requires impasse { IsImpasse book.old domains.now impasse }
     ensures more { LearnsMore graphs.now domains.now.entries book.old book.new }
     ensures conflict { IfOk result (IsConflict book.new (held_in domains.now.entries)) }
 {
