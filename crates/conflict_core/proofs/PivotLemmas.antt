@@ -13,7 +13,7 @@ use Rattle.class_refine.specs.declared.entry.Fate.TheVariants.{Held}
 use Rattle.net_core.specs.declared.graphs.Side.{Side}
 use Rattle.class_refine.specs.declared.entry.Fate.{Fate}
 use Rattle.class_refine.specs.declared.entry.Cause.TheVariants.{Choice, LastWay}
-use Rattle.class_refine.specs.Trails.{AreEntries, IsOpen, IsPairOf, IsPlace, held_in, is_held}
+use Rattle.class_refine.specs.Trails.{AreDomains, AreEntries, Domained, IsOpen, IsPairOf, IsPlace, held_in, is_held}
 use Rattle.class_refine.proofs.EntryLemmas.{held_more, one_entry}
 use Rattle.conflict_core.specs.Conflicts.{FitPorts, HasNoChoice, IsChoiceAt, IsLastOf, IsLearned}
 use Rattle.conflict_core.specs.Pivots.{IsSplit}
@@ -184,20 +184,20 @@ forced_at es lent place d p side same below is forced =
     entry = record { pair = p; fate = Held (LastWay side) }
 
 -- what a conflict is resolved to where a choice stands between its latest pair and the others
-pub back_is : (n m : ℕ) (bans : List Ban) (es : List Entry) (pairs lent : List Pair) (last place ban : ℕ) (result : LearnedBan) → AreEntries n m es → last < length (held_in es) → lent ≡ pairs → ((d : Pair) → IsSplit es lent (get_or (held_in es) last d) place) → Covers bans pairs ban → ((d : Pair) → result ≡ learned.Back (record { place = place; pair = get_or (held_in es) last d; ban = ban })) → IsLearned n m bans es result
-back_is n m bans es pairs lent last place ban result are below same split covers is =
-    subst (IsLearned n m bans es) (sym (is d)) (record {
+pub back_is : (domains : Domained) (bans : List Ban) (pairs lent : List Pair) (last place ban : ℕ) (result : LearnedBan) → AreDomains domains → last < length (held_in domains.entries) → lent ≡ pairs → ((d : Pair) → IsSplit domains.entries lent (get_or (held_in domains.entries) last d) place) → Covers bans pairs ban → ((d : Pair) → result ≡ learned.Back (record { place = place; pair = get_or (held_in domains.entries) last d; ban = ban })) → IsLearned bans domains result
+back_is domains bans pairs lent last place ban result are below same split covers is =
+    subst (IsLearned bans domains) (sym (is d)) (record {
       choice = (split d).choice;
-      known = held_pair_of n m es p are (last, below, get_or_default (held_in es) last p d below);
+      known = held_pair_of domains.inputs domains.outputs domains.entries p are (last, below, get_or_default (held_in domains.entries) last p d below);
       open' = (split d).open';
-      covers = covers_wider bans pairs (p ∷ held_in (take place es)) ban (subst (All (Contains (p ∷ held_in (take place es)))) same (split d).others) covers;
+      covers = covers_wider bans pairs (p ∷ held_in (take place domains.entries)) ban (subst (All (Contains (p ∷ held_in (take place domains.entries)))) same (split d).others) covers;
     })
   where
     d : Pair
     d = record { kind = Input; from = 0; to = 0; flip = false }
 
     p : Pair
-    p = get_or (held_in es) last d
+    p = get_or (held_in domains.entries) last d
 
 -- no choice stands before the place that the search for one begins at
 pub no_choice_yet : (es : List Entry) (from : ℕ) → HasNoChoice es from from

@@ -10,7 +10,7 @@ use Rattle.port_sides.specs.Held.{IsPart}
 use Rattle.class_refine.specs.declared.entry.Entry.{Entry}
 use Rattle.class_refine.specs.declared.entry.Fate.TheVariants.{Held}
 use Rattle.class_refine.specs.declared.entry.Cause.TheVariants.{Choice}
-use Rattle.class_refine.specs.Trails.{IsOpen, IsPairOf, held_in}
+use Rattle.class_refine.specs.Trails.{Domained, IsOpen, IsPairOf, held_in}
 use Rattle.conflict_core.specs.declared.conflict.Conflict.{Conflict}
 use Rattle.conflict_core.specs.declared.learned.Back.{Back}
 use Rattle.conflict_core.specs.declared.learned.LearnedBan.{LearnedBan}
@@ -43,13 +43,13 @@ pub record HasNoChoice (entries : List Entry) (from to : ℕ) : Type 0 where
   pub none : (k : ℕ) (d : Entry) → from ≤ k → k < to → (slice_index_or entries k d).fate ≢ Held Choice
 
 -- Before a choice a pair is open, and a ban has no other pairs than it and those that are held there.
-pub record IsBack (inputs outputs : ℕ) (bans : List Ban) (entries : List Entry) (back : Back) : Type 0 where
-  pub choice : IsChoiceAt entries back.place
-  pub known : IsPairOf inputs outputs back.pair
-  pub open' : IsOpen (take back.place entries) back.pair
-  pub covers : Covers bans (back.pair ∷ held_in (take back.place entries)) back.ban
+pub record IsBack (bans : List Ban) (domains : Domained) (back : Back) : Type 0 where
+  pub choice : IsChoiceAt domains.entries back.place
+  pub known : IsPairOf domains.inputs domains.outputs back.pair
+  pub open' : IsOpen (take back.place domains.entries) back.pair
+  pub covers : Covers bans (back.pair ∷ held_in (take back.place domains.entries)) back.ban
 
 -- what a conflict comes to: a ban without pairs, or where to go back to
-abbrev pub IsLearned : ℕ → ℕ → List Ban → List Entry → LearnedBan → Type 0
-IsLearned inputs outputs bans entries (learned.Refusal number) = Covers bans [] number
-IsLearned inputs outputs bans entries (learned.Back back) = IsBack inputs outputs bans entries back
+abbrev pub IsLearned : List Ban → Domained → LearnedBan → Type 0
+IsLearned bans domains (learned.Refusal number) = Covers bans [] number
+IsLearned bans domains (learned.Back back) = IsBack bans domains back

@@ -47,7 +47,7 @@ pub fn resolve(
     requires trail { IsTrail graphs.now book.old domains.now }
     requires conflict { IsConflict book.old (held_in domains.now.entries) conflict }
     ensures more { LearnsMore graphs.now domains.now.entries book.old book.new }
-    ensures learned { IfOk result (IsLearned domains.now.inputs domains.now.outputs book.new domains.now.entries) }
+    ensures learned { IfOk result (IsLearned book.new domains.now) }
 {
     let _lawful = domains.entries();
     let mut conflict = conflict;

@@ -112,7 +112,7 @@ pub record Deletes (graphs : Graphs) (known : Known) (bans : List Ban) (pair : P
 
 -- It doesn't go on, and no more is left than before.
 pub record IsStuck (bans : List Ban) (before after : Domained) (impasse : Impasse) : Type 0 where
-  pub impasse_is : IsImpasse after.inputs after.outputs bans after.entries impasse
+  pub impasse_is : IsImpasse bans after impasse
   pub less : left after ≤ left before
 
 -- a step ahead: less is left, a match was found, with all claims of one input decided, or it doesn't go on

@@ -39,8 +39,7 @@ pub(crate) fn follow<O: Oracle>(
     requires may { MayStep graphs.now (lent O.known session.old) trail.old.domains }
     ensures steps { Steps graphs.now (lent O.known session.old) (lent O.known session.new) trail.new.domains result }
     ensures less { OnOk result (left trail.new.domains ≤ left trail.old.domains) }
-    ensures impasse { IfOk result (λ found. IfSome found
-        (IsImpasse trail.new.domains.inputs trail.new.domains.outputs session.new.book.now trail.new.domains.entries)) }
+    ensures impasse { IfOk result (λ found. IfSome found (IsImpasse session.new.book.now trail.new.domains)) }
 {
     if let Some(impasse) = settle(graphs, session, trail)? {
         return Ok(Some(impasse));
@@ -109,8 +108,7 @@ fn exchange_held<O: Oracle>(
 ) -> Result<Option<Impasse>, Stop>
     requires may { MayStep graphs.now (lent O.known session.old) domains.now }
     ensures steps { Steps graphs.now (lent O.known session.old) (lent O.known session.new) domains.now result }
-    ensures impasse { IfOk result (λ found. IfSome found
-        (IsImpasse domains.now.inputs domains.now.outputs session.new.book.now domains.now.entries)) }
+    ensures impasse { IfOk result (λ found. IfSome found (IsImpasse session.new.book.now domains.now)) }
 {
     let _lawful = domains.entries();
     let held = domains.pairs();
@@ -134,8 +132,7 @@ fn settle<O: Oracle>(
     requires may { MayStep graphs.now (lent O.known session.old) trail.old.domains }
     ensures steps { Steps graphs.now (lent O.known session.old) (lent O.known session.new) trail.new.domains result }
     ensures less { OnOk result (left trail.new.domains ≤ left trail.old.domains) }
-    ensures impasse { IfOk result (λ found. IfSome found
-        (IsImpasse trail.new.domains.inputs trail.new.domains.outputs session.new.book.now trail.new.domains.entries)) }
+    ensures impasse { IfOk result (λ found. IfSome found (IsImpasse session.new.book.now trail.new.domains)) }
 {
     let inputs = trail.domains.ports(PortKind::Input) as u64;
     let outputs = trail.domains.ports(PortKind::Output) as u64;

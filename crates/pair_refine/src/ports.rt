@@ -50,7 +50,7 @@ fn cover(
     book: &mut BanBook,
 ) -> Result<Option<u64>, AllocError>
     requires trail { IsTrail graphs.now book.old domains.now }
-    requires none { HasNoWay domains.now.inputs domains.now.outputs domains.now.entries port }
+    requires none { HasNoWay domains.now port }
     ensures more { LearnsMore graphs.now domains.now.entries book.old book.new }
     ensures found { IfOk result (λ dead. IfSome dead (Covers book.new (held_in domains.now.entries))) }
     ensures some { IfOk result (λ dead. IfNone dead ⊥) }
@@ -63,7 +63,7 @@ fn cover(
 
 // The first port of which all ways are deleted, of the first circuit, and of inputs, before others: any would do.
 fn empty_port(domains: &Domains) -> Option<Port>
-    ensures found { IfSome result (HasNoWay domains.now.inputs domains.now.outputs domains.now.entries) }
+    ensures found { IfSome result (HasNoWay domains.now) }
     ensures none { IfNone result ((side : AnySide) (kind : AnyKind) (port : ℕ)
         → port < ports_of domains.now.inputs domains.now.outputs kind
         → HasLeft domains.now side kind port) }
@@ -76,7 +76,7 @@ fn empty_port(domains: &Domains) -> Option<Port>
 
 // That of a circuit.
 fn empty_port_on(domains: &Domains, side: Side) -> Option<Port>
-    ensures found { IfSome result (HasNoWay domains.now.inputs domains.now.outputs domains.now.entries) }
+    ensures found { IfSome result (HasNoWay domains.now) }
     ensures none { IfNone result ((kind : AnyKind) (port : ℕ)
         → port < ports_of domains.now.inputs domains.now.outputs kind
         → HasLeft domains.now side kind port) }
@@ -89,7 +89,7 @@ fn empty_port_on(domains: &Domains, side: Side) -> Option<Port>
 
 // That of a circuit and a kind.
 fn empty_port_of(domains: &Domains, side: Side, kind: PortKind) -> Option<Port>
-    ensures found { IfSome result (HasNoWay domains.now.inputs domains.now.outputs domains.now.entries) }
+    ensures found { IfSome result (HasNoWay domains.now) }
     ensures none { IfNone result ((port : ℕ)
         → port < ports_of domains.now.inputs domains.now.outputs kind
         → HasLeft domains.now side kind port) }
@@ -107,7 +107,7 @@ fn empty_port_of(domains: &Domains, side: Side, kind: PortKind) -> Option<Port>
 fn has_left(domains: &Domains, port: Port) -> bool
     requires there { IsPortOf domains.now port }
     ensures some { IsTrue result → HasLeft domains.now port.side port.kind port.number }
-    ensures none { result ≡ false → HasNoWay domains.now.inputs domains.now.outputs domains.now.entries port }
+    ensures none { result ≡ false → HasNoWay domains.now port }
 {
     let count = domains.ports(port.kind);
     for number in 0..2 * count as u64 {

@@ -28,7 +28,7 @@ pub fn turn_back(
     book: &mut BanBook,
 ) -> Result<Option<u64>, AllocError>
     requires trail { IsTrail graphs.now book.old domains.old }
-    requires impasse { IsImpasse domains.old.inputs domains.old.outputs book.old domains.old.entries impasse }
+    requires impasse { IsImpasse book.old domains.old impasse }
     ensures more { LearnsMore graphs.now domains.old.entries book.old book.new }
     ensures trail { OnOk result (IsTrail graphs.now book.new domains.new) }
     ensures grounded { OnOk result (StayGrounded domains.old.entries domains.new.entries) }
@@ -71,10 +71,10 @@ fn learn(
     book: &mut BanBook,
 ) -> Result<LearnedBan, AllocError>
     requires trail { IsTrail graphs.now book.old domains.now }
-    requires impasse { IsImpasse domains.now.inputs domains.now.outputs book.old domains.now.entries impasse }
+    requires impasse { IsImpasse book.old domains.now impasse }
     ensures more { LearnsMore graphs.now domains.now.entries book.old book.new }
     ensures trail { IsTrail graphs.now book.new domains.now }
-    ensures learned { IfOk result (IsLearned domains.now.inputs domains.now.outputs book.new domains.now.entries) }
+    ensures learned { IfOk result (IsLearned book.new domains.now) }
 {
     let conflict = conflict_of(alloc, graphs, domains, impasse, made, book)?;
     let learned = resolve(alloc, graphs, domains, conflict, made, book)?;
@@ -89,7 +89,7 @@ fn go_back(
     back: Back,
 ) -> Result<(), AllocError>
     requires justified { IsJustifiedTrail bans.now domains.old }
-    requires back { IsBack domains.old.inputs domains.old.outputs bans.now domains.old.entries back }
+    requires back { IsBack bans.now domains.old back }
     ensures stays { OnOk result (StaysJustified bans.now domains.old domains.new) }
     ensures less { OnOk result (left domains.new < left domains.old) }
 {

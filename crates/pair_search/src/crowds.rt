@@ -19,8 +19,7 @@ pub(crate) fn crowd(
     domains: &Domains,
     partners: &mut Partners,
 ) -> Result<Option<Block>, AllocError>
-    ensures { IfOk result (λ found. IfSome found
-        (HasNoWays domains.now.inputs domains.now.outputs domains.now.entries)) }
+    ensures { IfOk result (λ found. IfSome found (HasNoWays domains.now)) }
 {
     if are_few(domains, partners.kind) {
         return Ok(None);
@@ -38,9 +37,9 @@ pub(crate) fn crowd(
     Ok(None)
 }
 
-// Whether there are no more ports than of the other kind. They aren't looked at then: only where inputs are few does a
-// pair of one leave each output few others. Done there too, it made a near miss of an adder of 257 inputs and 129 outputs
-// take three times as long.
+// Whether there are no more ports of this kind than of the other. No block of them is looked for then: only where inputs are few
+// does a held pair of inputs leave each output few ways. With such blocks too, a near miss of an adder of 257 inputs and 129
+// outputs took three times as long.
 fn are_few(domains: &Domains, kind: PortKind) -> bool {
     let others = match kind {
         PortKind::Input => PortKind::Output,

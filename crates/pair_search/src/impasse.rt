@@ -1,4 +1,4 @@
-//! Where it doesn't go on.
+//! Where a search doesn't go on.
 
 ghost use Rattle.std.specs.Prelude.{◌≡◌, IfOk};
 ghost use Rattle.class_refine.specs.Trails.{held_in};
@@ -14,7 +14,7 @@ use port_covers::block::Block;
 use port_sides::PairableGraphs;
 use std::alloc::{AllocError, Global};
 
-/// Where it doesn't go on.
+/// Where a search doesn't go on.
 #[derive(Debug, Drop, PartialEq, Eq)]
 pub enum Impasse {
     /// All pairs of the ban of this number are held.
@@ -49,7 +49,7 @@ pub fn conflict_of(
     book: &mut BanBook,
 ) -> Result<Conflict, AllocError>
     requires trail { IsTrail graphs.now book.old domains.now }
-    requires impasse { IsImpasse domains.now.inputs domains.now.outputs book.old domains.now.entries impasse }
+    requires impasse { IsImpasse book.old domains.now impasse }
     ensures more { LearnsMore graphs.now domains.now.entries book.old book.new }
     ensures conflict { IfOk result (IsConflict book.new (held_in domains.now.entries)) }
 {

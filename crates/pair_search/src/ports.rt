@@ -28,7 +28,7 @@ pub(crate) fn apply_port(
     requires there { IsPortOf domains.old port }
     requires justified { IsJustifiedTrail bans.now domains.old }
     ensures propagates { OnOk result (Propagates bans.now domains.old domains.new) }
-    ensures none { IfOk result (λ none. IsTrue none → HasNoWay domains.new.inputs domains.new.outputs domains.new.entries port) }
+    ensures none { IfOk result (λ none. IsTrue none → HasNoWay domains.new port) }
 {
     let _ = bans;
     let _lawful = domains.entries();
@@ -59,8 +59,7 @@ pub fn branch(
     ensures stays { OnOk result (StaysJustified bans.now domains.old domains.new) }
     ensures less { IfOk result (λ found. IfNone found (left domains.new < left domains.old)) }
     ensures stuck { IfOk result (λ found. IfSome found (λ impasse. domains.new ≡ domains.old)) }
-    ensures impasse { IfOk result (λ found. IfSome found
-        (IsImpasse domains.new.inputs domains.new.outputs bans.now domains.new.entries)) }
+    ensures impasse { IfOk result (λ found. IfSome found (IsImpasse bans.now domains.new)) }
 {
     let _ = bans;
     let _lawful = domains.entries();

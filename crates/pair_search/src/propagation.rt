@@ -18,10 +18,10 @@ use conflict_core::Port;
 use net_core::Side;
 use std::alloc::{AllocError, Global};
 
-/// Where it doesn't go on, if that was found.
+/// Where the search doesn't go on, if that was found.
 type Followed = Result<Option<Impasse>, AllocError>;
 
-/// Holds and deletes pairs as it follows, until nothing follows or it doesn't go on. Pairs that share a port with a held
+/// Holds and deletes pairs as it follows, until nothing follows or the search doesn't go on. Pairs that share a port with a held
 /// one are deleted, and that of a ban whose other pairs are held; the last way of a port is held. Last, outputs are looked
 /// for that have fewer outputs to go to than they are.
 pub fn propagate(

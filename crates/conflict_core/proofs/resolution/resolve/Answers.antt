@@ -22,7 +22,7 @@ returns-in-Choice-clause-learned c =
     let conflict = c.loop-last.conflict in
     let last = last_lent (held_in es) c.pairs.result.now conflict.pairs.items c.deref.result.now c.loop-last.limit c.in-Some.last c.pairs.ensures.value c.deref.ensures.value c.in-Some.ensures.found in
     let inside : c.in-Some.last < length (held_in es) = omega (arith, last.within, c.loop-last.invariant.within) in
-    back_is d.inputs d.outputs c.loop-last.book es conflict.pairs.items c.deref-in-Some.result.now c.in-Some.last c.in-Choice.place conflict.ban c.back_to.result c.entries-lawful.ensures.lawful inside c.deref-in-Some.ensures.value c.in-Choice.ensures c.loop-last.invariant.conflict_is.covers c.back_to.ensures
+    back_is d c.loop-last.book conflict.pairs.items c.deref-in-Some.result.now c.in-Some.last c.in-Choice.place conflict.ban c.back_to.result c.entries-lawful.ensures.lawful inside c.deref-in-Some.ensures.value c.in-Choice.ensures c.loop-last.invariant.conflict_is.covers c.back_to.ensures
 
 pub resolve_on-requires-clause-trail : goal.resolve_on-requires-clause-trail
 resolve_on-requires-clause-trail c =
