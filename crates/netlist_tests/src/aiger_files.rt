@@ -1,9 +1,8 @@
-use crate::compared::{has_names, is_graph};
+use crate::compared::{FaultRow, expect_faults, has_names, is_graph};
 use aiger_reader::read;
 use net_core::Lit;
-use net_file::{NetFault, NetKind, NetStop};
+use net_file::{NetKind, NetStop};
 use std::alloc::Global;
-use std::process::Abort;
 use std::test::Fail;
 
 // A file, how many inputs it has, its gates, its outputs, and the names of the inputs and of the outputs.
@@ -158,55 +157,34 @@ fn reads_names(rt: HostRuntime) -> Result<(), Fail> {
     Ok(())
 }
 
-// A file, and the fault of its header.
-type HeaderFault = (&'static [u8], NetKind);
-
-static HEADER_FAULTS: [HeaderFault; 24] = [
+static FAULTS: [FaultRow; 65] = [
     // no header of either form
-    (b"", NetKind::Header),
-    (b"aag", NetKind::Header),
-    (b"aag ", NetKind::Header),
-    (b" aag 0 0 0 0 0\n", NetKind::Header),
-    (b"aag\t0 0 0 0 0\n", NetKind::Header),
-    (b"aig 0 0 0 0\n", NetKind::Header),
-    (b"aag 0 0 0 0 0 0 0 0 0 0\n", NetKind::Header),
-    (b"aag 0 0 0 0 -0\n", NetKind::Header),
-    (b"aag 0 0 0 0 0\0\n", NetKind::Header),
-    (b"aag 4294967296 0 0 0 0\n", NetKind::Header),
+    (b"", NetKind::Header, 0),
+    (b"aag", NetKind::Header, 0),
+    (b"aag ", NetKind::Header, 0),
+    (b" aag 0 0 0 0 0\n", NetKind::Header, 0),
+    (b"aag\t0 0 0 0 0\n", NetKind::Header, 0),
+    (b"aig 0 0 0 0\n", NetKind::Header, 0),
+    (b"aag 0 0 0 0 0 0 0 0 0 0\n", NetKind::Header, 0),
+    (b"aag 0 0 0 0 -0\n", NetKind::Header, 0),
+    (b"aag 0 0 0 0 0\0\n", NetKind::Header, 0),
+    (b"aag 4294967296 0 0 0 0\n", NetKind::Header, 0),
     // variables too few, or in the binary form too many
-    (b"aag 1 1 0 0 1\n2\n4 2 2\n", NetKind::Header),
-    (b"aag 1 1 1 0 0\n2\n", NetKind::Header),
-    (b"aig 4 2 0 1 1\n6\n\x02\x02", NetKind::Header),
-    (b"aig 0 0 0 0 1\n", NetKind::Header),
+    (b"aag 1 1 0 0 1\n2\n4 2 2\n", NetKind::Header, 0),
+    (b"aag 1 1 1 0 0\n2\n", NetKind::Header, 0),
+    (b"aig 4 2 0 1 1\n6\n\x02\x02", NetKind::Header, 0),
+    (b"aig 0 0 0 0 1\n", NetKind::Header, 0),
     // latches come before properties, and these before limits
-    (b"aag 1 0 1 0 0\n2 3\n", NetKind::Sequential),
-    (b"aag 1 0 1 0 0 1\n2 3\n2\n", NetKind::Sequential),
-    (b"aag 0 0 0 0 0 1\n0\n", NetKind::Property),
-    (b"aag 1025 1025 0 0 0 0 0 0 1\n", NetKind::Property),
-    (b"aag 1025 1025 0 0 0\n", NetKind::TooManyInputs),
-    (b"aag 1025 1025 0 1025 0\n", NetKind::TooManyInputs),
-    (b"aag 0 0 0 1025 0\n", NetKind::TooManyOutputs),
-    (b"aag 1000001 0 0 0 1000001\n", NetKind::TooManyGates),
-    (b"aag 4000001 0 0 0 0\n", NetKind::TooManyGates),
-    (b"aag 4294967295 0 0 0 0\n", NetKind::TooManyGates),
-];
-
-fn expect_fault(rt: &impl Abort, alloc: Global, text: &[u8], kind: NetKind, at: u64) {
-    let stop = NetStop::Fault(NetFault { kind, at });
-    assert_eq!(rt; read(alloc, text).err(), Some(stop), "at {text:?}");
-}
-
-#[test]
-fn finds_faults_of_the_header(rt: HostRuntime) {
-    for (text, kind) in HEADER_FAULTS.iter() {
-        expect_fault(&rt, rt.alloc(), text, *kind, 0);
-    }
-}
-
-// A file, its first fault, and where that stands.
-type Fault = (&'static [u8], NetKind, u64);
-
-static FAULTS: [Fault; 41] = [
+    (b"aag 1 0 1 0 0\n2 3\n", NetKind::Sequential, 0),
+    (b"aag 1 0 1 0 0 1\n2 3\n2\n", NetKind::Sequential, 0),
+    (b"aag 0 0 0 0 0 1\n0\n", NetKind::Property, 0),
+    (b"aag 1025 1025 0 0 0 0 0 0 1\n", NetKind::Property, 0),
+    (b"aag 1025 1025 0 0 0\n", NetKind::TooManyInputs, 0),
+    (b"aag 1025 1025 0 1025 0\n", NetKind::TooManyInputs, 0),
+    (b"aag 0 0 0 1025 0\n", NetKind::TooManyOutputs, 0),
+    (b"aag 1000001 0 0 0 1000001\n", NetKind::TooManyGates, 0),
+    (b"aag 4000001 0 0 0 0\n", NetKind::TooManyGates, 0),
+    (b"aag 4294967295 0 0 0 0\n", NetKind::TooManyGates, 0),
     // lines that aren't what the header announces
     (b"aag 0 0 0 1 0\nx\n", NetKind::BadLine, 14),
     (b"aag 0 0 0 1 0\n\n", NetKind::BadLine, 14),
@@ -273,7 +251,5 @@ static FAULTS: [Fault; 41] = [
 
 #[test]
 fn finds_the_first_fault(rt: HostRuntime) {
-    for (text, kind, at) in FAULTS.iter() {
-        expect_fault(&rt, rt.alloc(), text, *kind, *at);
-    }
+    expect_faults(&rt, rt.alloc(), &FAULTS, read)
 }

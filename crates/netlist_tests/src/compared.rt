@@ -2,8 +2,9 @@
 
 use items::Items;
 use net_core::{Gate, Graph, Lit};
-use net_file::{Name, Named};
+use net_file::{Name, Named, NetFault, NetKind, NetStop};
 use std::alloc::{AllocError, Global};
+use std::process::Abort;
 
 /// Whether the gates have these operands.
 pub(crate) fn have_operands(gates: &[Gate], operands: &[(u32, u32)]) -> bool {
@@ -44,4 +45,25 @@ fn put_names(names: &Items<Name>, text: &mut Vec<u8>) -> Result<(), AllocError> 
         text.extend_from_slice(b",")?;
     }
     Ok(())
+}
+
+/// A file, its first fault, and where that stands.
+pub(crate) type FaultRow = (&'static [u8], NetKind, u64);
+
+/// Reads each file, and expects its fault.
+pub(crate) fn expect_faults<F: Fn(Global, &[u8]) -> Result<Named, NetStop>>(
+    rt: &impl Abort,
+    alloc: Global,
+    rows: &[FaultRow],
+    read: F,
+)
+    requires { F.IsAlwaysCallable read }
+{
+    for (text, kind, at) in rows {
+        let stop = NetStop::Fault(NetFault {
+            kind: *kind,
+            at: *at,
+        });
+        assert_eq!(rt; read(alloc, *text).err(), Some(stop), "at {text:?}");
+    }
 }

@@ -3,8 +3,9 @@
 ghost use Rattle.std.specs.Prelude.{◌≡◌, false, None, [], cond};
 ghost use Rattle.shelf_core.specs.State.{Closed, Reading, Writing};
 
-use crate::files::{A, AND, AND_OR, B, C17, C17_MOVED, EMPTY, OR, TABLE, WIRE};
-use crate::runs::{CHECK, Row, check_rows, expect, status_of};
+use crate::alterations::{Altered, check_altered};
+use crate::files::{A, AND, AND_OR, B, C17, C17_MOVED, EMPTY, OR, TABLE, WIRE, XOR};
+use crate::runs::{CHECK, Row, check_rows, expect, line, status_of};
 use shelf_core::{SafeSink, Shelf, ShelfStop};
 use std::test::Fail;
 
@@ -77,70 +78,38 @@ fn accepts_matches(rt: HostRuntime) -> Result<(), Fail> {
     check_rows(&rt, rt.alloc(), &MATCHES)
 }
 
-/// Accounts of the AND and the OR, with the report on each.
-static BAD_ACCOUNTS: [(&[u8], &[u8]); 16] = [
+/// Alterations of the account of the AND and the OR.
+static BAD_ACCOUNTS: [Altered; 16] = [
     // their form
-    (b"", b"rejected line 1 truncated\n"),
-    (b"npnp 9\n", b"rejected line 1 header\n"),
-    (
-        b"npnp 1\nmatch i0-0 i1-1  o0-0\n",
-        b"rejected line 2 word\n",
-    ),
-    (b"npnp 1\nnpnp 1\n", b"rejected line 2 order\n"),
-    (
-        b"npnp 1\nmatch i0-0 i1-1 o0-0\nl : 07 8\n",
-        b"rejected line 3 number\n",
-    ),
+    (0, b"", b"1 truncated"),
+    (0, b"npnp 9\n", b"1 header"),
+    (1, b"match i0-0 i1-1  o0-0\n", b"2 word"),
+    (1, b"npnp 1\n", b"2 order"),
+    (2, b"l : 07 8\n", b"3 number"),
     // cut after each line
-    (b"npnp 1\n", b"rejected line 2 truncated\n"),
-    (
-        b"npnp 1\nmatch i0-0 i1-1 o0-0\n",
-        b"rejected line 3 truncated\n",
-    ),
-    (
-        b"npnp 1\nmatch i0-0 i1-1 o0-0\nl : 7 8 1 2 6\n",
-        b"rejected line 4 truncated\n",
-    ),
-    (
-        b"npnp 1\nmatch i0-0 i1-1 o0-0\nl : 7 8 1 2 6\nl : 7 8 4 5 3\n",
-        b"rejected line 5 truncated\n",
-    ),
+    (1, b"", b"2 truncated"),
+    (2, b"", b"3 truncated"),
+    (3, b"", b"4 truncated"),
+    (4, b"", b"5 truncated"),
     // more than the account
-    (
-        b"npnp 1\nmatch i0-0 i1-1 o0-0\nl : 7 8 1 2 6\nl : 7 8 4 5 3\nend\n\n",
-        b"rejected line 6 trailing\n",
-    ),
+    (5, b"\n", b"6 trailing"),
     // logs that are missing, and one that is none
-    (
-        b"npnp 1\nmatch i0-0 i1-1 o0-0\nend\n",
-        b"rejected line 3 order\n",
-    ),
-    (
-        b"npnp 1\nmatch i0-0 i1-1 o0-0\nl : 7 8 1 2 6\nend\n",
-        b"rejected line 4 order\n",
-    ),
-    (
-        b"npnp 1\nmatch i0-0 i1-1 o0-0\nl : 7 8 1 2\nl : 7 8 4 5 3\nend\n",
-        b"rejected line 3 refutation\n",
-    ),
+    (2, b"end\n", b"3 order"),
+    (3, b"end\n", b"4 order"),
+    (2, b"l : 7 8 1 2\nl : 7 8 4 5 3\nend\n", b"3 refutation"),
     // matchings that are none, and one that is no match
+    (1, b"match i0-0 i1-0 o0-0\n", b"2 conclusion"),
+    (1, b"match i5+0 i1-1 o0-0\n", b"2 id"),
     (
-        b"npnp 1\nmatch i0-0 i1-0 o0-0\n",
-        b"rejected line 2 conclusion\n",
-    ),
-    (b"npnp 1\nmatch i5+0 i1-1 o0-0\n", b"rejected line 2 id\n"),
-    (
-        b"npnp 1\nmatch i0+0 i1-1 o0-0\nl : 7 8 1 2 6\nl : 7 8 4 5 3\nend\n",
-        b"rejected line 3 refutation\n",
+        1,
+        b"match i0+0 i1-1 o0-0\nl : 7 8 1 2 6\nl : 7 8 4 5 3\nend\n",
+        b"3 refutation",
     ),
 ];
 
 #[test]
 fn rejects_accounts_at_their_first_bad_line(rt: HostRuntime) -> Result<(), Fail> {
-    for (account, report) in BAD_ACCOUNTS.iter() {
-        expect(&rt, rt.alloc(), CHECK, [AND, OR, *account], 2, *report)?;
-    }
-    Ok(())
+    check_altered(&rt, rt.alloc(), [AND, OR, AND_OR], &BAD_ACCOUNTS)
 }
 
 #[test]
@@ -211,22 +180,17 @@ fn reads_both_formats(rt: HostRuntime) -> Result<(), Fail> {
     check_rows(&rt, rt.alloc(), &OF_BOTH_FORMATS)
 }
 
-/// Words of no form, and names of files that aren't there, with the status and the report.
-static MISSING: [(&[&str], u8, &[u8]); 8] = [
-    (&[], 4, b"usage\n"),
-    (&["match", "A", "B", "B"], 4, b"usage\n"),
-    (&["check", "A", "B"], 4, b"usage\n"),
-    (&["check", "A", "B", "t", "t"], 4, b"usage\n"),
-    (&["check", "", "B", "t"], 4, b"usage\n"),
-    (&["check", "z", "y", "x"], 5, b"absent first\n"),
-    (&["check", "A", "z", "x"], 5, b"absent second\n"),
-    (&["check", "A", "B", "z"], 5, b"absent account\n"),
+/// Names of files that aren't there, with the report.
+static MISSING: [(&[&str], &[u8]); 3] = [
+    (&["check", "z", "y", "x"], b"absent first\n"),
+    (&["check", "A", "z", "x"], b"absent second\n"),
+    (&["check", "A", "B", "z"], b"absent account\n"),
 ];
 
 #[test]
 fn names_what_is_missing(rt: HostRuntime) -> Result<(), Fail> {
-    for (words, status, report) in MISSING.iter() {
-        expect(&rt, rt.alloc(), *words, [A, B, TABLE], *status, *report)?;
+    for (words, report) in MISSING.iter() {
+        expect(&rt, rt.alloc(), *words, [A, B, TABLE], 5, *report)?;
     }
     Ok(())
 }
@@ -239,10 +203,9 @@ static INFOS: [(&[&str], &[u8], u8, &[u8]); 8] = [
         0,
         b"inputs 2\noutputs 3\ngates 1\noutput 0 y support 2\ninput 0 a negative\ninput 1 b negative\npair 0 1 symmetric\noutput 1 one support 0\noutput 2 zero support 0\n",
     ),
-    // exclusive or
     (
         &["info", "A", "18446744073709551615"],
-        b"aag 5 2 0 1 3\n2\n4\n10\n6 2 4\n8 3 5\n10 7 9\n",
+        XOR,
         0,
         b"inputs 2\noutputs 1\ngates 3\noutput 0 o0 support 2\ninput 0 i0 binate\ninput 1 i1 binate\npair 0 1 both\n",
     ),
@@ -291,8 +254,13 @@ fn reports_what_is_known_of_a_netlist(rt: HostRuntime) -> Result<(), Fail> {
     Ok(())
 }
 
-/// Words that are like those for a netlist, and of no form.
-static NO_INFO: [&[&str]; 8] = [
+/// Words of no form.
+static NO_FORM: [&[&str]; 25] = [
+    &[],
+    &["match", "A", "B", "B"],
+    &["check", "A", "B"],
+    &["check", "A", "B", "t", "t"],
+    &["check", "", "B", "t"],
     &["info"],
     &["info", ""],
     &["info", "A", ""],
@@ -301,76 +269,65 @@ static NO_INFO: [&[&str]; 8] = [
     &["info", "A", "18446744073709551616"],
     &["info", "A", "000000000000000000001"],
     &["info", "A", "1", "2"],
+    &["make", "7", "A"],
+    &["make", "7", "A", "A"],
+    &["make", "7", "", "B"],
+    &["make", "7", "A", ""],
+    &["make", "x", "A", "B"],
+    &["make", "18446744073709551616", "A", "B"],
+    &["make", "7", "A", "B", "t"],
+    &["trial"],
+    &["trial", ""],
+    &["trial", "-1"],
+    &["trial", "000000000000000000001"],
+    &["trial", "7", "8"],
 ];
 
 #[test]
 fn refuses_words_of_no_form(rt: HostRuntime) -> Result<(), Fail> {
-    for words in NO_INFO.iter() {
-        expect(&rt, rt.alloc(), *words, [MIXED, B, TABLE], 4, b"usage\n")?;
+    for words in NO_FORM.iter() {
+        expect(&rt, rt.alloc(), *words, [A, B, TABLE], 4, b"usage\n")?;
     }
     Ok(())
 }
 
-static MALFORMED_AIGER: [(&[u8], &[u8]); 18] = [
-    (b"aag 4294967295 0 0 0 0\n", b"malformed first 6 0\n"),
-    (b"aag 4294967296 0 0 0 0\n", b"malformed first 1 0\n"),
-    (b"aag 1025 1025 0 0 0\n", b"malformed first 4 0\n"),
-    (b"aag 1 0 1 0 0\n2 3\n", b"malformed first 2 0\n"),
-    (b"aag 0 0 0 1 0\nx\n", b"malformed first 7 14\n"),
-    (b"aag 1 0 0 1 0\n4\n", b"malformed first 8 14\n"),
-    (b"aag 1 1 0 0 0\n3\n", b"malformed first 8 14\n"),
-    (b"aag 2 2 0 0 0\n2\n2\n", b"malformed first 9 16\n"),
-    (b"aag 1 0 0 1 0\n2\n", b"malformed first 10 14\n"),
-    (b"aag 0 0 0 1 0\n", b"malformed first 14 14\n"),
-    (b"aag 1 1 0 1 0\n2\n", b"malformed first 14 16\n"),
-    (
-        b"aag 4 2 0 1 2\n2\n4\n8\n8 6 2\n6 8 4\n",
-        b"malformed first 12 20\n",
-    ),
-    (b"aag 1 1 0 1 0\n2\n2\ni1 x\n", b"malformed first 13 18\n"),
-    (b"aig 0 0 0 0 1\n", b"malformed first 1 0\n"),
-    (
-        b"aig 1 0 0 0 1\n\x82\x82\x82\x82\x82",
-        b"malformed first 11 14\n",
-    ),
-    (b"aig 3 2 0 1 1\n6\n\x82", b"malformed first 11 16\n"),
-    (b"aig 3 2 0 1 1\n6\n\x02", b"malformed first 11 17\n"),
-    (b"aig 3 2 0 1 1\n6\n\x07\x00", b"malformed first 11 16\n"),
-];
-
-static MALFORMED_BLIF: [(&[u8], &[u8]); 9] = [
-    (b"", b"malformed first 28 0\n"),
-    (b"aag", b"malformed first 27 0\n"),
-    (b".latch x y\n", b"malformed first 21 0\n"),
-    (b".gate nand2 a=x\n", b"malformed first 20 0\n"),
-    (b".model m\n.model n\n", b"malformed first 23 9\n"),
-    (b".inputs a a\n.outputs a\n", b"malformed first 29 10\n"),
-    (
-        b".inputs a\n.outputs y\n.names a y\n1 1\n0 0\n",
-        b"malformed first 26 36\n",
-    ),
-    (
-        b".inputs a\n.outputs y\n.names a b y\n11 1\n",
-        b"malformed first 31 30\n",
-    ),
-    (
-        b".inputs a\n.outputs y\n.names a y y\n11 1\n",
-        b"malformed first 32 21\n",
-    ),
+/// First netlists that are malformed, each with the number of its fault and the place.
+static MALFORMED: [(&[u8], &[u8]); 27] = [
+    (b"aag 4294967295 0 0 0 0\n", b"6 0"),
+    (b"aag 4294967296 0 0 0 0\n", b"1 0"),
+    (b"aag 1025 1025 0 0 0\n", b"4 0"),
+    (b"aag 1 0 1 0 0\n2 3\n", b"2 0"),
+    (b"aag 0 0 0 1 0\nx\n", b"7 14"),
+    (b"aag 1 0 0 1 0\n4\n", b"8 14"),
+    (b"aag 1 1 0 0 0\n3\n", b"8 14"),
+    (b"aag 2 2 0 0 0\n2\n2\n", b"9 16"),
+    (b"aag 1 0 0 1 0\n2\n", b"10 14"),
+    (b"aag 0 0 0 1 0\n", b"14 14"),
+    (b"aag 1 1 0 1 0\n2\n", b"14 16"),
+    (b"aag 4 2 0 1 2\n2\n4\n8\n8 6 2\n6 8 4\n", b"12 20"),
+    (b"aag 1 1 0 1 0\n2\n2\ni1 x\n", b"13 18"),
+    (b"aig 0 0 0 0 1\n", b"1 0"),
+    (b"aig 1 0 0 0 1\n\x82\x82\x82\x82\x82", b"11 14"),
+    (b"aig 3 2 0 1 1\n6\n\x82", b"11 16"),
+    (b"aig 3 2 0 1 1\n6\n\x02", b"11 17"),
+    (b"aig 3 2 0 1 1\n6\n\x07\x00", b"11 16"),
+    (b"", b"28 0"),
+    (b"aag", b"27 0"),
+    (b".latch x y\n", b"21 0"),
+    (b".gate nand2 a=x\n", b"20 0"),
+    (b".model m\n.model n\n", b"23 9"),
+    (b".inputs a a\n.outputs a\n", b"29 10"),
+    (b".inputs a\n.outputs y\n.names a y\n1 1\n0 0\n", b"26 36"),
+    (b".inputs a\n.outputs y\n.names a b y\n11 1\n", b"31 30"),
+    (b".inputs a\n.outputs y\n.names a y y\n11 1\n", b"32 21"),
 ];
 
 #[test]
-fn refuses_malformed_aiger_at_its_place(rt: HostRuntime) -> Result<(), Fail> {
-    for (first, report) in MALFORMED_AIGER.iter() {
-        expect(&rt, rt.alloc(), CHECK, [*first, B, TABLE], 5, *report)?;
-    }
-    Ok(())
-}
-
-#[test]
-fn refuses_malformed_blif_at_its_place(rt: HostRuntime) -> Result<(), Fail> {
-    for (first, report) in MALFORMED_BLIF.iter() {
-        expect(&rt, rt.alloc(), CHECK, [*first, B, TABLE], 5, *report)?;
+fn refuses_malformed_netlists_at_their_place(rt: HostRuntime) -> Result<(), Fail> {
+    for (first, fault) in MALFORMED.iter() {
+        let report = line(rt.alloc(), b"malformed first ", *fault)?;
+        let files = [*first, B, TABLE];
+        expect(&rt, rt.alloc(), CHECK, files, 5, report.as_slice())?;
     }
     Ok(())
 }

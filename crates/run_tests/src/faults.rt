@@ -1,18 +1,14 @@
 //! Calls of the outside that fail in turn.
 
 use crate::files::{A, AND, B, EMPTY, XOR};
-use crate::runs::{CHECK, Ended, Failing, MATCH, NEVER, run_failing};
+use crate::runs::{CHECK, Ended, Failing, MATCH, NEVER, NONE, run_failing};
 use std::alloc::{AllocError, Global};
+use std::process::Abort;
 use std::test::Fail;
 
 /// Seeks a match where a call of the shelf fails.
 fn seek(alloc: Global, netlists: [&[u8]; 2], call: u64) -> Result<Ended, AllocError> {
-    let failing = Failing {
-        call,
-        put: NEVER,
-        cut: 64,
-    };
-    run_failing(alloc, MATCH, netlists, None, failing)
+    run_failing(alloc, MATCH, netlists, None, Failing { call, ..NONE })
 }
 
 /// What is printed and what stands under the account's name where a call fails: open, read and close of either netlist;
@@ -30,51 +26,33 @@ static OF_NOTHING: [(&[u8], Option<&[u8]>); 10] = [
     (b"", Some(b"npnp 1\nmatch\nend\n")),
 ];
 
-#[test]
-fn leaves_a_first_part_of_the_account(rt: HostRuntime) -> Result<(), Fail> {
-    for (call, (report, account)) in OF_NOTHING.iter().enumerate() {
+/// Seeks a match where the first calls fail in turn, each the last one of its run.
+fn expect_in_turn(
+    rt: &impl Abort,
+    alloc: Global,
+    netlists: [&[u8]; 2],
+    rows: &[(&[u8], Option<&[u8]>)],
+) -> Result<(), Fail> {
+    for (call, (report, account)) in rows.iter().enumerate() {
         let call = call as u64;
-        let ended = seek(rt.alloc(), [EMPTY, EMPTY], call)?;
+        let ended = seek(alloc, netlists, call)?;
         assert_eq!(rt;
-            (
-                ended.status,
-                ended.report.as_slice(),
-                ended.account.as_deref(),
-                ended.calls
-            ),
-            (6, *report, *account, call + 1)
+            (ended.outcome(), ended.calls),
+            ((6, *report, *account), call + 1)
         );
     }
     Ok(())
 }
 
-/// What is printed where a call fails before the account is made: open, read and close of either netlist, and create.
-static BEFORE_THE_ACCOUNT: [&[u8]; 7] = [
-    b"read fault\n",
-    b"read fault\n",
-    b"read fault\n",
-    b"read fault\n",
-    b"read fault\n",
-    b"read fault\n",
-    b"",
-];
+#[test]
+fn leaves_a_first_part_of_the_account(rt: HostRuntime) -> Result<(), Fail> {
+    expect_in_turn(&rt, rt.alloc(), [EMPTY, EMPTY], &OF_NOTHING)
+}
 
+/// Up to the call that creates the account.
 #[test]
 fn leaves_no_account_that_was_not_made(rt: HostRuntime) -> Result<(), Fail> {
-    for (call, report) in BEFORE_THE_ACCOUNT.iter().enumerate() {
-        let call = call as u64;
-        let ended = seek(rt.alloc(), [A, B], call)?;
-        assert_eq!(rt;
-            (
-                ended.status,
-                ended.report.as_slice(),
-                ended.account.as_deref(),
-                ended.calls
-            ),
-            (6, *report, None, call + 1)
-        );
-    }
-    Ok(())
+    expect_in_turn(&rt, rt.alloc(), [A, B], &OF_NOTHING[..7])
 }
 
 /// The third read, of five bytes, is that of the first netlist's last bytes.
@@ -82,18 +60,13 @@ fn leaves_no_account_that_was_not_made(rt: HostRuntime) -> Result<(), Fail> {
 fn fails_at_the_third_read(rt: HostRuntime) -> Result<(), Fail> {
     let failing = Failing {
         call: 3,
-        put: NEVER,
         cut: 5,
+        ..NONE
     };
     let ended = run_failing(rt.alloc(), MATCH, [EMPTY, EMPTY], None, failing)?;
     assert_eq!(rt;
-        (
-            ended.status,
-            ended.report.as_slice(),
-            ended.account.as_deref(),
-            ended.calls
-        ),
-        (6, b"read fault\n".as_slice(), None, 4)
+        (ended.outcome(), ended.calls),
+        ((6, b"read fault\n".as_slice(), None), 4)
     );
     Ok(())
 }
@@ -110,11 +83,7 @@ fn leaves_first_parts_of_longer_accounts(rt: HostRuntime) -> Result<(), Fail> {
         let ended = seek(rt.alloc(), [A, B], *call)?;
         let count = account.len().saturating_sub(*left_out);
         assert_eq!(rt;
-            (
-                ended.status,
-                ended.report.as_slice(),
-                ended.account.as_deref()
-            ),
+            ended.outcome(),
             (6, b"".as_slice(), Some(&account[..count]))
         );
     }
@@ -123,18 +92,10 @@ fn leaves_first_parts_of_longer_accounts(rt: HostRuntime) -> Result<(), Fail> {
 
 #[test]
 fn writes_the_account_where_nothing_can_be_printed(rt: HostRuntime) -> Result<(), Fail> {
-    let failing = Failing {
-        call: NEVER,
-        put: 0,
-        cut: 64,
-    };
+    let failing = Failing { put: 0, ..NONE };
     let ended = run_failing(rt.alloc(), MATCH, [EMPTY, EMPTY], None, failing)?;
     assert_eq!(rt;
-        (
-            ended.status,
-            ended.report.as_slice(),
-            ended.account.as_deref()
-        ),
+        ended.outcome(),
         (6, b"".as_slice(), Some(b"npnp 1\nmatch\nend\n".as_slice()))
     );
     Ok(())
@@ -144,11 +105,7 @@ fn writes_the_account_where_nothing_can_be_printed(rt: HostRuntime) -> Result<()
 fn calls_nothing_after_a_fault(rt: HostRuntime) -> Result<(), Fail> {
     // open, read and close of each of three files
     for call in 0..9 {
-        let failing = Failing {
-            call,
-            put: NEVER,
-            cut: 64,
-        };
+        let failing = Failing { call, ..NONE };
         let files = [EMPTY, EMPTY];
         let ended = run_failing(rt.alloc(), CHECK, files, Some(EMPTY), failing)?;
         assert_eq!(rt;
@@ -175,8 +132,8 @@ fn reads_no_more_than_the_first_bad_line(rt: HostRuntime) -> Result<(), Fail> {
     for (call, status, report) in AROUND_THE_CLOSE.iter() {
         let failing = Failing {
             call: *call,
-            put: NEVER,
             cut: 16,
+            ..NONE
         };
         let ended = run_failing(rt.alloc(), CHECK, [AND, XOR], Some(BAD_LINE), failing)?;
         assert_eq!(rt;
@@ -189,11 +146,7 @@ fn reads_no_more_than_the_first_bad_line(rt: HostRuntime) -> Result<(), Fail> {
 
 #[test]
 fn ends_where_nothing_can_be_printed(rt: HostRuntime) -> Result<(), Fail> {
-    let failing = Failing {
-        call: NEVER,
-        put: 0,
-        cut: 64,
-    };
+    let failing = Failing { put: 0, ..NONE };
     let ended = run_failing(rt.alloc(), CHECK, [A, B], None, failing)?;
     assert_eq!(rt;
         (ended.status, ended.report.as_slice()),

@@ -2,6 +2,8 @@
 #![tactic(auto)]
 
 #[cfg(test)]
+mod alterations;
+#[cfg(test)]
 mod checks;
 #[cfg(test)]
 mod faults;

@@ -1,37 +1,36 @@
 //! Matches that are sought, and the accounts that are written of them.
 
 use crate::files::{A, AND, B, C17, C17_MOVED, EMPTY, OR, THREE, TWO, WIRE, XOR, ZERO};
-use crate::runs::{CHECK, MATCH, expect, run_on};
+use crate::runs::{CHECK, MATCH, expect, line, run_on};
 use std::alloc::Global;
 use std::process::Abort;
 use std::test::Fail;
 
-/// The match of two netlists: the words, how it ends, what it prints, and what a check of its account prints then.
+/// The match of two netlists: the words, and what is printed of it after the first words, where there is one.
 struct Sought {
     files: [&'static [u8]; 2],
     words: &'static [&'static str],
-    status: u8,
-    report: &'static [u8],
-    checked: &'static [u8],
+    table: Option<&'static [u8]>,
 }
 
 /// Seeks a match, and checks the account that was written, nothing where there is none.
 fn seek(rt: &impl Abort, alloc: Global, row: &Sought) -> Result<(), Fail> {
+    let (status, found, checked): (u8, &[u8], &[u8]) = match row.table {
+        Some(_) => (0, b"matched", b"accepted match"),
+        None => (1, b"no matching", b"accepted refusal"),
+    };
+    let table = row.table.unwrap_or(b"");
     let ended = run_on(alloc, row.words, row.files, None)?;
+    let report = line(alloc, found, table)?;
     assert_eq!(rt;
         (ended.status, ended.report.as_slice()),
-        (row.status, row.report)
+        (status, report.as_slice())
     );
     let account = ended.account.as_deref().unwrap_or(b"");
     let [first, second] = row.files;
-    expect(
-        rt,
-        alloc,
-        CHECK,
-        [first, second, account],
-        row.status,
-        row.checked,
-    )
+    let files = [first, second, account];
+    let report = line(alloc, checked, table)?;
+    expect(rt, alloc, CHECK, files, status, report.as_slice())
 }
 
 /// Nothing may be learned.
@@ -48,67 +47,53 @@ static SOUGHT: [Sought; 9] = [
     Sought {
         files: [A, B],
         words: MATCH,
-        status: 0,
-        report: b"matched\ninput 0 i0 = not input 1 i1\ninput 1 i1 = input 0 i0\noutput 0 o0 = not output 1 o1\noutput 1 o1 = output 0 o0\n",
-        checked: b"accepted match\ninput 0 i0 = not input 1 i1\ninput 1 i1 = input 0 i0\noutput 0 o0 = not output 1 o1\noutput 1 o1 = output 0 o0\n",
+        table: Some(
+            b"\ninput 0 i0 = not input 1 i1\ninput 1 i1 = input 0 i0\noutput 0 o0 = not output 1 o1\noutput 1 o1 = output 0 o0",
+        ),
     },
     Sought {
         files: [THREE, TWO],
         words: WITHOUT_BUDGET,
-        status: 1,
-        report: b"no matching\n",
-        checked: b"accepted refusal\n",
+        table: None,
     },
     Sought {
         files: [AND, XOR],
         words: MATCH,
-        status: 1,
-        report: b"no matching\n",
-        checked: b"accepted refusal\n",
+        table: None,
     },
     // constant 0 and constant 1
     Sought {
         files: [b"aag 0 0 0 1 0\n0\n", b"aag 0 0 0 1 0\n1\n"],
         words: &["match", "A", "B", "t", "18446744073709551615", "0"],
-        status: 0,
-        report: b"matched\noutput 0 o0 = not output 0 o0\n",
-        checked: b"accepted match\noutput 0 o0 = not output 0 o0\n",
+        table: Some(b"\noutput 0 o0 = not output 0 o0"),
     },
     Sought {
         files: [EMPTY, EMPTY],
         words: WITHOUT_BUDGET,
-        status: 0,
-        report: b"matched\n",
-        checked: b"accepted match\n",
+        table: Some(b""),
     },
     Sought {
         files: [ZERO, WIRE],
         words: MATCH,
-        status: 1,
-        report: b"no matching\n",
-        checked: b"accepted refusal\n",
+        table: None,
     },
     // inputs alone
     Sought {
         files: [THREE, THREE],
         words: WITHOUT_BUDGET,
-        status: 0,
-        report: b"matched\ninput 0 i0 = input 0 i0\ninput 1 i1 = input 1 i1\ninput 2 i2 = input 2 i2\n",
-        checked: b"accepted match\ninput 0 i0 = input 0 i0\ninput 1 i1 = input 1 i1\ninput 2 i2 = input 2 i2\n",
+        table: Some(b"\ninput 0 i0 = input 0 i0\ninput 1 i1 = input 1 i1\ninput 2 i2 = input 2 i2"),
     },
     Sought {
         files: [TWO_OF_FOUR, ODD_OF_FOUR],
         words: MATCH,
-        status: 1,
-        report: b"no matching\n",
-        checked: b"accepted refusal\n",
+        table: None,
     },
     Sought {
         files: [C17, C17_MOVED],
         words: &["match", "A", "B", "t", "1000000", "7"],
-        status: 0,
-        report: b"matched\ninput 0 1 = input 2 i2\ninput 1 2 = input 4 i4\ninput 2 3 = not input 1 i1\ninput 3 6 = input 3 i3\ninput 4 7 = input 0 i0\noutput 0 22 = output 1 o1\noutput 1 23 = output 0 o0\n",
-        checked: b"accepted match\ninput 0 1 = input 2 i2\ninput 1 2 = input 4 i4\ninput 2 3 = not input 1 i1\ninput 3 6 = input 3 i3\ninput 4 7 = input 0 i0\noutput 0 22 = output 1 o1\noutput 1 23 = output 0 o0\n",
+        table: Some(
+            b"\ninput 0 1 = input 2 i2\ninput 1 2 = input 4 i4\ninput 2 3 = not input 1 i1\ninput 3 6 = input 3 i3\ninput 4 7 = input 0 i0\noutput 0 22 = output 1 o1\noutput 1 23 = output 0 o0",
+        ),
     },
 ];
 
@@ -180,14 +165,7 @@ static WRITTEN: [Written; 8] = [
 fn writes_whole_accounts_or_none(rt: HostRuntime) -> Result<(), Fail> {
     for (words, files, status, report, account) in WRITTEN.iter() {
         let ended = run_on(rt.alloc(), *words, *files, None)?;
-        assert_eq!(rt;
-            (
-                ended.status,
-                ended.report.as_slice(),
-                ended.account.as_deref()
-            ),
-            (*status, *report, *account)
-        );
+        assert_eq!(rt; ended.outcome(), (*status, *report, *account));
     }
     Ok(())
 }

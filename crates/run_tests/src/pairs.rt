@@ -1,7 +1,7 @@
 //! Pairs of netlists that a number gives: made, matched, checked and tried.
 
 use crate::files::{A, B, EMPTY, TABLE};
-use crate::runs::{CHECK, Failing, MATCH, NEVER, expect, run_failing, run_on};
+use crate::runs::{CHECK, Failing, MATCH, NONE, expect, run_failing, run_on};
 use std::alloc::Global;
 use std::process::Abort;
 use std::test::Fail;
@@ -76,11 +76,7 @@ fn failing(
     words: &[&str],
     call: u64,
 ) -> Result<Option<usize>, Fail> {
-    let failing = Failing {
-        call,
-        put: NEVER,
-        cut: 64,
-    };
+    let failing = Failing { call, ..NONE };
     let ended = run_failing(alloc, words, [EMPTY, EMPTY], None, failing)?;
     assert_eq!(rt;
         (ended.status, ended.report.is_empty(), ended.calls),
@@ -99,29 +95,6 @@ fn leaves_first_parts_of_a_pair(rt: HostRuntime) -> Result<(), Fail> {
         let one = failing(&rt, rt.alloc(), FIRST, call)?;
         let other = failing(&rt, rt.alloc(), SECOND, call)?;
         assert_eq!(&rt; [one, other], *row);
-    }
-    Ok(())
-}
-
-static NO_PAIR: [&[&str]; 12] = [
-    &["make", "7", "A"],
-    &["make", "7", "A", "A"],
-    &["make", "7", "", "B"],
-    &["make", "7", "A", ""],
-    &["make", "x", "A", "B"],
-    &["make", "18446744073709551616", "A", "B"],
-    &["make", "7", "A", "B", "t"],
-    &["trial"],
-    &["trial", ""],
-    &["trial", "-1"],
-    &["trial", "000000000000000000001"],
-    &["trial", "7", "8"],
-];
-
-#[test]
-fn refuses_words_of_no_pair(rt: HostRuntime) -> Result<(), Fail> {
-    for words in NO_PAIR.iter() {
-        expect(&rt, rt.alloc(), *words, [A, B, TABLE], 4, b"usage\n")?;
     }
     Ok(())
 }

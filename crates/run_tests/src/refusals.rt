@@ -1,11 +1,9 @@
 //! Accounts that say that no match exists, and the nearest ones that aren't good.
 
+use crate::alterations::{Altered, check_altered};
 use crate::files::{A, AND, AND_OR, B, EMPTY, OR, TABLE, THREE, TWO, WIRE, XOR, ZERO};
-use crate::runs::{CHECK, Row, check_rows, expect};
-use std::alloc::{AllocError, Global};
-use std::process::Abort;
+use crate::runs::{CHECK, expect};
 use std::test::Fail;
-use text_core::Cursor;
 
 const NO_PORTS: &[u8] = b"npnp 1\nnone ports\nend\n";
 
@@ -21,94 +19,17 @@ const ZERO_WIRE: &[u8] =
 const BY_SUPPORT: &[u8] =
     b"npnp 1\nfails b 0 down 0 =1\nholds a 0 up 0\nl : 0 1\nholds a 0 down 0\nl : 0 1\nban o0+0 : tally support 0 / 1 2\nban o0-0 : tally support 0 / 1 2\nban : cover out 0 / 0 / 0 1\nnone ban 2\nend\n";
 
-static REFUSALS: [Row; 4] = [
-    Row {
-        files: [THREE, TWO, NO_PORTS],
-        status: 1,
-        report: b"accepted refusal\n",
-    },
-    Row {
-        files: [AND, XOR, AND_XOR],
-        status: 1,
-        report: b"accepted refusal\n",
-    },
-    Row {
-        files: [ZERO, WIRE, ZERO_WIRE],
-        status: 1,
-        report: b"accepted refusal\n",
-    },
-    Row {
-        files: [ZERO, WIRE, BY_SUPPORT],
-        status: 1,
-        report: b"accepted refusal\n",
-    },
+static REFUSALS: [[&[u8]; 3]; 4] = [
+    [THREE, TWO, NO_PORTS],
+    [AND, XOR, AND_XOR],
+    [ZERO, WIRE, ZERO_WIRE],
+    [ZERO, WIRE, BY_SUPPORT],
 ];
 
 #[test]
 fn accepts_refusals(rt: HostRuntime) -> Result<(), Fail> {
-    check_rows(&rt, rt.alloc(), &REFUSALS)
-}
-
-/// How many lines of an account stay, what stands after them, and the number of the bad line with the word for it.
-type Altered = (usize, &'static [u8], &'static [u8]);
-
-/// Writes the first lines of an account.
-fn put_lines(text: &mut Vec<u8>, account: &[u8], lines: usize) -> Result<(), AllocError> {
-    let mut cursor = Cursor::new(account);
-    for _ in 0..lines {
-        if let Some(line) = cursor.next_line() {
-            text.extend_from_slice(line.bytes())?;
-            text.extend_from_slice(b"\n")?;
-        }
-    }
-    Ok(())
-}
-
-/// The first lines of an account, and a text after them.
-fn altered(
-    alloc: Global,
-    account: &[u8],
-    lines: usize,
-    then: &[u8],
-) -> Result<Vec<u8>, AllocError> {
-    let mut text = Vec::new(alloc);
-    put_lines(&mut text, account, lines)?;
-    text.extend_from_slice(then)?;
-    Ok(text)
-}
-
-/// The report of a bad line.
-fn rejected(alloc: Global, bad: &[u8]) -> Result<Vec<u8>, AllocError> {
-    let mut report = b"rejected line ".to_vec(alloc)?;
-    report.extend_from_slice(bad)?;
-    report.extend_from_slice(b"\n")?;
-    Ok(report)
-}
-
-/// Checks an altered account, which has a bad line.
-fn check_one(
-    rt: &impl Abort,
-    alloc: Global,
-    files: [&[u8]; 3],
-    lines: usize,
-    then: &[u8],
-    bad: &[u8],
-) -> Result<(), Fail> {
-    let [first, second, account] = files;
-    let account = altered(alloc, account, lines, then)?;
-    let report = rejected(alloc, bad)?;
-    let files = [first, second, account.as_slice()];
-    expect(rt, alloc, CHECK, files, 2, report.as_slice())
-}
-
-fn check_altered(
-    rt: &impl Abort,
-    alloc: Global,
-    files: [&[u8]; 3],
-    rows: &[Altered],
-) -> Result<(), Fail> {
-    for (lines, then, bad) in rows {
-        check_one(rt, alloc, files, *lines, *then, *bad)?;
+    for files in REFUSALS.iter() {
+        expect(&rt, rt.alloc(), CHECK, *files, 1, b"accepted refusal\n")?;
     }
     Ok(())
 }

@@ -28,6 +28,13 @@ pub(crate) struct Ended {
     pub(crate) calls: u64,
 }
 
+impl Ended {
+    /// Its status, what it printed, and what stood under the account's name.
+    pub(crate) fn outcome(&self) -> (u8, &[u8], Option<&[u8]>) {
+        (self.status, self.report.as_slice(), self.account.as_deref())
+    }
+}
+
 /// What is noted of a run, copied.
 pub(crate) fn note(
     alloc: Global,
@@ -130,6 +137,14 @@ pub(crate) fn expect(
     Ok(())
 }
 
+/// A line of a report, by its first words and what stands after them.
+pub(crate) fn line(alloc: Global, front: &[u8], rest: &[u8]) -> Result<Vec<u8>, AllocError> {
+    let mut line = front.to_vec(alloc)?;
+    line.extend_from_slice(rest)?;
+    line.extend_from_slice(b"\n")?;
+    Ok(line)
+}
+
 /// The check of two netlists by an account: the files, how it ends, and what it prints.
 pub(crate) struct Row {
     pub(crate) files: [&'static [u8]; 3],
@@ -151,6 +166,13 @@ pub(crate) struct Failing {
     pub(crate) put: u64,
     pub(crate) cut: usize,
 }
+
+/// No call fails, and each reads up to 64 bytes.
+pub(crate) const NONE: Failing = Failing {
+    call: NEVER,
+    put: NEVER,
+    cut: 64,
+};
 
 fn shelf_failing(
     alloc: Global,

@@ -111,17 +111,6 @@ fn tells_what_a_match_is_at(rt: HostRuntime) -> Result<(), Fail> {
             in_order: true
         }
     );
-    assert_eq!(rt;
-        (
-            ended.status,
-            ended.report.as_slice(),
-            ended.account.as_deref()
-        ),
-        (
-            silent.status,
-            silent.report.as_slice(),
-            silent.account.as_deref()
-        )
-    );
+    assert_eq!(rt; ended.outcome(), silent.outcome());
     Ok(())
 }

@@ -1,38 +1,19 @@
 //! Bans that are looked up by pairs.
 
+use crate::sample_circuits::port_pair;
 use account_core::{Ban, Step};
 use ban_book::BanBook;
 use circuits::{Pair, PortKind};
 use items::Few;
 use std::alloc::{AllocError, Global};
 
-const CROSSED: Pair = Pair {
-    kind: PortKind::Input,
-    from: 0,
-    to: 1,
-    flip: true,
-};
+const CROSSED: Pair = port_pair!(Input, 0, 1, true);
 
-const BACK: Pair = Pair {
-    kind: PortKind::Input,
-    from: 1,
-    to: 0,
-    flip: false,
-};
+const BACK: Pair = port_pair!(Input, 1, 0, false);
 
-const OWN: Pair = Pair {
-    kind: PortKind::Input,
-    from: 2,
-    to: 2,
-    flip: false,
-};
+const OWN: Pair = port_pair!(Input, 2, 2, false);
 
-const INVERTED: Pair = Pair {
-    kind: PortKind::Input,
-    from: 2,
-    to: 2,
-    flip: true,
-};
+const INVERTED: Pair = port_pair!(Input, 2, 2, true);
 
 fn ban(alloc: Global, pairs: &[Pair]) -> Result<Ban, AllocError> {
     Ok(Ban {

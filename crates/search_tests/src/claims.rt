@@ -3,9 +3,7 @@
 ghost use Rattle.std.specs.Prelude.{IsTrue};
 ghost use Rattle.claim_core.specs.Claims.{IsClaim, IsPlaced};
 
-use crate::sample_circuits::{
-    AND, AND_OF_THREE, Sample, WIRE, are_small, drawn_pair, output_on, pair,
-};
+use crate::sample_circuits::{AND, AND_OF_THREE, Sample, WIRE, are_small, drawn_pair, pair};
 use account_core::{Evidence, Fact};
 use cnf_core::Stop;
 use fact_tests::FactBook;
@@ -13,7 +11,7 @@ use net_core::{Graph, Graphs, Side};
 use oracle_core::Oracle;
 use port_sides::PairableGraphs;
 use query_core::{Claim, Ledger, Shape};
-use samples::SampleFault;
+use samples::output_on;
 use std::alloc::{AllocError, Global};
 use std::test::Fail;
 use table_oracle::TableOracle;

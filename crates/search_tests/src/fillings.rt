@@ -1,7 +1,8 @@
 //! Evaluation by three values, against all vectors that fill the unknown ones in.
 
-use crate::sample_circuits::{drawn, output_on};
+use crate::sample_circuits::drawn_by;
 use net_core::Graph;
+use samples::output_on;
 use std::alloc::Global;
 use std::test::Fail;
 use word_sim::{Tri, tri_eval};
@@ -73,7 +74,7 @@ fn wrong_values(alloc: Global, graph: &Graph) -> Result<Option<u32>, Fail> {
 }
 
 fn wrong_values_of_drawn(alloc: Global, number: u64) -> Result<Option<u32>, Fail> {
-    let circuit = drawn(alloc, number)?;
+    let circuit = drawn_by(alloc, number)?;
     wrong_values(alloc, &circuit)
 }
 

@@ -2,10 +2,11 @@
 
 ghost use Rattle.std.specs.Prelude.{◌≡◌, ◌<◌};
 
-use crate::sample_circuits::{AND, OR, Sample, XOR, drawn, drawn_moved, output_on, pair};
+use crate::sample_circuits::{AND, OR, Sample, XOR, moved_pair, pair};
 use flip_sim::Draws;
 use net_core::{Graphs, Matching};
 use port_sides::PairableGraphs;
+use samples::output_on;
 use std::alloc::{AllocError, Global};
 use std::test::Fail;
 use table_guess::{Effort, Guesser, Trials};
@@ -69,9 +70,8 @@ fn is_right(alloc: Global, graphs: &Graphs<'_>, table: &Matching) -> Result<bool
 
 /// Whether a match is guessed of a drawn circuit and of what a drawn matching makes of it.
 fn finds_moved(alloc: Global, number: u64) -> Result<bool, Fail> {
-    let first = drawn(alloc, number)?;
-    let second = drawn_moved(alloc, number)?;
-    let graphs = Graphs::new(&first, &second);
+    let both = moved_pair(alloc, number)?;
+    let graphs = both.graphs();
     match guessed(alloc, &graphs, number)? {
         Some(table) => is_right(alloc, &graphs, &table),
         None => Ok(false),
@@ -88,9 +88,8 @@ fn finds_what_a_table_moved(rt: HostRuntime) -> Result<(), Fail> {
 
 /// Whether something is guessed of drawn circuits by either of two seeds.
 fn by_two_seeds(alloc: Global, number: u64) -> Result<(bool, bool), Fail> {
-    let first = drawn(alloc, number)?;
-    let second = drawn_moved(alloc, number)?;
-    let graphs = Graphs::new(&first, &second);
+    let both = moved_pair(alloc, number)?;
+    let graphs = both.graphs();
     let one = guessed(alloc, &graphs, 1)?.is_some();
     let other = guessed(alloc, &graphs, 2)?.is_some();
     Ok((one, other))

@@ -9,7 +9,9 @@ ghost use Rattle.net_core.specs.declared.graphs.Side.TheVariants as AnySide;
 ghost use Rattle.oracle_core.specs.Oracles.{Suits};
 ghost use Rattle.query_core.specs.Ledgers.{Ledgered};
 
-use crate::sample_circuits::{AND, Sample, WIRE_OF_ONE, XOR, ZERO_OF_ONE, are_small, pair};
+use crate::sample_circuits::{
+    AND, Sample, WIRE_OF_ONE, XOR, ZERO_OF_ONE, are_small, pair, port_pair,
+};
 use account_core::Ban;
 use ban_book::BanBook;
 use circuits::{Pair, PortKind};
@@ -172,47 +174,17 @@ fn refined(alloc: Global, first: Sample, second: Sample, held: &[Pair]) -> Resul
     Ok(refined_of(alloc, &graphs, held)?)
 }
 
-const OUTPUT: Pair = Pair {
-    kind: PortKind::Output,
-    from: 0,
-    to: 0,
-    flip: false,
-};
+const OUTPUT: Pair = port_pair!(Output, 0, 0, false);
 
-const ONE_TO_ONE: Pair = Pair {
-    kind: PortKind::Input,
-    from: 0,
-    to: 0,
-    flip: false,
-};
+const ONE_TO_ONE: Pair = port_pair!(Input, 0, 0, false);
 
-const ONE_TO_ONE_NEGATED: Pair = Pair {
-    kind: PortKind::Input,
-    from: 0,
-    to: 0,
-    flip: true,
-};
+const ONE_TO_ONE_NEGATED: Pair = port_pair!(Input, 0, 0, true);
 
-const OTHER_TO_OTHER: Pair = Pair {
-    kind: PortKind::Input,
-    from: 1,
-    to: 1,
-    flip: false,
-};
+const OTHER_TO_OTHER: Pair = port_pair!(Input, 1, 1, false);
 
-const ONE_TO_OTHER: Pair = Pair {
-    kind: PortKind::Input,
-    from: 0,
-    to: 1,
-    flip: false,
-};
+const ONE_TO_OTHER: Pair = port_pair!(Input, 0, 1, false);
 
-const OTHER_TO_ONE: Pair = Pair {
-    kind: PortKind::Input,
-    from: 1,
-    to: 0,
-    flip: false,
-};
+const OTHER_TO_ONE: Pair = port_pair!(Input, 1, 0, false);
 
 /// Two circuits by name, the pairs that are held, and what refining comes to.
 const REFININGS: &[(&str, Sample, Sample, &[Pair], Outcome)] = &[

@@ -1,14 +1,12 @@
-//! Small circuits: by the numbers of their literals, or drawn.
+//! Small circuits, by the numbers of their literals or drawn, and pairs of their ports.
 
 ghost use Rattle.std.specs.Prelude.{◌≤◌, IsTrue};
 
-use net_core::{Graph, lit_value};
+use net_core::Graph;
 use port_sides::PairableGraphs;
-use rand_core::utils::NextWord;
 use rand_pcg::Pcg32;
-use samples::{GraphPair, SampleFault, graph};
+use samples::{GraphPair, SampleFault, drawn, drawn_over, graph};
 use std::alloc::Global;
-use std::test::Fail;
 
 /// A circuit, by the numbers of its literals.
 #[derive(Clone, Copy)]
@@ -84,12 +82,12 @@ pub(crate) fn are_small(graphs: &PairableGraphs<'_>) -> bool
 }
 
 /// A circuit of three inputs and six gates, drawn by a number.
-pub(crate) fn drawn(alloc: Global, number: u64) -> Result<Graph, SampleFault> {
-    drawn_by(alloc, number, [2, 4, 6])
+pub(crate) fn drawn_by(alloc: Global, number: u64) -> Result<Graph, SampleFault> {
+    drawn(alloc, &mut Pcg32::new(number, 54))
 }
 
 /// The same with its inputs permuted and negated, by the number.
-pub(crate) fn drawn_moved(alloc: Global, number: u64) -> Result<Graph, SampleFault> {
+fn moved_by(alloc: Global, number: u64) -> Result<Graph, SampleFault> {
     let orders = [
         [2, 4, 6],
         [2, 6, 4],
@@ -100,52 +98,41 @@ pub(crate) fn drawn_moved(alloc: Global, number: u64) -> Result<Graph, SampleFau
     ];
     let [a, b, c] = orders[(number % 6) as usize];
     let signs = (number / 3 % 8) as u32;
-    drawn_by(
+    drawn_over(
         alloc,
-        number,
+        &mut Pcg32::new(number, 54),
         [a ^ signs % 2, b ^ signs / 2 % 2, c ^ signs / 4],
     )
 }
 
-/// A drawn circuit with other literals in place of its inputs.
-fn drawn_by(alloc: Global, number: u64, inputs: [u32; 3]) -> Result<Graph, SampleFault> {
-    let mut numbers = Pcg32::new(number, 54);
-    let mut gates = [(0, 0); 6];
-    for t in 0..6u32 {
-        let below = 2 * (4 + t);
-        gates[t as usize] = (
-            renamed(inputs, numbers.next_word() % below),
-            renamed(inputs, numbers.next_word() % below),
-        );
-    }
-    let output = 18 + numbers.next_word() % 2;
-    graph(alloc, 3, gates.as_slice(), &[output])
-}
-
-/// A literal with other ones in place of the inputs.
-fn renamed(inputs: [u32; 3], literal: u32) -> u32 {
-    match literal / 2 {
-        signal @ 1..=3 => inputs[signal as usize - 1] ^ literal % 2,
-        _ => literal,
-    }
-}
-
 /// A drawn circuit beside the next one.
 pub(crate) fn drawn_pair(alloc: Global, number: u64) -> Result<GraphPair, SampleFault> {
-    let first = drawn(alloc, number)?;
+    let first = drawn_by(alloc, number)?;
     Ok(GraphPair {
         first,
-        second: drawn(alloc, number.wrapping_add(1))?,
+        second: drawn_by(alloc, number.wrapping_add(1))?,
     })
 }
 
-/// The output of a circuit of three inputs on a vector, by the vector's number.
-pub(crate) fn output_on(alloc: Global, graph: &Graph, code: u32) -> Result<bool, Fail> {
-    let vector = [code % 2 == 1, code / 2 % 2 == 1, code / 4 % 2 == 1];
-    if (graph.inputs() != 3) | graph.outputs().is_empty() {
-        return Err("another graph".into());
-    }
-    let mut values = vec![in alloc; false; graph.signals()]?;
-    graph.eval_into(&vector, &mut values);
-    Ok(lit_value(&values, graph.outputs()[0]))
+/// A drawn circuit beside the same with its inputs permuted and negated.
+pub(crate) fn moved_pair(alloc: Global, number: u64) -> Result<GraphPair, SampleFault> {
+    let first = drawn_by(alloc, number)?;
+    Ok(GraphPair {
+        first,
+        second: moved_by(alloc, number)?,
+    })
 }
+
+/// A pair of ports, given by its kind, the first circuit's port, the second one's, and whether it inverts.
+macro_rules! port_pair {
+    ($kind:ident, $from:literal, $to:literal, $flip:literal) => {
+        Pair {
+            kind: PortKind::$kind,
+            from: $from,
+            to: $to,
+            flip: $flip,
+        }
+    };
+}
+
+pub(crate) use port_pair;

@@ -100,21 +100,8 @@ const DECODER: Sample = Sample {
 };
 
 const DECODER_ONE_TWICE: Sample = Sample {
-    inputs: 3,
-    gates: &[
-        (5, 3),
-        (5, 2),
-        (4, 3),
-        (4, 2),
-        (8, 7),
-        (10, 7),
-        (12, 7),
-        (14, 7),
-        (8, 6),
-        (10, 6),
-        (12, 6),
-    ],
     outputs: &[16, 18, 20, 22, 24, 26, 28, 28],
+    ..DECODER
 };
 
 /// What a search comes to, with what it leaves.

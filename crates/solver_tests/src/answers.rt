@@ -11,7 +11,7 @@ use items::Items;
 use net_core::{Graphs, Side};
 use query_core::{Cone, Feed, Feeds, Ledger, Query, QueryBase};
 use rand_pcg::Pcg32;
-use samples::{GraphPair, drawn, graph};
+use samples::{GraphPair, drawn};
 use std::alloc::{AllocError, Global};
 use std::test::Fail;
 
@@ -172,20 +172,11 @@ fn asked(
 
 /// A question about two circuits of two inputs, whose gates and output are given as literals.
 struct Row<'a> {
-    first: &'a [(u32, u32)],
-    first_output: u32,
-    second: &'a [(u32, u32)],
-    second_output: u32,
+    first: (&'a [(u32, u32)], u32),
+    second: (&'a [(u32, u32)], u32),
     falls: bool,
     budget: u64,
     outcome: Outcome,
-}
-
-fn graphs_of(alloc: Global, row: &Row<'_>) -> Result<GraphPair, Fail> {
-    Ok(GraphPair {
-        first: graph(alloc, 2, row.first, &[row.first_output])?,
-        second: graph(alloc, 2, row.second, &[row.second_output])?,
-    })
 }
 
 fn query_of(alloc: Global, row: &Row<'_>) -> Result<Query, AllocError> {
@@ -197,51 +188,41 @@ fn query_of(alloc: Global, row: &Row<'_>) -> Result<Query, AllocError> {
 }
 
 fn outcome_of_row(alloc: Global, row: &Row<'_>) -> Result<Outcome, Fail> {
-    let both = graphs_of(alloc, row)?;
+    let both = GraphPair::new(alloc, 2, row.first, row.second)?;
     let query = query_of(alloc, row)?;
     Ok(asked(alloc, &both.graphs(), &query, row.budget)?)
 }
 
-const AND: &[(u32, u32)] = &[(2, 4)];
-
-const XOR: &[(u32, u32)] = &[(2, 5), (3, 4), (7, 9)];
+const AND: (&[(u32, u32)], u32) = (&[(2, 4)], 6);
 
 const ROWS: [Row<'static>; 6] = [
     // the AND doesn't fall where input 0 rises
     Row {
         first: AND,
-        first_output: 6,
         second: AND,
-        second_output: 6,
         falls: true,
         budget: 0,
         outcome: Outcome::Spent(0),
     },
     Row {
         first: AND,
-        first_output: 6,
         second: AND,
-        second_output: 6,
         falls: true,
         budget: 1,
         outcome: Outcome::Refuted(1),
     },
     // gate 0 is outside of both cones
     Row {
-        first: &[(3, 5), (2, 4)],
-        first_output: 8,
+        first: (&[(3, 5), (2, 4)], 8),
         second: AND,
-        second_output: 6,
         falls: true,
         budget: 9,
         outcome: Outcome::Refuted(1),
     },
     // the exclusive or falls where input 1 is 1
     Row {
-        first: XOR,
-        first_output: 11,
+        first: (&[(2, 5), (3, 4), (7, 9)], 11),
         second: AND,
-        second_output: 6,
         falls: true,
         budget: 9,
         outcome: Outcome::Vector(2),
@@ -249,18 +230,14 @@ const ROWS: [Row<'static>; 6] = [
     // an AND is below an OR, and is not below a constant
     Row {
         first: AND,
-        first_output: 6,
-        second: &[(3, 5)],
-        second_output: 7,
+        second: (&[(3, 5)], 7),
         falls: false,
         budget: 9,
         outcome: Outcome::Refuted(1),
     },
     Row {
         first: AND,
-        first_output: 6,
-        second: &[],
-        second_output: 0,
+        second: (&[], 0),
         falls: false,
         budget: 9,
         outcome: Outcome::Vector(3),
@@ -292,10 +269,7 @@ const UNATE: &[(u32, u32)] = &[
 ];
 
 fn unate_outcome(alloc: Global, budget: u64) -> Result<Outcome, Fail> {
-    let both = GraphPair {
-        first: graph(alloc, 9, UNATE, &[41])?,
-        second: graph(alloc, 9, &[], &[0])?,
-    };
+    let both = GraphPair::new(alloc, 9, (UNATE, 41), (&[], 0))?;
     let query = falls(alloc, 9)?;
     Ok(asked(alloc, &both.graphs(), &query, budget)?)
 }

@@ -3,14 +3,14 @@
 ghost use Rattle.claim_core.specs.Queries.{IsQuery};
 
 use crate::answers::{exceeds, falls, is_query};
-use crate::queries::match_query;
+use crate::queries::{are_literals, match_query};
 use crate::refutation::takes_all;
 use cnf_core::{Base, LogLine, SatLit};
 use joint_hash::merge;
 use net_core::{Graphs, Matching};
 use query_core::{ConeClauses, Query, QueryBase};
 use rand_pcg::Pcg32;
-use samples::{GraphPair, drawn, graph, matching};
+use samples::{GraphPair, drawn, matching};
 use std::alloc::{AllocError, Global};
 use std::test::Fail;
 
@@ -21,18 +21,9 @@ fn lemmas_of(alloc: Global, graphs: &Graphs<'_>, query: &Query) -> Result<Vec<Lo
     merge(alloc, &cones)
 }
 
-fn is_clause(line: &LogLine, numbers: &[u64]) -> bool {
-    for (literal, number) in line.clause.iter().zip(numbers.iter()) {
-        if literal.0 != *number {
-            return false;
-        }
-    }
-    line.clause.len() == numbers.len()
-}
-
 fn are_clauses(lines: &[LogLine], wanted: &[[u64; 2]]) -> bool {
     for (line, numbers) in lines.iter().zip(wanted.iter()) {
-        if !is_clause(line, numbers) {
+        if !are_literals(line.clause.as_slice(), numbers) {
             return false;
         }
     }
@@ -54,10 +45,8 @@ fn has_lemmas(
 
 /// Gates of two circuits of two inputs, with their outputs, and the lemmas: the literals of each clause.
 struct Row<'a> {
-    first: &'a [(u32, u32)],
-    first_output: u32,
-    second: &'a [(u32, u32)],
-    second_output: u32,
+    first: (&'a [(u32, u32)], u32),
+    second: (&'a [(u32, u32)], u32),
     lemmas: &'a [[u64; 2]],
 }
 
@@ -67,72 +56,53 @@ const BOTH_WAYS: &[[u64; 2]] = &[[7, 8], [6, 9]];
 const ROWS: [Row<'static>; 8] = [
     // an AND, and one with its operands exchanged
     Row {
-        first: &[(2, 4)],
-        first_output: 6,
-        second: &[(4, 2)],
-        second_output: 6,
+        first: (&[(2, 4)], 6),
+        second: (&[(4, 2)], 6),
         lemmas: BOTH_WAYS,
     },
     Row {
-        first: &[(2, 4)],
-        first_output: 6,
-        second: &[(3, 4)],
-        second_output: 6,
+        first: (&[(2, 4)], 6),
+        second: (&[(3, 4)], 6),
         lemmas: &[],
     },
     // of an operand twice, of the constant, and of a signal and its opposite
     Row {
-        first: &[(2, 2)],
-        first_output: 6,
-        second: &[(2, 2)],
-        second_output: 6,
+        first: (&[(2, 2)], 6),
+        second: (&[(2, 2)], 6),
         lemmas: BOTH_WAYS,
     },
     Row {
-        first: &[(1, 2)],
-        first_output: 6,
-        second: &[(2, 1)],
-        second_output: 7,
+        first: (&[(1, 2)], 6),
+        second: (&[(2, 1)], 7),
         lemmas: BOTH_WAYS,
     },
     Row {
-        first: &[(4, 5)],
-        first_output: 6,
-        second: &[(5, 4)],
-        second_output: 7,
+        first: (&[(4, 5)], 6),
+        second: (&[(5, 4)], 7),
         lemmas: BOTH_WAYS,
     },
     // gates of gates, one of them read inverted
     Row {
-        first: &[(2, 4), (7, 3)],
-        first_output: 8,
-        second: &[(4, 2), (3, 7)],
-        second_output: 8,
+        first: (&[(2, 4), (7, 3)], 8),
+        second: (&[(4, 2), (3, 7)], 8),
         lemmas: &[[7, 10], [6, 11], [9, 12], [8, 13]],
     },
     // two gates of one circuit, and a gate of both
     Row {
-        first: &[(2, 4), (4, 2), (6, 8)],
-        first_output: 10,
-        second: &[],
-        second_output: 0,
+        first: (&[(2, 4), (4, 2), (6, 8)], 10),
+        second: (&[], 0),
         lemmas: BOTH_WAYS,
     },
     // a gate outside of the cone
     Row {
-        first: &[(2, 4), (2, 5)],
-        first_output: 8,
-        second: &[(4, 2)],
-        second_output: 6,
+        first: (&[(2, 4), (2, 5)], 8),
+        second: (&[(4, 2)], 6),
         lemmas: &[],
     },
 ];
 
 fn row_holds(alloc: Global, row: &Row<'_>) -> Result<bool, Fail> {
-    let both = GraphPair {
-        first: graph(alloc, 2, row.first, &[row.first_output])?,
-        second: graph(alloc, 2, row.second, &[row.second_output])?,
-    };
+    let both = GraphPair::new(alloc, 2, row.first, row.second)?;
     let query = exceeds(alloc, 2)?;
     Ok(has_lemmas(alloc, &both.graphs(), &query, row.lemmas)?)
 }
@@ -174,10 +144,7 @@ fn rise_holds(
     output: u32,
     lemmas: &[[u64; 2]],
 ) -> Result<bool, Fail> {
-    let both = GraphPair {
-        first: graph(alloc, 3, gates, &[output])?,
-        second: graph(alloc, 3, &[], &[0])?,
-    };
+    let both = GraphPair::new(alloc, 3, (gates, output), (&[], 0))?;
     let query = falls(alloc, 3)?;
     Ok(has_lemmas(alloc, &both.graphs(), &query, lemmas)?)
 }
@@ -209,10 +176,7 @@ fn has_match_lemmas(
 
 #[test]
 fn merges_what_a_match_asks(rt: HostRuntime) -> Result<(), Fail> {
-    let both = GraphPair {
-        first: graph(rt.alloc(), 2, &[(2, 4)], &[6])?,
-        second: graph(rt.alloc(), 2, &[(4, 2)], &[6])?,
-    };
+    let both = GraphPair::new(rt.alloc(), 2, (&[(2, 4)], 6), (&[(4, 2)], 6))?;
     let identity = matching(rt.alloc(), &[(0, false), (1, false)], &[(0, false)])?;
     assert!(rt; has_match_lemmas(rt.alloc(), &both.graphs(), &identity, BOTH_WAYS)?);
     Ok(())

@@ -14,7 +14,8 @@ use std::alloc::{AllocError, Global};
 use std::collections::HashMap;
 use std::test::Fail;
 
-fn are_literals(literals: &[SatLit], numbers: &[u64]) -> bool {
+/// Whether literals have these numbers.
+pub fn are_literals(literals: &[SatLit], numbers: &[u64]) -> bool {
     for (literal, number) in literals.iter().zip(numbers.iter()) {
         if literal.0 != *number {
             return false;
@@ -55,14 +56,6 @@ fn wrong_clause_of(
 {
     let base = QueryBase::new(alloc, graphs, query)?;
     Ok(wrong_clause(&base, wanted))
-}
-
-/// The AND of two inputs, and their OR.
-fn and_or(alloc: Global) -> Result<GraphPair, Fail> {
-    Ok(GraphPair {
-        first: graph(alloc, 2, &[(2, 4)], &[6])?,
-        second: graph(alloc, 2, &[(3, 5)], &[7])?,
-    })
 }
 
 /// The query of a match for its one output, or None where these aren't the circuits' ports.
@@ -106,7 +99,7 @@ fn wrong_difference_clause(
     value: bool,
     wanted: &[&[u64]],
 ) -> Result<Option<u64>, Fail> {
-    let both = and_or(alloc)?;
+    let both = GraphPair::new(alloc, 2, (&[(2, 4)], 6), (&[(3, 5)], 7))?;
     let inverting = matching(alloc, &[(0, true), (1, true)], &[(0, true)])?;
     Ok(wrong_match_clause(alloc, &both.graphs(), &inverting, value, wanted)?)
 }
@@ -125,24 +118,16 @@ const WHERE_TRUE: [&[u64]; 9] = [
     &[9],
 ];
 
-/// The same where the AND is false.
-const WHERE_FALSE: [&[u64]; 9] = [
-    &[0],
-    &[7, 2],
-    &[7, 4],
-    &[6, 3, 5],
-    &[9, 2],
-    &[9, 4],
-    &[8, 3, 5],
-    &[7],
-    &[8],
-];
-
 #[test]
 fn asks_for_a_difference(rt: HostRuntime) -> Result<(), Fail> {
-    let where_true = wrong_difference_clause(rt.alloc(), true, &WHERE_TRUE)?;
-    let where_false = wrong_difference_clause(rt.alloc(), false, &WHERE_FALSE)?;
-    assert_eq!(rt; (where_true, where_false), (None, None));
+    let mut where_false = WHERE_TRUE;
+    where_false[7] = &[7];
+    where_false[8] = &[8];
+    let found = (
+        wrong_difference_clause(rt.alloc(), true, &WHERE_TRUE)?,
+        wrong_difference_clause(rt.alloc(), false, &where_false)?,
+    );
+    assert_eq!(rt; found, (None, None));
     Ok(())
 }
 

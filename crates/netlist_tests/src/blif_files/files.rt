@@ -1,7 +1,7 @@
 //! Whole tables of files, with the truth tables of their netlists.
 
 use super::read_text;
-use crate::compared::has_names;
+use crate::compared::{FaultRow, expect_faults, has_names};
 use net_core::{Graph, lit_value};
 use net_file::{NetFault, NetKind, NetStop};
 use std::alloc::{AllocError, Global};
@@ -114,9 +114,6 @@ static FILES: [FileRow; 16] = [
         b"0001011001101000",
     ),
 ];
-
-/// A file, its first fault, and where that stands.
-type FaultRow = (&'static [u8], NetKind, u64);
 
 static FAULTS: [FaultRow; 42] = [
     (b"", NetKind::NoPortLine, 0),
@@ -276,17 +273,7 @@ fn reads_covers_of_either_kind(rt: HostRuntime) -> Result<(), Fail> {
 
 #[test]
 fn names_the_first_fault(rt: HostRuntime) {
-    for (text, kind, at) in FAULTS.iter() {
-        let stop = NetStop::Fault(NetFault {
-            kind: *kind,
-            at: *at,
-        });
-        assert_eq!(rt;
-            read_text(rt.alloc(), text).err(),
-            Some(stop),
-            "at {text:?}"
-        );
-    }
+    expect_faults(&rt, rt.alloc(), &FAULTS, read_text)
 }
 
 // A line of `.inputs` or `.outputs` with n names of one letter and a number.
