@@ -1,11 +1,10 @@
 //! Bans that claims of two inputs show of the newest pair.
 
-ghost use Rattle.std.specs.Prelude.{◌≡◌, ◌∷◌, [], All, Contains, IfOk, IfSome, List};
+ghost use Rattle.std.specs.Prelude.{All, Contains, IfOk, IfSome, List};
 ghost use Rattle.circuits.specs.declared.port.Pair.{Pair as AnyPair};
-ghost use Rattle.circuits.specs.declared.port.PortKind.TheVariants.{Input, Output};
 ghost use Rattle.account_core.specs.Ports.{IsKnown};
 ghost use Rattle.ban_book.specs.Covering.{Covers};
-ghost use Rattle.match_search.specs.States.{GoesOn, MayGoOn, lent};
+ghost use Rattle.match_search.specs.States.{AreInputsAndOutput, Excludes, GoesOn, MayGoOn, lent};
 
 use crate::session::Session;
 use circuits::{Pair, PortKind};
@@ -26,8 +25,7 @@ pub(crate) fn exclude_by_swaps<O: Oracle>(
     requires may { MayGoOn graphs.now (lent O.known session.old) }
     requires known { All (IsKnown graphs.now) held.now }
     requires held { Contains held.now newest }
-    ensures goes_on { GoesOn graphs.now (lent O.known session.old) (lent O.known session.new) result }
-    ensures covers { IfOk result (λ found. IfSome found (Covers session.new.book.now held.now)) }
+    ensures { Excludes graphs.now (lent O.known session.old) (lent O.known session.new) held.now result }
 {
     for other in held.iter() {
         if let Some(ban) = exclude_with(graphs, session, held, newest, *other)? {
@@ -49,8 +47,7 @@ fn exclude_with<O: Oracle>(
     requires known { All (IsKnown graphs.now) held.now }
     requires newest_held { Contains held.now newest }
     requires other_held { Contains held.now other }
-    ensures goes_on { GoesOn graphs.now (lent O.known session.old) (lent O.known session.new) result }
-    ensures covers { IfOk result (λ found. IfSome found (Covers session.new.book.now held.now)) }
+    ensures { Excludes graphs.now (lent O.known session.old) (lent O.known session.new) held.now result }
 {
     if other.kind == PortKind::Output {
         return Ok(None);
@@ -82,35 +79,9 @@ fn exclude_three<O: Oracle>(
         → Contains held third
         → IfOk result (λ found. IfSome found (Covers session.new.book.now held)) }
 {
-    match (one.kind, other.kind, third.kind) {
-        (PortKind::Input, PortKind::Input, PortKind::Output) => {
-            exclude_swap(graphs, session, one, other, third)
-        }
-        (PortKind::Output, PortKind::Input, PortKind::Input) => {
-            exclude_swap(graphs, session, other, third, one)
-        }
-        _ => Ok(None),
-    }
-}
-
-// Holds a ban of the pairs of two inputs and an output.
-fn exclude_swap<O: Oracle>(
-    graphs: &PairableGraphs<'_>,
-    session: &mut Session<'_, O>,
-    one: Pair,
-    other: Pair,
-    output: Pair,
-) -> Result<Option<u64>, Stop>
-    requires may { MayGoOn graphs.now (lent O.known session.old) }
-    requires one { one.kind ≡ Input }
-    requires other { other.kind ≡ Input }
-    requires output { output.kind ≡ Output }
-    requires one_known { IsKnown graphs.now one }
-    requires other_known { IsKnown graphs.now other }
-    requires output_known { IsKnown graphs.now output }
-    ensures goes_on { GoesOn graphs.now (lent O.known session.old) (lent O.known session.new) result }
-    ensures covers { IfOk result (λ found. IfSome found (Covers session.new.book.now (one ∷ other ∷ output ∷ []))) }
-{
+    let Some((one, other, output)) = inputs_and_output(one, other, third) else {
+        return Ok(None);
+    };
     swap_mismatch(
         session.alloc,
         graphs,
@@ -122,4 +93,15 @@ fn exclude_swap<O: Oracle>(
         session.book,
         session.ledger,
     )
+}
+
+// The pairs of two inputs and of an output, if the third pair or the first is the output's.
+fn inputs_and_output(one: Pair, other: Pair, third: Pair) -> Option<(Pair, Pair, Pair)>
+    ensures { IfSome result (AreInputsAndOutput one other third) }
+{
+    match (one.kind, other.kind, third.kind) {
+        (PortKind::Input, PortKind::Input, PortKind::Output) => Some((one, other, third)),
+        (PortKind::Output, PortKind::Input, PortKind::Input) => Some((other, third, one)),
+        _ => None,
+    }
 }
