@@ -8,7 +8,7 @@ use Rattle.net_core.specs.declared.matching.Matching.{Matching}
 use Rattle.query_core.specs.Ledgers.{Ledgered}
 use Rattle.account_core.specs.Facts.{AreFacts}
 use Rattle.account_core.specs.Shown.{AreSame, AreLogs, AreLogsOf, IsShownMatch}
-use Rattle.oracle_core.specs.Oracles.{Known, Suits}
+use Rattle.oracle_core.specs.Oracles.{Known}
 use Rattle.circuits.specs.Matches.{HavePorts}
 use Rattle.net_core.specs.Graph.{IsGraph}
 use Rattle.claim_core.specs.Formulas.{IsRefuted}
@@ -16,17 +16,27 @@ use Rattle.claim_core.specs.MatchQueries.{match_query}
 use Rattle.claim_core.proofs.MatchLemmas.{match_query_fits}
 use Rattle.claim_core.proofs.RefutedLemmas.{match_of_refuted}
 use Rattle.match_search.specs.Founds.{AddsLogs}
-use Rattle.match_search.specs.States.{HasServed}
+use Rattle.match_search.specs.States.{HasServed, MayCompare}
 use Rattle.fact_bans.proofs.ServeLemmas.{served_same}
+
+-- nothing was asked yet
+pub asked_none : {graphs : Graphs} {known : Known} {ledger : Ledgered} → MayCompare graphs known ledger → HasServed known known ledger ledger
+asked_none {graphs} {known} {ledger} may = served_same known ledger (subst (λ (g : Graphs). AreFacts g known.facts) may.graphs_are may.lawful) may.suits
+
+-- and after calls that were answered more may be asked
+pub may_ask_later : {graphs : Graphs} {old now : Known} {a b : Ledgered} → MayCompare graphs old a → HasServed old now a b → MayCompare graphs now b
+may_ask_later {graphs} {old} {now} may served =
+    let are = may.graphs_are ∙ sym served.grows.graphs in
+    record { graphs_are = are; lawful = subst (λ (g : Graphs). AreFacts g now.facts) (sym are) served.grows.lawful; suits = served.suits }
 
 -- That many outputs were compared, and agree with their partners.
 pub record IsComparing (graphs : Graphs) (matching : Matching) (old now : Known) (before after : Ledgered) (count : ℕ) (logs : List Log) : Type 0 where
   pub served : HasServed old now before after
   pub shown : AreLogsOf graphs matching count logs
 
-pub comparing_start : (graphs : Graphs) (matching : Matching) (known : Known) (ledger : Ledgered) (logs : List Log) → graphs ≡ known.graphs → AreFacts graphs known.facts → Suits known ledger → logs ≡ [] → IsComparing graphs matching known known ledger ledger 0 logs
-comparing_start graphs matching known ledger logs are lawful suits none = record {
-  served = served_same known ledger (subst (λ (g : Graphs). AreFacts g known.facts) are lawful) suits;
+pub comparing_start : (graphs : Graphs) (matching : Matching) (known : Known) (ledger : Ledgered) (logs : List Log) → MayCompare graphs known ledger → logs ≡ [] → IsComparing graphs matching known known ledger ledger 0 logs
+comparing_start graphs matching known ledger logs may none = record {
+  served = asked_none may;
   shown = record { number = ap length none; same = λ k d below. absurd (omega (arith, below)) };
 }
 

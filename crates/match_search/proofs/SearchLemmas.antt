@@ -1,23 +1,23 @@
 -- The search under way.
-use Rattle.std.proofs.Common.{◌≡◌, List, [], map, sym, subst, arith}
+use Rattle.std.proofs.Common.{◌≡◌, List, [], map, Result, Ok, Err, refl, sym, subst, arith}
+use Rattle.std.specs.Prelude.{IsErrAnd}
+use Rattle.cnf_core.specs.declared.stop.Stop.{Stop}
+use Rattle.cnf_core.specs.declared.stop.Stop.TheVariants.{Memory}
 use Rattle.net_core.specs.Sides.{Graphs}
 use Rattle.query_core.specs.Ledgers.{Ledgered}
 use Rattle.account_core.specs.declared.step.Ban.{Ban}
 use Rattle.account_core.specs.Facts.{AreFacts}
-use Rattle.account_core.specs.Given.{Decided, decided_by}
-use Rattle.ban_book.specs.Vectors.{AreLastResorts}
+use Rattle.account_core.specs.Given.{decided_by}
 use Rattle.ban_book.proofs.VectorLemmas.{last_resorts_none}
-use Rattle.oracle_core.specs.Oracles.{Known, Suits}
-use Rattle.fact_bans.specs.Serving.{MayHold}
-use Rattle.table_guess.specs.declared.trials.Trials.{Trials}
+use Rattle.oracle_core.specs.Oracles.{Known, Serves}
+use Rattle.fact_bans.specs.Serving.{HoldsBans, MayHold}
+use Rattle.fact_bans.proofs.HoldingLemmas.{held_same, holds_no_more}
+use Rattle.fact_bans.proofs.ServeLemmas.{served_one, served_then, serves_err, serves_last, serves_memory, serves_ok, valid_grows}
 use Rattle.table_guess.specs.Trials.{AreTrials}
-use Rattle.match_search.specs.States.{AreValid, HasServed, MaySearch}
-use Rattle.fact_bans.proofs.ServeLemmas.{served_same}
-
--- nothing was compared yet
-pub guessing_start : (graphs : Graphs) (known : Known) (ledger : Ledgered) → graphs ≡ known.graphs → AreFacts graphs known.facts → Suits known ledger → HasServed known known ledger ledger
-guessing_start graphs known ledger are lawful suits =
-    served_same known ledger (subst (λ (g : Graphs). AreFacts g known.facts) are lawful) suits
+use Rattle.match_search.specs.declared.found.Found.{Found}
+use Rattle.match_search.specs.Founds.{IsFound}
+use Rattle.match_search.specs.States.{AreSameLoans, AreValid, Explores, HasServed, Lent, MayCompare, MayBegin, MaySearch, Searches, SearchesBy}
+use Rattle.match_search.proofs.StepLemmas.{never_if, same_loans, same_then}
 
 pub none_valid : (graphs : Graphs) (known : Known) (bans : List Ban) → graphs ≡ known.graphs → bans ≡ [] → AreValid graphs known bans
 none_valid graphs known bans are none =
@@ -28,32 +28,115 @@ none_valid graphs known bans are none =
     })
 
 -- nothing was asked yet
-pub may_start : (graphs : Graphs) (known : Known) (ledger : Ledgered) (bans : List Ban) → graphs ≡ known.graphs → AreFacts known.graphs known.facts → Suits known ledger → bans ≡ [] → MayHold graphs known ledger bans
-may_start graphs known ledger bans are lawful suits none = record {
-  graphs_are = are;
-  lawful = subst (λ (g : Graphs). AreFacts g known.facts) (sym are) lawful;
-  suits = suits;
-  valid = none_valid graphs known bans are none;
+pub may_start : {graphs : Graphs} {known : Known} {ledger : Ledgered} {bans : List Ban} → MayBegin graphs known ledger bans → AreFacts known.graphs known.facts → MayHold graphs known ledger bans
+may_start {graphs} {known} {ledger} {bans} may lawful = record {
+  graphs_are = may.graphs_are;
+  lawful = subst (λ (g : Graphs). AreFacts g known.facts) (sym may.graphs_are) lawful;
+  suits = may.suits;
+  valid = none_valid graphs known bans may.graphs_are may.none;
 }
 
--- no ban is by a vector where there is none
-pub none_last : (graphs : Graphs) (facts : List Decided) (bans : List Ban) → bans ≡ [] → AreLastResorts graphs facts bans
-none_last graphs facts bans none = subst (AreLastResorts graphs facts) (sym none) (last_resorts_none graphs facts)
+-- bans may be held, and so claims may be asked
+pub may_ask : {graphs : Graphs} {known : Known} {ledger : Ledgered} {bans : List Ban} → MayHold graphs known ledger bans → MayCompare graphs known ledger
+may_ask may = record { graphs_are = may.graphs_are; lawful = may.lawful; suits = may.suits }
+
+-- a search that found a match, or a ban without pairs
+pub searches_ok : {graphs : Graphs} {old new : Known} {a b : Ledgered} {bans : List Ban} {x : Found} → HasServed old new a b → AreValid graphs new bans → IsFound graphs bans x → Searches graphs old new a b bans (Ok x)
+searches_ok served valid found = record {
+  serves = serves_ok _ _ _ _ _ _ refl served;
+  valid = valid;
+  found = found;
+}
+
+-- that ended without an answer
+pub searches_err : {X : Type 0} {graphs : Graphs} {old mid new : Known} {a b c : Ledgered} {bans more : List Ban} {result : Result Found Stop} {stop : Stop} → IsErrAnd result (λ e. e ≡ stop) → HasServed old mid a b → HoldsBans {X = X} graphs mid new b c bans more (Err stop) → Searches graphs old new a c more result
+searches_err is served holds = record {
+  serves = serves_err _ _ _ _ _ _ _ _ is served holds.serves;
+  valid = holds.valid;
+  found = never_if _ _ _ is;
+}
+
+-- without memory
+pub searches_stop : {graphs : Graphs} {old new : Known} {a b : Ledgered} {bans : List Ban} {result : Result Found Stop} → IsErrAnd result (λ e. e ≡ Memory) → HasServed old new a b → AreValid graphs new bans → Searches graphs old new a b bans result
+searches_stop is served valid = record {
+  serves = serves_memory _ _ _ _ _ is served;
+  valid = valid;
+  found = never_if _ _ _ is;
+}
+
+-- and that went on after other calls
+pub searches_last : {graphs : Graphs} {old mid new : Known} {a b c : Ledgered} {bans : List Ban} {result : Result Found Stop} → HasServed old mid a b → Searches graphs mid new b c bans result → Searches graphs old new a c bans result
+searches_last served searches = record {
+  serves = serves_last _ _ _ _ _ _ _ served searches.serves;
+  valid = searches.valid;
+  found = searches.found;
+}
 
 -- Bans were held and let go, again and again.
-pub record IsSearching (graphs : Graphs) (old now : Known) (a b : Ledgered) (bans : List Ban) (vectors : Trials) : Type 0 where
-  pub served : HasServed old now a b
-  pub valid : AreValid graphs now bans
-  pub trials : AreTrials graphs.first vectors
+pub record IsSearching (graphs : Graphs) (old now : Lent) : Type 0 where
+  pub same : AreSameLoans old now
+  pub served : HasServed old.known now.known old.ledger now.ledger
+  pub valid : AreValid graphs now.known now.bans
+  pub trials : AreTrials graphs.first now.vectors
+
+pub searching_start : {graphs : Graphs} {s : Lent} → MaySearch graphs s → IsSearching graphs s s
+searching_start may = record {
+  same = same_loans;
+  served = (held_same _ _ _ _ may.may).served;
+  valid = may.may.valid;
+  trials = may.trials;
+}
+
+-- some rounds more
+pub searching_more : {X : Type 0} {graphs : Graphs} {old mid new : Lent} {x : X} → IsSearching graphs old mid → Explores graphs mid new (Ok x) → IsSearching graphs old new
+searching_more is explores = record {
+  same = same_then is.same explores.same;
+  served = served_then _ _ _ _ _ _ is.served (served_one _ _ _ _ _ explores.holds.serves);
+  valid = explores.holds.valid;
+  trials = explores.trials;
+}
+
+-- claims were asked, and no ban held
+pub searching_asked : {X : Type 0} {graphs : Graphs} {old mid : Lent} {known : Known} {ledger : Ledgered} {x : X} → IsSearching graphs old mid → Serves mid.known known mid.ledger ledger (Ok x) → IsSearching graphs old (record mid { known = known; ledger = ledger })
+searching_asked is serves = record {
+  same = same_then is.same same_loans;
+  served = served_then _ _ _ _ _ _ is.served (served_one _ _ _ _ _ serves);
+  valid = valid_grows _ _ _ _ serves.grows is.valid;
+  trials = is.trials;
+}
 
 -- and the search may begin anew
-pub may_search_on : (graphs : Graphs) (old now : Known) (a b : Ledgered) (bans : List Ban) (vectors : Trials) → IsSearching graphs old now a b bans vectors → MaySearch graphs now b bans vectors
-may_search_on graphs old now a b bans vectors is = record {
+pub may_search_on : {graphs : Graphs} {old now : Lent} → IsSearching graphs old now → MaySearch graphs now
+may_search_on {graphs} {old} {now} is = record {
   may = record {
     graphs_are = is.valid.graphs_are;
-    lawful = subst (λ (g : Graphs). AreFacts g now.facts) (sym is.valid.graphs_are) is.served.grows.lawful;
+    lawful = subst (λ (g : Graphs). AreFacts g now.known.facts) (sym is.valid.graphs_are) is.served.grows.lawful;
     suits = is.served.suits;
     valid = is.valid;
   };
   trials = is.trials;
+}
+
+-- and found a match, or a ban without pairs
+pub search_found : {graphs : Graphs} {old now : Lent} {x : Found} → IsSearching graphs old now → IsFound graphs now.bans x → SearchesBy graphs old now (Ok x)
+search_found is found = record { same = is.same; searches = searches_ok is.served is.valid found }
+
+pub search_failed : {X : Type 0} {graphs : Graphs} {old mid new : Lent} {result : Result Found Stop} {stop : Stop} → IsErrAnd result (λ e. e ≡ stop) → IsSearching graphs old mid → Explores {X = X} graphs mid new (Err stop) → SearchesBy graphs old new result
+search_failed is searching explores = record {
+  same = same_then searching.same explores.same;
+  searches = searches_err is searching.served explores.holds;
+}
+
+-- and ended while claims were asked
+pub search_ended : {X : Type 0} {graphs : Graphs} {old mid : Lent} {known : Known} {ledger : Ledgered} {result : Result Found Stop} {stop : Stop} → IsErrAnd result (λ e. e ≡ stop) → IsSearching graphs old mid → Serves {X = X} mid.known known mid.ledger ledger (Err stop) → SearchesBy graphs old (record mid { known = known; ledger = ledger }) result
+search_ended is searching serves = record {
+  same = same_then searching.same same_loans;
+  searches = searches_err is searching.served (holds_no_more _ _ _ _ _ _ _ searching.valid serves);
+}
+
+-- and went on to its end
+pub search_last : {graphs : Graphs} {old mid new : Lent} {result : Result Found Stop} → IsSearching graphs old mid → SearchesBy graphs mid new result → SearchesBy graphs old new result
+search_last is searches = record {
+  same = same_then is.same searches.same;
+  searches = searches_last is.served searches.searches;
 }

@@ -10,22 +10,25 @@ use Rattle.oracle_core.specs.Oracles.{Known, Serves}
 use Rattle.table_guess.specs.declared.trials.Trials.{Trials}
 use Rattle.table_guess.specs.Trials.{AreTrials}
 use Rattle.class_refine.specs.Trails.{Domained}
-use Rattle.fact_bans.specs.Serving.{HasServed, HoldsBans}
-use Rattle.fact_bans.proofs.HoldingLemmas.{HasHeld, held_kept, held_one, held_same, held_then, holds_err, holds_last, holds_ok, holds_stop, may_later}
+use Rattle.fact_bans.specs.Serving.{HoldsBans}
+use Rattle.fact_bans.proofs.HoldingLemmas.{HasHeld, held_kept, held_one, held_same, held_then, holds_err, holds_last, holds_no_more, holds_ok, holds_stop, may_later}
 use Rattle.conflict_core.specs.Grounded.{LearnsMore, StayGrounded}
 use Rattle.conflict_core.proofs.GroundedLemmas.{grounded_none}
 use Rattle.pair_search.specs.Progress.{IsTrail, Propagates, StaysJustified}
-use Rattle.match_search.specs.declared.found.Found.{Found}
-use Rattle.match_search.specs.Founds.{IsFound}
-use Rattle.match_search.specs.States.{AreSameLoans, GoesOn, Lent, MayGoOn, MayStep, Searches, Steps}
+use Rattle.match_search.specs.States.{AreSameLoans, GoesOn, Lent, MayGoOn, MayStep, Steps}
 use Rattle.match_search.proofs.AskLemmas.{IsUnderWay, held_learned, shown_adds, shown_follows, shown_stays}
-use Rattle.fact_bans.proofs.ServeLemmas.{served_one, serves_err, serves_last}
+use Rattle.fact_bans.proofs.ServeLemmas.{served_one}
 
-never_ok : {X : Type 0} (P : Type 0) (result : Result X Stop) (stop : Stop) → IsErrAnd result (λ e. e ≡ stop) → OnOk result P
+-- what holds is so where there is an answer, and where there is none nothing is asked
+pub on_any : {X : Type 0} (P : Type 0) (result : Result X Stop) → P → OnOk result P
+on_any P (Ok x) p = p
+on_any P (Err e) p = tt
+
+pub never_ok : {X : Type 0} (P : Type 0) (result : Result X Stop) (stop : Stop) → IsErrAnd result (λ e. e ≡ stop) → OnOk result P
 never_ok P (Ok x) stop is = absurd is
 never_ok P (Err e) stop is = tt
 
-never_if : {X : Type 0} (P : X → Type 0) (result : Result X Stop) (stop : Stop) → IsErrAnd result (λ e. e ≡ stop) → IfOk result P
+pub never_if : {X : Type 0} (P : X → Type 0) (result : Result X Stop) (stop : Stop) → IsErrAnd result (λ e. e ≡ stop) → IfOk result P
 never_if P (Ok x) stop is = absurd is
 never_if P (Err e) stop is = tt
 
@@ -37,7 +40,11 @@ held_on held holds = held_then _ _ _ _ _ _ _ _ _ _ held (held_one _ _ _ _ _ _ _ 
 pub held_asked : {X : Type 0} {graphs : Graphs} {old mid new : Known} {a b c : Ledgered} {first second : List Ban} {x : X} → HasHeld graphs old mid a b first second → Serves mid new b c (Ok x) → HasHeld graphs old new a c first second
 held_asked held serves = held_then _ _ _ _ _ _ _ _ _ _ held (held_kept _ _ _ _ _ _ _ held.valid (served_one _ _ _ _ _ serves) refl)
 
-same_then : {old mid new : Lent} → AreSameLoans old mid → AreSameLoans mid new → AreSameLoans old new
+-- what is lent may change, and the loans stay the same
+pub same_loans : {s : Lent} {known : Known} {ledger : Ledgered} {bans : List Ban} {vectors : Trials} → AreSameLoans s (record s { known = known; ledger = ledger; bans = bans; vectors = vectors })
+same_loans = record { oracle = refl; aids = refl; book = refl; ledger = refl }
+
+pub same_then : {old mid new : Lent} → AreSameLoans old mid → AreSameLoans mid new → AreSameLoans old new
 same_then one other = record {
   oracle = other.oracle ∙ one.oracle;
   aids = other.aids ∙ one.aids;
@@ -56,7 +63,7 @@ may_anew may trials trail none = record {
 -- nothing was done yet
 pub way_start : {graphs : Graphs} {s : Lent} {d : Domained} → MayStep graphs s d → IsUnderWay graphs s s d
 way_start may = record {
-  same = record { oracle = refl; aids = refl; book = refl; ledger = refl };
+  same = same_loans;
   held = held_same _ _ _ _ may.may;
   trail = may.trail;
   trials = may.trials;
@@ -89,12 +96,12 @@ way_bans {X} {graphs} way goes = record {
   trials = subst (AreTrials graphs.first) (sym goes.trials) way.trials;
 }
 
--- whole tables were compared, with more trials
-pub way_compared : {X : Type 0} {graphs : Graphs} {lent : Lent} {d : Domained} {known : Known} {ledger : Ledgered} {bans : List Ban} {vectors : Trials} {x : X} → MayStep graphs lent d → HoldsBans graphs lent.known known lent.ledger ledger lent.bans bans (Ok x) → AreTrials graphs.first vectors → IsUnderWay graphs lent (record lent { known = known; ledger = ledger; bans = bans; vectors = vectors }) d
-way_compared may holds trials = record {
-  same = record { oracle = refl; aids = refl; book = refl; ledger = refl };
-  held = held_one _ _ _ _ _ _ _ _ holds;
-  trail = shown_adds _ _ _ _ _ _ holds.serves.grows holds.adds may.trail;
+-- and a vector was kept
+pub way_tried : {X : Type 0} {graphs : Graphs} {old mid : Lent} {d : Domained} {known : Known} {ledger : Ledgered} {bans : List Ban} {vectors : Trials} {x : X} → IsUnderWay graphs old mid d → HoldsBans graphs mid.known known mid.ledger ledger mid.bans bans (Ok x) → AreTrials graphs.first vectors → IsUnderWay graphs old (record mid { known = known; ledger = ledger; bans = bans; vectors = vectors }) d
+way_tried way holds trials = record {
+  same = same_then way.same same_loans;
+  held = held_on way.held holds;
+  trail = shown_adds _ _ _ _ _ _ holds.serves.grows holds.adds way.trail;
   trials = trials;
 }
 
@@ -119,7 +126,7 @@ way_stays same way stays = record {
 -- and bans came that are learned from the pairs
 pub way_back : {graphs : Graphs} {old mid : Lent} {d e : Domained} {learned : List Ban} → IsUnderWay graphs old mid d → LearnsMore graphs d.entries mid.bans learned → IsTrail graphs learned e → StayGrounded d.entries e.entries → IsUnderWay graphs old (record mid { bans = learned }) e
 way_back way more trail stay = record {
-  same = record { oracle = way.same.oracle; aids = way.same.aids; book = way.same.book; ledger = way.same.ledger };
+  same = same_then way.same same_loans;
   held = held_learned _ _ _ _ _ _ _ _ _ way.held way.trail.shown more;
   trail = record { trail = trail; shown = stay.stay _ _ way.trail.shown };
   trials = way.trials;
@@ -167,10 +174,19 @@ steps_stop is way = record {
   trials = never_ok _ _ _ is;
 }
 
+-- also while a vector was kept
+pub steps_unkept : {Y : Type 0} {graphs : Graphs} {old mid : Lent} {c d : Domained} {vectors : Trials} {result : Result Y Stop} → IsErrAnd result (λ e. e ≡ Memory) → IsUnderWay graphs old mid c → Steps graphs old (record mid { vectors = vectors }) d result
+steps_unkept is way = record {
+  same = same_then way.same same_loans;
+  holds = holds_stop _ _ _ _ _ _ _ _ is way.held;
+  trail = never_ok _ _ _ is;
+  trials = never_ok _ _ _ is;
+}
+
 -- also while a ban is learned from the pairs
 pub steps_unlearned : {Y : Type 0} {graphs : Graphs} {old mid : Lent} {c d : Domained} {learned : List Ban} {result : Result Y Stop} → IsErrAnd result (λ e. e ≡ Memory) → IsUnderWay graphs old mid c → LearnsMore graphs c.entries mid.bans learned → Steps graphs old (record mid { bans = learned }) d result
 steps_unlearned is way more = record {
-  same = record { oracle = way.same.oracle; aids = way.same.aids; book = way.same.book; ledger = way.same.ledger };
+  same = same_then way.same same_loans;
   holds = holds_stop _ _ _ _ _ _ _ _ is (held_learned _ _ _ _ _ _ _ _ _ way.held way.trail.shown more);
   trail = never_ok _ _ _ is;
   trials = never_ok _ _ _ is;
@@ -188,10 +204,14 @@ steps_last way steps = record {
 -- a call of what the session is lent, one by one
 pub goes_by : {X : Type 0} {graphs : Graphs} {old : Lent} {known : Known} {ledger : Ledgered} {bans : List Ban} {vectors : Trials} {result : Result X Stop} → HoldsBans graphs old.known known old.ledger ledger old.bans bans result → vectors ≡ old.vectors → GoesOn graphs old (record old { known = known; ledger = ledger; bans = bans; vectors = vectors }) result
 goes_by holds trials = record {
-  same = record { oracle = refl; aids = refl; book = refl; ledger = refl };
+  same = same_loans;
   holds = holds;
   trials = trials;
 }
+
+-- and one by which none is held
+pub goes_asked : {X : Type 0} {graphs : Graphs} {old : Lent} {known : Known} {ledger : Ledgered} {result : Result X Stop} → MayGoOn graphs old → Serves old.known known old.ledger ledger result → GoesOn graphs old (record old { known = known; ledger = ledger }) result
+goes_asked may serves = goes_by (holds_no_more _ _ _ _ _ _ _ may.valid serves) refl
 
 -- Calls that hold bans and no pair, one after the other.
 pub record HasGoneOn (graphs : Graphs) (old now : Lent) : Type 0 where
@@ -201,7 +221,7 @@ pub record HasGoneOn (graphs : Graphs) (old now : Lent) : Type 0 where
 
 pub gone_none : {graphs : Graphs} {s : Lent} → MayGoOn graphs s → HasGoneOn graphs s s
 gone_none may = record {
-  same = record { oracle = refl; aids = refl; book = refl; ledger = refl };
+  same = same_loans;
   held = held_same _ _ _ _ may;
   trials = refl;
 }
@@ -228,36 +248,4 @@ goes_err is gone goes = record {
   same = same_then gone.same goes.same;
   holds = holds_err _ _ _ _ _ _ _ _ _ _ _ _ is gone.held goes.holds;
   trials = goes.trials ∙ gone.trials;
-}
-
--- a search that found a match, or a ban without pairs
-pub searches_ok : {graphs : Graphs} {old new : Known} {a b : Ledgered} {bans more : List Ban} {x : Found} → HasHeld graphs old new a b bans more → IsFound graphs more x → Searches graphs old new a b more (Ok x)
-searches_ok held found = record {
-  serves = (holds_ok _ _ _ _ _ _ _ _ _ refl held).serves;
-  valid = held.valid;
-  found = found;
-}
-
--- that ended without an answer
-pub searches_err : {X : Type 0} {graphs : Graphs} {old mid new : Known} {a b c : Ledgered} {bans more : List Ban} {result : Result Found Stop} {stop : Stop} → IsErrAnd result (λ e. e ≡ stop) → HasServed old mid a b → HoldsBans {X = X} graphs mid new b c bans more (Err stop) → Searches graphs old new a c more result
-searches_err is served holds = record {
-  serves = serves_err _ _ _ _ _ _ _ _ is served holds.serves;
-  valid = holds.valid;
-  found = never_if _ _ _ is;
-}
-
--- without memory
-pub searches_stop : {graphs : Graphs} {old new : Known} {a b : Ledgered} {bans more : List Ban} {result : Result Found Stop} → IsErrAnd result (λ e. e ≡ Memory) → HasHeld graphs old new a b bans more → Searches graphs old new a b more result
-searches_stop is held = record {
-  serves = (holds_stop _ _ _ _ _ _ _ _ is held).serves;
-  valid = held.valid;
-  found = never_if _ _ _ is;
-}
-
--- and that went on after other calls
-pub searches_last : {graphs : Graphs} {old mid new : Known} {a b c : Ledgered} {bans : List Ban} {result : Result Found Stop} → HasServed old mid a b → Searches graphs mid new b c bans result → Searches graphs old new a c bans result
-searches_last served searches = record {
-  serves = serves_last _ _ _ _ _ _ _ served searches.serves;
-  valid = searches.valid;
-  found = searches.found;
 }

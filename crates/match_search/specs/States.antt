@@ -1,15 +1,18 @@
 -- What a step of a search leaves.
-use Rattle.std.specs.Prelude.{◌≡◌, ◌<◌, ◌≤◌, List, Contains, Result, IfOk, OnOk}
+use Rattle.std.specs.Prelude.{◌≡◌, ◌⊎◌, ℕ, ◌<◌, ◌≤◌, List, [], map, Option, Contains, Result, IfOk, IfSome, OnOk}
 use Rattle.std.specs.Borrow.{GName}
 use Rattle.cnf_core.specs.declared.stop.Stop.{Stop}
 use Rattle.circuits.specs.declared.port.Pair.{Pair}
+use Rattle.circuits.specs.declared.port.PortKind.TheVariants.{Input, Output}
 use Rattle.net_core.specs.Sides.{Graphs}
 use Rattle.query_core.specs.Ledgers.{Ledgered}
 use Rattle.account_core.specs.declared.step.Ban.{Ban}
-use Rattle.account_core.specs.Given.{Decided}
+use Rattle.account_core.specs.Facts.{AreFacts}
+use Rattle.account_core.specs.Given.{decided_by}
 use Rattle.account_core.specs.Shown.{IsShownMatch}
 use Rattle.ban_book.specs.Covering.{Covers}
 use Rattle.class_refine.specs.Trails.{Domained, held_in}
+use Rattle.fact_bans.specs.declared.exchanges.SwapPairs.{SwapPairs}
 use Rattle.fact_bans.specs.Serving.{HoldsBans, MayHold}
 use Rattle.oracle_core.specs.Oracles.{Known, Serves, Suits}
 use Rattle.table_guess.specs.declared.trials.Trials.{Trials}
@@ -18,7 +21,7 @@ use Rattle.pair_search.specs.declared.impasse.Impasse.{Impasse}
 use Rattle.pair_search.specs.Impasses.{IsImpasse}
 use Rattle.pair_search.specs.Progress.{left}
 use Rattle.pair_refine.specs.Stable.{AreOutputsDecided}
-use Rattle.match_search.specs.Founds.{IsFound}
+use Rattle.match_search.specs.Founds.{IsDecidedFound, IsFound}
 use Rattle.match_search.specs.declared.found.Found.{Found}
 use Rattle.match_search.specs.declared.session.Session.{Session}
 use Rattle.match_search.specs.declared.ahead.Ahead.{Ahead}
@@ -69,16 +72,28 @@ pub record GoesOn {X : Type 0} (graphs : Graphs) (old new : Lent) (result : Resu
   pub holds : HoldsBans graphs old.known new.known old.ledger new.ledger old.bans new.bans result
   pub trials : new.vectors ≡ old.vectors
 
--- A step may be made: claims may be asked and bans held, facts show the trail, and the trials are the first circuit's.
+-- Claims may be asked and outputs compared: the oracle is of these circuits, and the ledger suits it.
+pub record MayCompare (graphs : Graphs) (known : Known) (ledger : Ledgered) : Type 0 where
+  pub graphs_are : graphs ≡ known.graphs
+  pub lawful : AreFacts graphs known.facts
+  pub suits : Suits known ledger
+
+-- All may begin: the oracle is of these circuits, the ledger suits it, and no ban is held.
+pub record MayBegin (graphs : Graphs) (known : Known) (ledger : Ledgered) (bans : List Ban) : Type 0 where
+  pub graphs_are : graphs ≡ known.graphs
+  pub suits : Suits known ledger
+  pub none : bans ≡ []
+
+-- A search may begin: claims may be asked and bans held, and the trials are the first circuit's.
+pub record MaySearch (graphs : Graphs) (lent : Lent) : Type 0 where
+  pub may : MayGoOn graphs lent
+  pub trials : AreTrials graphs.first lent.vectors
+
+-- A step may be made: the same, and facts show the trail.
 pub record MayStep (graphs : Graphs) (lent : Lent) (domains : Domained) : Type 0 where
   pub may : MayGoOn graphs lent
   pub trail : IsShownTrail graphs lent.known lent.bans domains
   pub trials : AreTrials graphs.first lent.vectors
-
--- A search may begin: the same without a trail.
-pub record MaySearch (graphs : Graphs) (known : Known) (ledger : Ledgered) (bans : List Ban) (vectors : Trials) : Type 0 where
-  pub may : MayHold graphs known ledger bans
-  pub trials : AreTrials graphs.first vectors
 
 -- What a step does: claims were decided and bans held by their facts, whatever it answers, and where it does the next step may be
 -- made, with these pairs held and deleted.
@@ -86,6 +101,12 @@ pub record Steps {X : Type 0} (graphs : Graphs) (old new : Lent) (domains : Doma
   pub same : AreSameLoans old new
   pub holds : HoldsBans graphs old.known new.known old.ledger new.ledger old.bans new.bans result
   pub trail : OnOk result (IsShownTrail graphs new.known new.bans domains)
+  pub trials : OnOk result (AreTrials graphs.first new.vectors)
+
+-- What a search of some rounds does: the same, without a trail that is left.
+pub record Explores {X : Type 0} (graphs : Graphs) (old new : Lent) (result : Result X Stop) : Type 0 where
+  pub same : AreSameLoans old new
+  pub holds : HoldsBans graphs old.known new.known old.ledger new.ledger old.bans new.bans result
   pub trials : OnOk result (AreTrials graphs.first new.vectors)
 
 -- What a search does: claims were decided, and the bans are valid by their facts, whatever it answers; and a match that it
@@ -96,19 +117,38 @@ pub record Searches (graphs : Graphs) (old new : Known) (before after : Ledgered
   pub valid : AreValid graphs new bans
   pub found : IfOk result (IsFound graphs bans)
 
--- Pairs may be deleted by mismatches beside one that is held: claims may be asked, and facts show the trail.
-pub record MayDelete (graphs : Graphs) (known : Known) (ledger : Ledgered) (bans : List Ban) (pair : Pair) (domains : Domained)
-    : Type 0 where
-  pub graphs_are : graphs ≡ known.graphs
-  pub suits : Suits known ledger
-  pub trail : IsShownTrail graphs known bans domains
-  pub held : Contains (held_in domains.entries) pair
+-- The same, by what a session is lent.
+pub record SearchesBy (graphs : Graphs) (old new : Lent) (result : Result Found Stop) : Type 0 where
+  pub same : AreSameLoans old new
+  pub searches : Searches graphs old.known new.known old.ledger new.ledger new.bans result
 
--- More pairs may be deleted by mismatches beside one that stays held, no more is left than before, and facts show the trail.
-pub record Deletes (graphs : Graphs) (known : Known) (bans : List Ban) (pair : Pair) (before after : Domained) : Type 0 where
-  pub trail : IsShownTrail graphs known bans after
+-- What a session's search found: a match, with the claims of one input of all outputs decided, or a ban without pairs.
+pub record IsFoundBy (graphs : Graphs) (lent : Lent) (found : Found) : Type 0 where
+  pub found_is : IsFound graphs lent.bans found
+  pub decided : IsDecidedFound graphs (map decided_by lent.known.facts) found
+
+-- More pairs may be deleted beside one that stays held, and no more is left than before.
+pub record Deletes (pair : Pair) (before after : Domained) : Type 0 where
   pub held : Contains (held_in after.entries) pair
   pub less : left after ≤ left before
+
+-- What a call does that holds a ban of held pairs, if it finds one, and no pair.
+pub record Excludes (graphs : Graphs) (old new : Lent) (held : List Pair) (result : Result (Option ℕ) Stop) : Type 0 where
+  pub goes_on : GoesOn graphs old new result
+  pub covers : IfOk result (λ found. IfSome found (Covers new.bans held))
+
+-- A pair of an input and one of an output are these two, in some order.
+pub record AreOfBothKinds (pair other : Pair) (both : Pair × Pair) : Type 0 where
+  pub input : both.0.kind ≡ Input
+  pub output : both.1.kind ≡ Output
+  pub are : (both ≡ (pair, other)) ⊎ (both ≡ (other, pair))
+
+-- Two pairs of inputs and one of an output are these three, of which the last or the first is the output's.
+pub record AreInputsAndOutput (one other third : Pair) (pairs : SwapPairs) : Type 0 where
+  pub one_is : pairs.one.kind ≡ Input
+  pub other_is : pairs.other.kind ≡ Input
+  pub output : pairs.output.kind ≡ Output
+  pub are : (pairs ≡ record { one = one; other = other; output = third }) ⊎ (pairs ≡ record { one = other; other = third; output = one })
 
 -- It doesn't go on, and no more is left than before.
 pub record IsStuck (bans : List Ban) (before after : Domained) (impasse : Impasse) : Type 0 where
@@ -116,10 +156,11 @@ pub record IsStuck (bans : List Ban) (before after : Domained) (impasse : Impass
   pub less : left after ≤ left before
 
 -- a step ahead: less is left, a match was found, with all claims of one input decided, or it doesn't go on
-abbrev pub IsAhead : Graphs → List Decided → List Ban → Domained → Domained → Ahead → Type 0
-IsAhead graphs facts bans before after ahead.Deeper = left after < left before
-IsAhead graphs facts bans before after (ahead.Match matching logs) = IsShownMatch graphs matching logs × AreOutputsDecided graphs facts
-IsAhead graphs facts bans before after (ahead.Impasse impasse) = IsStuck bans before after impasse
+abbrev pub IsAhead : Graphs → Lent → Domained → Domained → Ahead → Type 0
+IsAhead graphs lent before after ahead.Deeper = left after < left before
+IsAhead graphs lent before after (ahead.Match matching logs) =
+    IsShownMatch graphs matching logs × AreOutputsDecided graphs (map decided_by lent.known.facts)
+IsAhead graphs lent before after (ahead.Impasse impasse) = IsStuck lent.bans before after impasse
 
 -- a whole table is a match, or has all pairs of a ban
 abbrev pub IsSettled : Graphs → List Ban → List Pair → Settled → Type 0

@@ -3,7 +3,6 @@
 ghost use Rattle.std.specs.Prelude.{IfOk};
 ghost use Rattle.table_guess.specs.Trials.{AreTrials};
 
-use circuits::Pair;
 use fact_bans::Seen;
 use port_sides::PairableGraphs;
 use search_guide::Guide;
@@ -15,8 +14,6 @@ pub(crate) struct Aids {
     pub(crate) guide: Guide,
     pub(crate) trials: Trials,
     pub(crate) seen: Seen,
-    /// Ways that are to be compared with a held pair: kept for its memory alone.
-    pub(crate) ways: Vec<Pair>,
 }
 
 // By hand, and so one call wherever a value ends: a derived drop is expanded there, field by field, and makes proofs long.
@@ -26,7 +23,6 @@ impl Drop for Aids {
             guide: _guide,
             trials: _trials,
             seen: _seen,
-            ways: _ways,
         } = self;
     }
 }
@@ -43,12 +39,10 @@ impl Aids {
         let trials = Trials::new(alloc, graphs.first(), seed)?;
         let seen = Seen::new(alloc, graphs, seed)?;
         let guide = Guide::new(alloc, graphs)?;
-        let ways = Vec::new(alloc);
         Ok(Aids {
             guide,
             trials,
             seen,
-            ways,
         })
     }
 }

@@ -1,12 +1,10 @@
 //! Bans that decided claims show of held pairs.
 
-ghost use Rattle.std.specs.Prelude.{◌<◌, Contains};
-ghost use Rattle.circuits.specs.declared.port.PortKind.TheVariants.{Input, Output};
+ghost use Rattle.std.specs.Prelude.{◌<◌, Contains, IfSome};
 ghost use Rattle.account_core.specs.Ports.{IsKnown};
 ghost use Rattle.class_refine.specs.Trails.{held_in};
 ghost use Rattle.conflict_core.specs.Conflicts.{FitPorts};
-ghost use Rattle.fact_bans.specs.Carrying.{IsPairOf};
-ghost use Rattle.match_search.specs.States.{GoesOn, MayGoOn, MayStep, Steps, lent};
+ghost use Rattle.match_search.specs.States.{GoesOn, MayGoOn, MayStep, Steps, lent, AreOfBothKinds};
 
 use crate::session::Session;
 use circuits::{Pair, PortKind};
@@ -102,25 +100,9 @@ fn ask_two<O: Oracle>(
     requires other { IsKnown graphs.now other }
     ensures { GoesOn graphs.now (lent O.known session.old) (lent O.known session.new) result }
 {
-    match (pair.kind, other.kind) {
-        (PortKind::Input, PortKind::Output) => ask_mismatch(graphs, session, pair, other),
-        (PortKind::Output, PortKind::Input) => ask_mismatch(graphs, session, other, pair),
-        _ => Ok(None),
-    }
-}
-
-// Holds a mismatch of the pairs of an input and an output.
-fn ask_mismatch<O: Oracle>(
-    graphs: &PairableGraphs<'_>,
-    session: &mut Session<'_, O>,
-    input: Pair,
-    output: Pair,
-) -> Result<Option<u64>, Stop>
-    requires may { MayGoOn graphs.now (lent O.known session.old) }
-    requires input { IsPairOf graphs.now Input input }
-    requires output { IsPairOf graphs.now Output output }
-    ensures { GoesOn graphs.now (lent O.known session.old) (lent O.known session.new) result }
-{
+    let Some((input, output)) = input_and_output(pair, other) else {
+        return Ok(None);
+    };
     mismatch(
         session.alloc,
         graphs,
@@ -131,4 +113,15 @@ fn ask_mismatch<O: Oracle>(
         session.book,
         session.ledger,
     )
+}
+
+/// An input's pair and an output's, of two that are of different kinds.
+pub(crate) fn input_and_output(pair: Pair, other: Pair) -> Option<(Pair, Pair)>
+    ensures { IfSome result (AreOfBothKinds pair other) }
+{
+    match (pair.kind, other.kind) {
+        (PortKind::Input, PortKind::Output) => Some((pair, other)),
+        (PortKind::Output, PortKind::Input) => Some((other, pair)),
+        _ => None,
+    }
 }

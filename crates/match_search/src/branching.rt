@@ -1,24 +1,20 @@
 //! The search, step by step.
 
-ghost use Rattle.std.specs.Prelude.{◌≡◌, ◌<◌, false, IfNone, IfOk, IfSome, OnOk, map};
+ghost use Rattle.std.specs.Prelude.{◌≡◌, ◌<◌, false, IfNone, IfOk, IfSome, map};
 ghost use Rattle.account_core.specs.Given.{decided_by};
 ghost use Rattle.account_core.specs.Shown.{IsShownMatch};
-ghost use Rattle.fact_bans.specs.Serving.{HoldsBans};
-ghost use Rattle.match_search.specs.Founds.{IsDecidedFound, IsFound};
+ghost use Rattle.match_search.specs.Founds.{IsDecidedFound};
 ghost use Rattle.port_sides.specs.Held.{IsWhole};
 ghost use Rattle.class_refine.specs.Trails.{held_in};
 ghost use Rattle.pair_search.specs.Progress.{left};
-ghost use Rattle.match_search.specs.States.{IsAhead, MaySearch, MayStep, Searches, Steps, lent};
-ghost use Rattle.table_guess.specs.Trials.{AreTrials};
+ghost use Rattle.match_search.specs.States.{Explores, IsAhead, IsFoundBy, MaySearch, MayStep, SearchesBy, Steps, lent};
 
 use crate::ahead::{Ahead, Settled};
-use crate::aids::Aids;
 use crate::candidate::compare_whole;
 use crate::following::follow;
 use crate::found::Found;
 use crate::session::Session;
 use crate::trail::PairTrail;
-use ban_book::BanBook;
 use class_refine::Domains;
 use cnf_core::{Log, Stop};
 use items::Items;
@@ -27,9 +23,7 @@ use oracle_core::Oracle;
 use pair_refine::{Refined, refine};
 use pair_search::{Impasse, branch, start_over, turn_back};
 use port_sides::PairableGraphs;
-use query_core::Ledger;
 use search_guide::next_port;
-use std::alloc::Global;
 use watch_core::Stage;
 
 /// Searches from nothing, with the bans that are held, for this many rounds, or until the bans take all their room, and answers
@@ -39,32 +33,18 @@ use watch_core::Stage;
 ///
 /// `Spent` where a line had to be learned and the ledger's budget was spent. `Memory` when out of memory.
 pub(crate) fn explore_rounds<O: Oracle>(
-    alloc: Global,
     graphs: &PairableGraphs<'_>,
-    oracle: &mut O,
-    aids: &mut Aids,
+    session: &mut Session<'_, O>,
     rounds: u64,
     lines: u64,
-    book: &mut BanBook,
-    ledger: &mut Ledger,
 ) -> Result<Option<Found>, Stop>
-    requires may { MaySearch graphs.now (O.known oracle.old) ledger.old book.old aids.old.trials }
-    ensures holds { HoldsBans graphs.now (O.known oracle.old) (O.known oracle.new) ledger.old ledger.new book.old book.new result }
-    ensures trials { OnOk result (AreTrials graphs.now.first aids.new.trials) }
-    ensures found { IfOk result (λ found. IfSome found (IsFound graphs.now book.new)) }
-    ensures decided { IfOk result (λ found. IfSome found
-        (IsDecidedFound graphs.now (map decided_by (O.known oracle.new).facts))) }
+    requires may { MaySearch graphs.now (lent O.known session.old) }
+    ensures explores { Explores graphs.now (lent O.known session.old) (lent O.known session.new) result }
+    ensures found { IfOk result (λ found. IfSome found (IsFoundBy graphs.now (lent O.known session.new))) }
 {
-    let mut trail = PairTrail::new(alloc, graphs)?;
-    let mut session = Session {
-        alloc,
-        oracle,
-        aids,
-        book,
-        ledger,
-    };
+    let mut trail = PairTrail::new(session.alloc, graphs)?;
     session.aids.guide.begin(lines);
-    run_rounds(graphs, &mut session, &mut trail, rounds)
+    run_rounds(graphs, session, &mut trail, rounds)
 }
 
 // Searches for this many rounds, or until something is found, or the bans take all their room.
@@ -76,9 +56,7 @@ fn run_rounds<O: Oracle>(
 ) -> Result<Option<Found>, Stop>
     requires may { MayStep graphs.now (lent O.known session.old) trail.old.domains }
     ensures steps { Steps graphs.now (lent O.known session.old) (lent O.known session.new) trail.new.domains result }
-    ensures found { IfOk result (λ found. IfSome found (IsFound graphs.now session.new.book.now)) }
-    ensures decided { IfOk result (λ found. IfSome found
-        (IsDecidedFound graphs.now (map decided_by (O.known session.new.oracle.now).facts))) }
+    ensures found { IfOk result (λ found. IfSome found (IsFoundBy graphs.now (lent O.known session.new))) }
 {
     for _round in 0..rounds {
         if let Some(found) = explore_round(graphs, session, trail, true)? {
@@ -99,40 +77,15 @@ fn run_rounds<O: Oracle>(
 ///
 /// As for `explore_rounds`.
 pub(crate) fn explore_whole<O: Oracle>(
-    alloc: Global,
-    graphs: &PairableGraphs<'_>,
-    oracle: &mut O,
-    aids: &mut Aids,
-    book: &mut BanBook,
-    ledger: &mut Ledger,
-) -> Result<Found, Stop>
-    requires may { MaySearch graphs.now (O.known oracle.old) ledger.old book.old aids.old.trials }
-    ensures searches { Searches graphs.now (O.known oracle.old) (O.known oracle.new) ledger.old ledger.new book.new result }
-    ensures decided { IfOk result (IsDecidedFound graphs.now (map decided_by (O.known oracle.new).facts)) }
-{
-    let mut trail = PairTrail::new(alloc, graphs)?;
-    let mut session = Session {
-        alloc,
-        oracle,
-        aids,
-        book,
-        ledger,
-    };
-    run_whole(graphs, &mut session, &mut trail)
-}
-
-// Searches until something is found.
-fn run_whole<O: Oracle>(
     graphs: &PairableGraphs<'_>,
     session: &mut Session<'_, O>,
-    trail: &mut PairTrail,
 ) -> Result<Found, Stop>
-    requires may { MayStep graphs.now (lent O.known session.old) trail.old.domains }
-    ensures steps { Steps graphs.now (lent O.known session.old) (lent O.known session.new) trail.new.domains result }
-    ensures found { IfOk result (IsFound graphs.now session.new.book.now) }
+    requires may { MaySearch graphs.now (lent O.known session.old) }
+    ensures searches { SearchesBy graphs.now (lent O.known session.old) (lent O.known session.new) result }
     ensures decided { IfOk result (IsDecidedFound graphs.now (map decided_by (O.known session.new.oracle.now).facts)) }
 {
-    match explore_round(graphs, session, trail, false)? {
+    let mut trail = PairTrail::new(session.alloc, graphs)?;
+    match explore_round(graphs, session, &mut trail, false)? {
         Some(found) => Ok(found),
         None => unreachable!(),
     }
@@ -147,9 +100,7 @@ fn explore_round<O: Oracle>(
 ) -> Result<Option<Found>, Stop>
     requires may { MayStep graphs.now (lent O.known session.old) trail.old.domains }
     ensures steps { Steps graphs.now (lent O.known session.old) (lent O.known session.new) trail.new.domains result }
-    ensures found { IfOk result (λ found. IfSome found (IsFound graphs.now session.new.book.now)) }
-    ensures decided { IfOk result (λ found. IfSome found
-        (IsDecidedFound graphs.now (map decided_by (O.known session.new.oracle.now).facts))) }
+    ensures found { IfOk result (λ found. IfSome found (IsFoundBy graphs.now (lent O.known session.new))) }
     ensures ends { ends ≡ false → IfOk result (λ found. IfNone found ⊥) }
 {
     while !(ends & session.aids.guide.is_round_over(session.ledger.learned())) {
@@ -169,9 +120,7 @@ fn turn<O: Oracle>(
     requires may { MayStep graphs.now (lent O.known session.old) trail.old.domains }
     ensures steps { Steps graphs.now (lent O.known session.old) (lent O.known session.new) trail.new.domains result }
     ensures less { IfOk result (λ found. IfNone found (left trail.new.domains < left trail.old.domains)) }
-    ensures found { IfOk result (λ found. IfSome found (IsFound graphs.now session.new.book.now)) }
-    ensures decided { IfOk result (λ found. IfSome found
-        (IsDecidedFound graphs.now (map decided_by (O.known session.new.oracle.now).facts))) }
+    ensures found { IfOk result (λ found. IfSome found (IsFoundBy graphs.now (lent O.known session.new))) }
 {
     session.oracle.at(Stage::Banning {
         bans: session.book.bans().len() as u64,
@@ -208,8 +157,7 @@ fn ahead<O: Oracle>(
 ) -> Result<Ahead, Stop>
     requires may { MayStep graphs.now (lent O.known session.old) trail.old.domains }
     ensures steps { Steps graphs.now (lent O.known session.old) (lent O.known session.new) trail.new.domains result }
-    ensures ahead { IfOk result
-        (IsAhead graphs.now (map decided_by (O.known session.new.oracle.now).facts) session.new.book.now trail.old.domains trail.new.domains) }
+    ensures ahead { IfOk result (IsAhead graphs.now (lent O.known session.new) trail.old.domains trail.new.domains) }
 {
     if let Some(impasse) = follow(graphs, session, trail)? {
         return Ok(Ahead::Impasse(impasse));
@@ -225,7 +173,7 @@ fn go_on<O: Oracle>(
 ) -> Result<Ahead, Stop>
     requires may { MayStep graphs.now (lent O.known session.old) domains.old }
     ensures steps { Steps graphs.now (lent O.known session.old) (lent O.known session.new) domains.new result }
-    ensures ahead { IfOk result (IsAhead graphs.now (map decided_by (O.known session.new.oracle.now).facts) session.new.book.now domains.old domains.new) }
+    ensures ahead { IfOk result (IsAhead graphs.now (lent O.known session.new) domains.old domains.new) }
 {
     let Some(port) = next_port(session.alloc, graphs, &session.aids.guide, domains)? else {
         return compare_held(graphs, session, domains);
@@ -246,18 +194,9 @@ fn compare_held<O: Oracle>(
     requires may { MayStep graphs.now (lent O.known session.old) domains.old }
     requires whole { IsWhole graphs.now (held_in domains.old.entries) }
     ensures steps { Steps graphs.now (lent O.known session.old) (lent O.known session.new) domains.new result }
-    ensures ahead { IfOk result (IsAhead graphs.now (map decided_by (O.known session.new.oracle.now).facts) session.new.book.now domains.old domains.new) }
+    ensures ahead { IfOk result (IsAhead graphs.now (lent O.known session.new) domains.old domains.new) }
 {
-    let _lawful = domains.entries();
-    match compare_whole(
-        session.alloc,
-        graphs,
-        session.oracle,
-        session.aids,
-        domains.pairs(),
-        session.book,
-        session.ledger,
-    )? {
+    match compare_whole(graphs, session, domains)? {
         Settled::Match(matching, logs) => confirm(graphs, session, domains, matching, logs),
         Settled::Ban(ban) => Ok(Ahead::Impasse(Impasse::Ban(ban))),
     }
@@ -275,7 +214,7 @@ fn confirm<O: Oracle>(
     requires may { MayStep graphs.now (lent O.known session.old) domains.old }
     requires shown { IsShownMatch graphs.now matching logs }
     ensures steps { Steps graphs.now (lent O.known session.old) (lent O.known session.new) domains.new result }
-    ensures ahead { IfOk result (IsAhead graphs.now (map decided_by (O.known session.new.oracle.now).facts) session.new.book.now domains.old domains.new) }
+    ensures ahead { IfOk result (IsAhead graphs.now (lent O.known session.new) domains.old domains.new) }
 {
     match refine(
         session.alloc,

@@ -1,23 +1,20 @@
 //! Whole tables, which are compared output by output.
 
-ghost use Rattle.std.specs.Prelude.{◌≡◌, ◌<◌, [], IfNone, IfOk, IfSome, OnOk, length};
-ghost use Rattle.account_core.specs.Facts.{AreFacts};
+ghost use Rattle.std.specs.Prelude.{◌≡◌, ◌<◌, [], IfNone, IfOk, IfSome, length};
 ghost use Rattle.oracle_core.specs.Oracles.{Serves, Suits};
 ghost use Rattle.circuits.specs.Matches.{HavePorts};
 ghost use Rattle.account_core.specs.Shown.{AreLogs};
 ghost use Rattle.match_search.specs.Founds.{IsComparison};
-ghost use Rattle.port_sides.specs.Held.{AreHeld, IsWhole};
-ghost use Rattle.fact_bans.specs.Serving.{HoldsBans, MayHold};
-ghost use Rattle.match_search.specs.States.{IsSettled};
-ghost use Rattle.table_guess.specs.Trials.{AreTrials};
+ghost use Rattle.port_sides.specs.Held.{IsWhole};
+ghost use Rattle.match_search.specs.States.{IsSettled, MayCompare, MayStep, Steps, lent};
 ghost use Rattle.vector_bans.specs.Differences.{Differs};
+ghost use Rattle.class_refine.specs.Trails.{held_in};
 
 use crate::ahead::Settled;
-use crate::aids::Aids;
+use crate::session::Session;
 use crate::table::table;
-use ban_book::BanBook;
 use bit_list::Bits;
-use circuits::Pair;
+use class_refine::Domains;
 use cnf_core::{Log, Stop};
 use items::Items;
 use net_core::Matching;
@@ -31,39 +28,42 @@ use watch_core::Stage;
 /// Compares all outputs under the pairs that are held, one of each port. Where one differs, it keeps the vector, and holds a
 /// ban of which all pairs are held.
 pub(crate) fn compare_whole<O: Oracle>(
-    alloc: Global,
     graphs: &PairableGraphs<'_>,
-    oracle: &mut O,
-    aids: &mut Aids,
-    held: &[Pair],
-    book: &mut BanBook,
-    ledger: &mut Ledger,
+    session: &mut Session<'_, O>,
+    domains: &Domains,
 ) -> Result<Settled, Stop>
-    requires may { MayHold graphs.now (O.known oracle.old) ledger.old book.old }
-    requires held { AreHeld graphs.now held.now }
-    requires whole { IsWhole graphs.now held.now }
-    requires trials { AreTrials graphs.now.first aids.old.trials }
-    ensures holds { HoldsBans graphs.now (O.known oracle.old) (O.known oracle.new) ledger.old ledger.new book.old book.new result }
-    ensures trials { OnOk result (AreTrials graphs.now.first aids.new.trials) }
-    ensures settled { IfOk result (IsSettled graphs.now book.new held.now) }
+    requires may { MayStep graphs.now (lent O.known session.old) domains.now }
+    requires whole { IsWhole graphs.now (held_in domains.now.entries) }
+    ensures steps { Steps graphs.now (lent O.known session.old) (lent O.known session.new) domains.now result }
+    ensures settled { IfOk result (IsSettled graphs.now session.new.book.now (held_in domains.now.entries)) }
 {
     let _first = graphs.first();
     let _second = graphs.second();
-    let matching = table(alloc, graphs, held)?;
+    let _lawful = domains.entries();
+    let alloc = session.alloc;
+    let matching = table(alloc, graphs, domains.pairs())?;
     let mut logs = Items::new(alloc);
-    match compare_all(alloc, graphs, oracle, &matching, ledger, &mut logs)? {
+    match compare_all(
+        alloc,
+        graphs,
+        session.oracle,
+        &matching,
+        session.ledger,
+        &mut logs,
+    )? {
         None => Ok(Settled::Match(matching, logs)),
         Some(found) => {
+            let aids = &mut *session.aids;
             aids.trials.keep(alloc, graphs.first(), &found.vector)?;
             let ban = exclude(
                 alloc,
                 graphs,
-                oracle,
+                session.oracle,
                 &matching,
                 &found,
                 &mut aids.seen,
-                book,
-                ledger,
+                session.book,
+                session.ledger,
             )?;
             Ok(Settled::Ban(ban))
         }
@@ -80,10 +80,8 @@ pub(crate) fn compare_all<O: Oracle>(
     ledger: &mut Ledger,
     logs: &mut Items<Log>,
 ) -> Result<Option<Difference>, Stop>
-    requires graphs { graphs.now ≡ (O.known oracle.old).graphs }
-    requires lawful { AreFacts graphs.now (O.known oracle.old).facts }
+    requires may { MayCompare graphs.now (O.known oracle.old) ledger.old }
     requires ports { HavePorts graphs.now.first graphs.now.second matching.now.inputs matching.now.outputs }
-    requires suits { Suits (O.known oracle.old) ledger.old }
     requires none { logs.old ≡ [] }
     ensures serves { Serves (O.known oracle.old) (O.known oracle.new) ledger.old ledger.new result }
     ensures same { IfOk result (λ found. IfNone found (AreLogs graphs.now matching.now logs.new)) }

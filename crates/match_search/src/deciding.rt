@@ -1,23 +1,16 @@
 //! Both phases.
 
-ghost use Rattle.std.specs.Prelude.{◌≡◌, [], IfOk, map};
-ghost use Rattle.account_core.specs.Given.{decided_by};
-ghost use Rattle.account_core.specs.Steps.{AreValidBans};
-ghost use Rattle.ban_book.specs.Vectors.{AreLastResorts};
-ghost use Rattle.fact_bans.specs.Serving.{MayHold};
-ghost use Rattle.match_search.specs.Founds.{IsFound};
-ghost use Rattle.match_search.specs.States.{MaySearch, Searches};
-ghost use Rattle.oracle_core.specs.Oracles.{Serves, Suits};
+ghost use Rattle.match_search.specs.States.{MayBegin, MaySearch, Searches, SearchesBy, lent};
 
 use crate::aids::Aids;
 use crate::branching::explore_rounds;
 use crate::found::Found;
 use crate::guessed::compare_guesses;
-use crate::searching::refuse_or_explore;
+use crate::searching::{refuse_by_counts, refuse_or_explore};
+use crate::session::Session;
 use ban_book::BanBook;
 use circuits::PortKind;
 use cnf_core::Stop;
-use fact_bans::refuse;
 use oracle_core::Oracle;
 use port_sides::PairableGraphs;
 use query_core::Ledger;
@@ -60,40 +53,33 @@ pub fn decide<O: Oracle>(
     seed: u64,
     ledger: &mut Ledger,
 ) -> Result<Found, Stop>
-    requires graphs { graphs.now ≡ (O.known oracle.old).graphs }
-    requires book { book.old ≡ [] }
-    requires suits { Suits (O.known oracle.old) ledger.old }
-    ensures serves { Serves (O.known oracle.old) (O.known oracle.new) ledger.old ledger.new result }
-    ensures bans { AreValidBans graphs.now (map decided_by (O.known oracle.new).facts) book.new }
-    ensures last_resorts { AreLastResorts graphs.now (map decided_by (O.known oracle.new).facts) book.new }
-    ensures found { IfOk result (IsFound graphs.now book.new) }
+    requires may { MayBegin graphs.now (O.known oracle.old) ledger.old book.old }
+    ensures searches { Searches graphs.now (O.known oracle.old) (O.known oracle.new) ledger.old ledger.new book.new result }
 {
     let _facts = oracle.facts();
     let mut guesser = Guesser::new(alloc, graphs, seed)?;
-    guess_first(alloc, graphs, oracle, &mut guesser, book, seed, ledger)
-}
-
-// Compares tables first, of little effort where there are few claims, and where none of them is a match searches.
-fn guess_first<O: Oracle>(
-    alloc: Global,
-    graphs: &PairableGraphs<'_>,
-    oracle: &mut O,
-    guesser: &mut Guesser<'_>,
-    book: &mut BanBook,
-    seed: u64,
-    ledger: &mut Ledger,
-) -> Result<Found, Stop>
-    requires may { MayHold graphs.now (O.known oracle.old) ledger.old book.old }
-    ensures searches { Searches graphs.now (O.known oracle.old) (O.known oracle.new) ledger.old ledger.new book.new result }
-{
     let effort = first_effort(graphs);
-    if let Some((table, logs)) = compare_guesses(alloc, graphs, oracle, guesser, effort, ledger)? {
-        return Ok(Found::Match(table, logs));
+    if let Some((matching, logs)) = compare_guesses(
+        alloc,
+        graphs,
+        oracle,
+        &mut guesser,
+        effort,
+        ledger,
+    )? {
+        return Ok(Found::Match(matching, logs));
     }
     let mut aids = Aids::new(alloc, graphs, seed)?;
+    let mut session = Session {
+        alloc,
+        oracle,
+        aids: &mut aids,
+        book,
+        ledger,
+    };
     match effort {
-        Effort::Little => refuse_or_find(alloc, graphs, oracle, guesser, &mut aids, book, ledger),
-        Effort::Whole => refuse_or_explore(alloc, graphs, oracle, &mut aids, book, ledger),
+        Effort::Little => refuse_or_find(graphs, &mut session, &mut guesser),
+        Effort::Whole => refuse_or_explore(graphs, &mut session),
     }
 }
 
@@ -112,50 +98,29 @@ fn first_effort(graphs: &PairableGraphs<'_>) -> Effort {
 // Decides where little effort found no match: by counts, by a short search, which refuses what a few conflicts show, by more
 // guesses, and then by searching with the bans that are held.
 fn refuse_or_find<O: Oracle>(
-    alloc: Global,
     graphs: &PairableGraphs<'_>,
-    oracle: &mut O,
+    session: &mut Session<'_, O>,
     guesser: &mut Guesser<'_>,
-    aids: &mut Aids,
-    book: &mut BanBook,
-    ledger: &mut Ledger,
 ) -> Result<Found, Stop>
-    requires may { MaySearch graphs.now (O.known oracle.old) ledger.old book.old aids.old.trials }
-    ensures searches { Searches graphs.now (O.known oracle.old) (O.known oracle.new) ledger.old ledger.new book.new result }
+    requires may { MaySearch graphs.now (lent O.known session.old) }
+    ensures searches { SearchesBy graphs.now (lent O.known session.old) (lent O.known session.new) result }
 {
-    if let Some(ban) = refuse(
-        alloc,
-        graphs,
-        oracle,
-        FEW_TRIES,
-        &mut aids.seen,
-        book,
-        ledger,
-    )? {
+    if let Some(ban) = refuse_by_counts(graphs, session, FEW_TRIES)? {
         return Ok(Found::None(ban));
     }
-    let lines = ledger.learned().saturating_add(FEW_LINES);
-    if let Some(found) = explore_rounds(
-        alloc,
-        graphs,
-        oracle,
-        aids,
-        LITTLE_ROUNDS,
-        lines,
-        book,
-        ledger,
-    )? {
+    let lines = session.ledger.learned().saturating_add(FEW_LINES);
+    if let Some(found) = explore_rounds(graphs, session, LITTLE_ROUNDS, lines)? {
         return Ok(found);
     }
-    if let Some((table, logs)) = compare_guesses(
-        alloc,
+    if let Some((matching, logs)) = compare_guesses(
+        session.alloc,
         graphs,
-        oracle,
+        session.oracle,
         guesser,
         Effort::Whole,
-        ledger,
+        session.ledger,
     )? {
-        return Ok(Found::Match(table, logs));
+        return Ok(Found::Match(matching, logs));
     }
-    refuse_or_explore(alloc, graphs, oracle, aids, book, ledger)
+    refuse_or_explore(graphs, session)
 }

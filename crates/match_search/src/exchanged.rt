@@ -4,8 +4,7 @@ ghost use Rattle.std.specs.Prelude.{All, Contains, IfOk, IfSome, List};
 ghost use Rattle.circuits.specs.declared.port.Pair.{Pair as AnyPair};
 ghost use Rattle.account_core.specs.Ports.{IsKnown};
 ghost use Rattle.ban_book.specs.Covering.{Covers};
-ghost use Rattle.fact_bans.specs.Carrying.{AreSwapPairs, all_of};
-ghost use Rattle.match_search.specs.States.{GoesOn, MayGoOn, lent};
+ghost use Rattle.match_search.specs.States.{AreInputsAndOutput, Excludes, GoesOn, MayGoOn, lent};
 
 use crate::session::Session;
 use circuits::{Pair, PortKind};
@@ -26,8 +25,7 @@ pub(crate) fn exclude_by_swaps<O: Oracle>(
     requires may { MayGoOn graphs.now (lent O.known session.old) }
     requires known { All (IsKnown graphs.now) held.now }
     requires held { Contains held.now newest }
-    ensures goes_on { GoesOn graphs.now (lent O.known session.old) (lent O.known session.new) result }
-    ensures covers { IfOk result (λ found. IfSome found (Covers session.new.book.now held.now)) }
+    ensures { Excludes graphs.now (lent O.known session.old) (lent O.known session.new) held.now result }
 {
     for other in held.iter() {
         if let Some(ban) = exclude_with(graphs, session, held, newest, *other)? {
@@ -49,8 +47,7 @@ fn exclude_with<O: Oracle>(
     requires known { All (IsKnown graphs.now) held.now }
     requires newest_held { Contains held.now newest }
     requires other_held { Contains held.now other }
-    ensures goes_on { GoesOn graphs.now (lent O.known session.old) (lent O.known session.new) result }
-    ensures covers { IfOk result (λ found. IfSome found (Covers session.new.book.now held.now)) }
+    ensures { Excludes graphs.now (lent O.known session.old) (lent O.known session.new) held.now result }
 {
     if other.kind == PortKind::Output {
         return Ok(None);
@@ -82,38 +79,9 @@ fn exclude_three<O: Oracle>(
         → Contains held third
         → IfOk result (λ found. IfSome found (Covers session.new.book.now held)) }
 {
-    match (one.kind, other.kind, third.kind) {
-        (PortKind::Input, PortKind::Input, PortKind::Output) => {
-            let pairs = SwapPairs {
-                one,
-                other,
-                output: third,
-            };
-            exclude_swap(graphs, session, pairs)
-        }
-        (PortKind::Output, PortKind::Input, PortKind::Input) => {
-            let pairs = SwapPairs {
-                one: other,
-                other: third,
-                output: one,
-            };
-            exclude_swap(graphs, session, pairs)
-        }
-        _ => Ok(None),
-    }
-}
-
-// Holds a ban of the pairs of two inputs and an output.
-fn exclude_swap<O: Oracle>(
-    graphs: &PairableGraphs<'_>,
-    session: &mut Session<'_, O>,
-    pairs: SwapPairs,
-) -> Result<Option<u64>, Stop>
-    requires may { MayGoOn graphs.now (lent O.known session.old) }
-    requires pairs { AreSwapPairs graphs.now pairs }
-    ensures goes_on { GoesOn graphs.now (lent O.known session.old) (lent O.known session.new) result }
-    ensures covers { IfOk result (λ found. IfSome found (Covers session.new.book.now (all_of pairs))) }
-{
+    let Some(pairs) = inputs_and_output(one, other, third) else {
+        return Ok(None);
+    };
     swap_mismatch(
         session.alloc,
         graphs,
@@ -123,4 +91,23 @@ fn exclude_swap<O: Oracle>(
         session.book,
         session.ledger,
     )
+}
+
+// The pairs of two inputs and of an output, if the third pair or the first is the output's.
+fn inputs_and_output(one: Pair, other: Pair, third: Pair) -> Option<SwapPairs>
+    ensures { IfSome result (AreInputsAndOutput one other third) }
+{
+    match (one.kind, other.kind, third.kind) {
+        (PortKind::Input, PortKind::Input, PortKind::Output) => Some(SwapPairs {
+            one,
+            other,
+            output: third,
+        }),
+        (PortKind::Output, PortKind::Input, PortKind::Input) => Some(SwapPairs {
+            one: other,
+            other: third,
+            output: one,
+        }),
+        _ => None,
+    }
 }

@@ -1,32 +1,22 @@
 //! What follows of the pairs that are held, by bans, by decided claims and by vectors.
 
-ghost use Rattle.std.specs.Prelude.{◌≡◌, ◌≤◌, Contains, IfOk, IfSome, OnOk};
-ghost use Rattle.ban_book.specs.Covering.{Covers};
-ghost use Rattle.fact_bans.specs.Serving.{HoldsBans, MayHold};
+ghost use Rattle.std.specs.Prelude.{◌≤◌, Contains, IfOk, IfSome, OnOk};
 ghost use Rattle.pair_search.specs.Impasses.{IsImpasse};
-ghost use Rattle.port_sides.specs.Held.{AreHeld};
-ghost use Rattle.table_guess.specs.Trials.{AreTrials};
-ghost use Rattle.oracle_core.specs.Oracles.{Serves};
 ghost use Rattle.class_refine.specs.Trails.{held_in};
 ghost use Rattle.pair_search.specs.Progress.{left};
-ghost use Rattle.match_search.specs.States.{Deletes, MayDelete, MayStep, Steps, lent};
+ghost use Rattle.match_search.specs.States.{Deletes, MayStep, Steps, lent};
 
-use crate::aids::Aids;
 use crate::asking::{ask_held, ask_output};
 use crate::exchanged::exclude_by_swaps;
 use crate::session::Session;
 use crate::trail::PairTrail;
 use crate::unlike::{delete_unlike, list_unlike};
-use account_core::Ban;
-use ban_book::BanBook;
 use circuits::{Pair, PortKind};
 use class_refine::Domains;
 use cnf_core::Stop;
 use oracle_core::Oracle;
 use pair_search::{Impasse, propagate};
 use port_sides::PairableGraphs;
-use query_core::Ledger;
-use std::alloc::Global;
 use vector_bans::foresee;
 
 /// Holds and deletes what follows of bans and of claims, those of one input first, which are fewer and whose bans are shorter,
@@ -55,49 +45,35 @@ pub(crate) fn follow<O: Oracle>(
     if let Some(exchanged) = exchange_held(graphs, session, domains)? {
         return Ok(Some(exchanged));
     }
+    try_held(graphs, session, domains)
+}
+
+// Tries the held pairs on vectors.
+fn try_held<O: Oracle>(
+    graphs: &PairableGraphs<'_>,
+    session: &mut Session<'_, O>,
+    domains: &Domains,
+) -> Result<Option<Impasse>, Stop>
+    requires may { MayStep graphs.now (lent O.known session.old) domains.now }
+    ensures steps { Steps graphs.now (lent O.known session.old) (lent O.known session.new) domains.now result }
+    ensures impasse { IfOk result (λ found. IfSome found
+        (IsImpasse domains.now.inputs domains.now.outputs session.new.book.now domains.now.entries)) }
+{
     let _lawful = domains.entries();
-    match try_held(
+    let aids = &mut *session.aids;
+    match foresee(
         session.alloc,
         graphs,
         session.oracle,
-        session.aids,
         domains.pairs(),
+        &aids.trials,
+        &mut aids.seen,
         session.book,
         session.ledger,
     )? {
         Some(ban) => Ok(Some(Impasse::Ban(ban))),
         None => Ok(None),
     }
-}
-
-// Tries held pairs on vectors.
-fn try_held<O: Oracle>(
-    alloc: Global,
-    graphs: &PairableGraphs<'_>,
-    oracle: &mut O,
-    aids: &mut Aids,
-    held: &[Pair],
-    book: &mut BanBook,
-    ledger: &mut Ledger,
-) -> Result<Option<u64>, Stop>
-    requires may { MayHold graphs.now (O.known oracle.old) ledger.old book.old }
-    requires held { AreHeld graphs.now held.now }
-    requires trials { AreTrials graphs.now.first aids.old.trials }
-    ensures holds { HoldsBans graphs.now (O.known oracle.old) (O.known oracle.new) ledger.old ledger.new book.old book.new result }
-    ensures trials { aids.new.trials ≡ aids.old.trials }
-    ensures covers { IfOk result (λ found. IfSome found (Covers book.new held.now)) }
-{
-    let seen = &mut aids.seen;
-    foresee(
-        alloc,
-        graphs,
-        oracle,
-        held,
-        &aids.trials,
-        seen,
-        book,
-        ledger,
-    )
 }
 
 // Holds each held pair that wasn't yet against claims of two inputs, beside all others.
@@ -197,16 +173,7 @@ fn ask_next_pair<O: Oracle>(
         return Ok(true);
     }
     session.aids.guide.asked = session.aids.guide.asked.saturating_add(1);
-    delete_beside(
-        session.alloc,
-        graphs,
-        session.oracle,
-        session.aids,
-        domains,
-        session.book.bans(),
-        pair,
-        session.ledger,
-    )?;
+    delete_beside(graphs, session, domains, pair)?;
     Ok(true)
 }
 
@@ -219,32 +186,17 @@ fn next_held(domains: &Domains, place: usize) -> Option<Pair>
 
 // Deletes the ways that decided claims tell from a held pair.
 fn delete_beside<O: Oracle>(
-    alloc: Global,
     graphs: &PairableGraphs<'_>,
-    oracle: &mut O,
-    aids: &mut Aids,
+    session: &mut Session<'_, O>,
     domains: &mut Domains,
-    bans: &[Ban],
     pair: Pair,
-    ledger: &mut Ledger,
 ) -> Result<(), Stop>
-    requires may { MayDelete graphs.now (O.known oracle.old) ledger.old bans.now pair domains.old }
-    ensures serves { Serves (O.known oracle.old) (O.known oracle.new) ledger.old ledger.new result }
-    ensures trials { aids.new.trials ≡ aids.old.trials }
-    ensures deletes { OnOk result (Deletes graphs.now (O.known oracle.new) bans.now pair domains.old domains.new) }
+    requires may { MayStep graphs.now (lent O.known session.old) domains.old }
+    requires held { Contains (held_in domains.old.entries) pair }
+    ensures steps { Steps graphs.now (lent O.known session.old) (lent O.known session.new) domains.new result }
+    ensures deletes { OnOk result (Deletes pair domains.old domains.new) }
 {
-    let _facts = oracle.facts();
-    let again = aids.guide.compare(pair);
-    list_unlike(alloc, domains, &aids.seen, pair, again, &mut aids.ways)?;
-    delete_unlike(
-        alloc,
-        graphs,
-        oracle,
-        domains,
-        bans,
-        pair,
-        &aids.ways,
-        &mut aids.seen,
-        ledger,
-    )
+    let again = session.aids.guide.compare(pair);
+    let ways = list_unlike(session.alloc, domains, &session.aids.seen, pair, again)?;
+    delete_unlike(graphs, session, domains, pair, &ways)
 }

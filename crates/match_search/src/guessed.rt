@@ -1,10 +1,10 @@
 //! The first phase, which leaves no ban: tables that are guessed are compared.
 
-ghost use Rattle.std.specs.Prelude.{◌≡◌, IfOk, IfSome};
-ghost use Rattle.account_core.specs.Facts.{AreFacts};
-ghost use Rattle.oracle_core.specs.Oracles.{Serves, Suits};
+ghost use Rattle.std.specs.Prelude.{IfOk, IfSome};
+ghost use Rattle.oracle_core.specs.Oracles.{Serves};
 ghost use Rattle.account_core.specs.Shown.{IsShownMatch};
 ghost use Rattle.match_search.specs.Founds.{IsGuessed};
+ghost use Rattle.match_search.specs.States.{MayCompare};
 
 use crate::candidate::compare_all;
 use cnf_core::{Log, Stop};
@@ -42,9 +42,7 @@ pub(crate) fn compare_guesses<O: Oracle>(
     effort: Effort,
     ledger: &mut Ledger,
 ) -> Result<Option<(Matching, Items<Log>)>, Stop>
-    requires graphs { graphs.now ≡ (O.known oracle.old).graphs }
-    requires lawful { AreFacts graphs.now (O.known oracle.old).facts }
-    requires suits { Suits (O.known oracle.old) ledger.old }
+    requires may { MayCompare graphs.now (O.known oracle.old) ledger.old }
     ensures serves { Serves (O.known oracle.old) (O.known oracle.new) ledger.old ledger.new result }
     ensures shown { IfOk result (λ found. IfSome found (λ shown. IsShownMatch graphs.now shown.0 shown.1)) }
 {
@@ -69,9 +67,7 @@ fn compare_guess<O: Oracle>(
     effort: Effort,
     ledger: &mut Ledger,
 ) -> Result<Guessed, Stop>
-    requires graphs { graphs.now ≡ (O.known oracle.old).graphs }
-    requires lawful { AreFacts graphs.now (O.known oracle.old).facts }
-    requires suits { Suits (O.known oracle.old) ledger.old }
+    requires may { MayCompare graphs.now (O.known oracle.old) ledger.old }
     ensures serves { Serves (O.known oracle.old) (O.known oracle.new) ledger.old ledger.new result }
     ensures guessed { IfOk result (IsGuessed graphs.now) }
 {

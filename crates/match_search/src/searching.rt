@@ -1,16 +1,15 @@
 //! The search, from its beginning.
 
-ghost use Rattle.std.specs.Prelude.{◌≡◌, [], IfOk, map};
+ghost use Rattle.std.specs.Prelude.{◌≡◌, [], IfOk, IfSome, map};
 ghost use Rattle.account_core.specs.Given.{decided_by};
-ghost use Rattle.account_core.specs.Steps.{AreValidBans};
-ghost use Rattle.oracle_core.specs.Oracles.{Serves, Suits};
-ghost use Rattle.ban_book.specs.Vectors.{AreLastResorts};
-ghost use Rattle.match_search.specs.Founds.{IsDecidedFound, IsFound};
-ghost use Rattle.match_search.specs.States.{MaySearch, Searches};
+ghost use Rattle.account_core.specs.Shown.{IsEmptyBan};
+ghost use Rattle.match_search.specs.Founds.{IsDecidedFound};
+ghost use Rattle.match_search.specs.States.{Explores, MayBegin, MaySearch, Searches, SearchesBy, lent};
 
 use crate::aids::Aids;
 use crate::branching::{explore_rounds, explore_whole};
 use crate::found::Found;
+use crate::session::Session;
 use ban_book::BanBook;
 use cnf_core::Stop;
 use fact_bans::refuse;
@@ -51,18 +50,20 @@ pub fn search<O: Oracle>(
     seed: u64,
     ledger: &mut Ledger,
 ) -> Result<Found, Stop>
-    requires graphs { graphs.now ≡ (O.known oracle.old).graphs }
-    requires book { book.old ≡ [] }
-    requires suits { Suits (O.known oracle.old) ledger.old }
-    ensures serves { Serves (O.known oracle.old) (O.known oracle.new) ledger.old ledger.new result }
-    ensures bans { AreValidBans graphs.now (map decided_by (O.known oracle.new).facts) book.new }
-    ensures last_resorts { AreLastResorts graphs.now (map decided_by (O.known oracle.new).facts) book.new }
-    ensures found { IfOk result (IsFound graphs.now book.new) }
+    requires may { MayBegin graphs.now (O.known oracle.old) ledger.old book.old }
+    ensures searches { Searches graphs.now (O.known oracle.old) (O.known oracle.new) ledger.old ledger.new book.new result }
     ensures decided { IfOk result (IsDecidedFound graphs.now (map decided_by (O.known oracle.new).facts)) }
 {
     let _facts = oracle.facts();
     let mut aids = Aids::new(alloc, graphs, seed)?;
-    refuse_or_explore(alloc, graphs, oracle, &mut aids, book, ledger)
+    let mut session = Session {
+        alloc,
+        oracle,
+        aids: &mut aids,
+        book,
+        ledger,
+    };
+    refuse_or_explore(graphs, &mut session)
 }
 
 /// Searches unless counts of inputs refuse a match. Ports are decided one by one, as conflict-driven solvers decide variables, until
@@ -76,38 +77,49 @@ pub fn search<O: Oracle>(
 ///
 /// As for `search`.
 pub(crate) fn refuse_or_explore<O: Oracle>(
-    alloc: Global,
     graphs: &PairableGraphs<'_>,
-    oracle: &mut O,
-    aids: &mut Aids,
-    book: &mut BanBook,
-    ledger: &mut Ledger,
+    session: &mut Session<'_, O>,
 ) -> Result<Found, Stop>
-    requires may { MaySearch graphs.now (O.known oracle.old) ledger.old book.old aids.old.trials }
-    ensures searches { Searches graphs.now (O.known oracle.old) (O.known oracle.new) ledger.old ledger.new book.new result }
-    ensures decided { IfOk result (IsDecidedFound graphs.now (map decided_by (O.known oracle.new).facts)) }
+    requires may { MaySearch graphs.now (lent O.known session.old) }
+    ensures searches { SearchesBy graphs.now (lent O.known session.old) (lent O.known session.new) result }
+    ensures decided { IfOk result (IsDecidedFound graphs.now (map decided_by (O.known session.new.oracle.now).facts)) }
 {
-    let seen = &mut aids.seen;
-    if let Some(ban) = refuse(alloc, graphs, oracle, MOST_TRIES, seen, book, ledger)? {
+    if let Some(ban) = refuse_by_counts(graphs, session, MOST_TRIES)? {
         return Ok(Found::None(ban));
     }
     for _time in 0..MOST_TIMES {
-        if let Some(found) = explore_rounds(
-            alloc,
-            graphs,
-            oracle,
-            aids,
-            MOST_ROUNDS,
-            u64::MAX,
-            book,
-            ledger,
-        )? {
+        if let Some(found) = explore_rounds(graphs, session, MOST_ROUNDS, u64::MAX)? {
             return Ok(found);
         }
-        let_go(alloc, book);
-        aids.guide.begin_anew();
+        let_go(session.alloc, session.book);
+        session.aids.guide.begin_anew();
     }
-    explore_whole(alloc, graphs, oracle, aids, book, ledger)
+    explore_whole(graphs, session)
+}
+
+/// Holds a ban without pairs that counts of inputs show, tried this often, and answers its number.
+///
+/// # Errors
+///
+/// As for `search`.
+pub(crate) fn refuse_by_counts<O: Oracle>(
+    graphs: &PairableGraphs<'_>,
+    session: &mut Session<'_, O>,
+    tries: u32,
+) -> Result<Option<u64>, Stop>
+    requires may { MaySearch graphs.now (lent O.known session.old) }
+    ensures explores { Explores graphs.now (lent O.known session.old) (lent O.known session.new) result }
+    ensures empty { IfOk result (λ found. IfSome found (IsEmptyBan session.new.book.now)) }
+{
+    refuse(
+        session.alloc,
+        graphs,
+        session.oracle,
+        tries,
+        &mut session.aids.seen,
+        session.book,
+        session.ledger,
+    )
 }
 
 // Lets all bans go.

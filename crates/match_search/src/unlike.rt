@@ -1,16 +1,17 @@
 //! Ways that claims of one input tell from a held pair.
 
-ghost use Rattle.std.specs.Prelude.{IfOk, IfSome, OnOk, map};
+ghost use Rattle.std.specs.Prelude.{IfOk, IfSome, OnOk, map, Contains};
 ghost use Rattle.account_core.specs.Given.{decided_by};
 ghost use Rattle.account_core.specs.Ports.{IsKnown};
 ghost use Rattle.class_refine.specs.declared.entry.Fate.TheVariants.{Deleted};
 ghost use Rattle.class_refine.specs.declared.entry.Reason.TheVariants.{Mismatch};
+ghost use Rattle.class_refine.specs.Trails.{held_in};
 ghost use Rattle.conflict_core.specs.Grounded.{IsGrounded};
-ghost use Rattle.oracle_core.specs.Oracles.{Serves};
-ghost use Rattle.fact_bans.specs.Serving.{MayAsk};
-ghost use Rattle.match_search.specs.States.{Deletes, MayDelete};
+ghost use Rattle.match_search.specs.States.{Deletes, GoesOn, MayGoOn, MayStep, Steps, lent};
 
-use account_core::{Ban, port_on};
+use account_core::port_on;
+use crate::asking::input_and_output;
+use crate::session::Session;
 use circuits::{Pair, PortKind};
 use class_refine::{Domains, Reason};
 use cnf_core::Stop;
@@ -19,7 +20,6 @@ use net_core::Side;
 use oracle_core::Oracle;
 use pair_search::is_open;
 use port_sides::PairableGraphs;
-use query_core::Ledger;
 use std::alloc::{AllocError, Global};
 
 /// A port of the other kind, and what vectors break of the claims of it and a held pair's port (`Seen::broken`).
@@ -43,18 +43,17 @@ pub(crate) fn list_unlike(
     seen: &Seen,
     pair: Pair,
     again: bool,
-    ways: &mut Vec<Pair>,
-) -> Result<(), AllocError> {
-    ways.truncate(0);
+) -> Result<Vec<Pair>, AllocError> {
+    let mut ways = Vec::new(alloc);
     let first = free_ports(alloc, domains, seen, pair, Side::First)?;
     let second = free_ports(alloc, domains, seen, pair, Side::Second)?;
     for one in first.iter() {
-        list_port(domains, pair, *one, &second, ways)?;
+        list_port(domains, pair, *one, &second, &mut ways)?;
     }
     if again {
         ways.as_mut_slice().reverse();
     }
-    Ok(())
+    Ok(ways)
 }
 
 // The ports of a circuit, of the other kind than a pair, of which no pair is held.
@@ -143,52 +142,41 @@ fn list_way(
 
 /// Deletes those of some ways that decided claims tell from a held pair.
 pub(crate) fn delete_unlike<O: Oracle>(
-    alloc: Global,
     graphs: &PairableGraphs<'_>,
-    oracle: &mut O,
+    session: &mut Session<'_, O>,
     domains: &mut Domains,
-    bans: &[Ban],
     pair: Pair,
     ways: &[Pair],
-    seen: &mut Seen,
-    ledger: &mut Ledger,
 ) -> Result<(), Stop>
-    requires may { MayDelete graphs.now (O.known oracle.old) ledger.old bans.now pair domains.old }
-    ensures serves { Serves (O.known oracle.old) (O.known oracle.new) ledger.old ledger.new result }
-    ensures deletes { OnOk result (Deletes graphs.now (O.known oracle.new) bans.now pair domains.old domains.new) }
+    requires may { MayStep graphs.now (lent O.known session.old) domains.old }
+    requires held { Contains (held_in domains.old.entries) pair }
+    ensures steps { Steps graphs.now (lent O.known session.old) (lent O.known session.new) domains.new result }
+    ensures deletes { OnOk result (Deletes pair domains.old domains.new) }
 {
-    let _facts = oracle.facts();
     for way in ways.iter() {
-        delete_way(
-            alloc, graphs, oracle, domains, bans, pair, *way, seen, ledger,
-        )?;
+        delete_way(graphs, session, domains, pair, *way)?;
     }
     Ok(())
 }
 
 // Deletes a way if it is open, and decided claims tell it from a held pair.
 fn delete_way<O: Oracle>(
-    alloc: Global,
     graphs: &PairableGraphs<'_>,
-    oracle: &mut O,
+    session: &mut Session<'_, O>,
     domains: &mut Domains,
-    bans: &[Ban],
     pair: Pair,
     way: Pair,
-    seen: &mut Seen,
-    ledger: &mut Ledger,
 ) -> Result<(), Stop>
-    requires may { MayDelete graphs.now (O.known oracle.old) ledger.old bans.now pair domains.old }
-    ensures serves { Serves (O.known oracle.old) (O.known oracle.new) ledger.old ledger.new result }
-    ensures deletes { OnOk result (Deletes graphs.now (O.known oracle.new) bans.now pair domains.old domains.new) }
+    requires may { MayStep graphs.now (lent O.known session.old) domains.old }
+    requires held { Contains (held_in domains.old.entries) pair }
+    ensures steps { Steps graphs.now (lent O.known session.old) (lent O.known session.new) domains.new result }
+    ensures deletes { OnOk result (Deletes pair domains.old domains.new) }
 {
-    let _ = bans;
-    let _facts = oracle.facts();
     let _lawful = domains.entries();
     if !is_open(domains, way) {
         return Ok(());
     }
-    let Some(unlike) = unlike_beside(alloc, graphs, oracle, pair, way, seen, ledger)? else {
+    let Some(unlike) = unlike_beside(graphs, session, pair, way)? else {
         return Ok(());
     };
     let Unlike { fails, holds } = unlike;
@@ -199,29 +187,28 @@ fn delete_way<O: Oracle>(
 
 // The facts that tell a way from a held pair, if they are of different kinds.
 fn unlike_beside<O: Oracle>(
-    alloc: Global,
     graphs: &PairableGraphs<'_>,
-    oracle: &mut O,
+    session: &mut Session<'_, O>,
     pair: Pair,
     way: Pair,
-    seen: &mut Seen,
-    ledger: &mut Ledger,
 ) -> Result<Option<Unlike>, Stop>
-    requires may { MayAsk graphs.now (O.known oracle.old) ledger.old }
+    requires may { MayGoOn graphs.now (lent O.known session.old) }
     requires known { IsKnown graphs.now pair }
     requires way { IsKnown graphs.now way }
-    ensures serves { Serves (O.known oracle.old) (O.known oracle.new) ledger.old ledger.new result }
+    ensures goes_on { GoesOn graphs.now (lent O.known session.old) (lent O.known session.new) result }
     ensures shown { IfOk result (λ found. IfSome found (λ unlike. IsGrounded graphs.now
-        (map decided_by (O.known oracle.new).facts) way (Deleted (Mismatch pair unlike.fails unlike.holds)))) }
+        (map decided_by (O.known session.new.oracle.now).facts) way (Deleted (Mismatch pair unlike.fails unlike.holds)))) }
 {
-    let _facts = oracle.facts();
-    match (pair.kind, way.kind) {
-        (PortKind::Input, PortKind::Output) => {
-            tell_apart(alloc, graphs, oracle, pair, way, seen, ledger)
-        }
-        (PortKind::Output, PortKind::Input) => {
-            tell_apart(alloc, graphs, oracle, way, pair, seen, ledger)
-        }
-        _ => Ok(None),
-    }
+    let Some((input, output)) = input_and_output(pair, way) else {
+        return Ok(None);
+    };
+    tell_apart(
+        session.alloc,
+        graphs,
+        session.oracle,
+        input,
+        output,
+        &mut session.aids.seen,
+        session.ledger,
+    )
 }

@@ -1,5 +1,4 @@
-use Rattle.std.proofs.Common.{map}
-use Rattle.account_core.specs.Given.{decided_by}
+use Rattle.match_search.specs.States.{lent}
 use Rattle.match_search.proofs.AskLemmas.{ahead_later}
 use Rattle.match_search.proofs.StepLemmas.{may_go_on, steps_err, steps_last, steps_ok, way_one, way_start}
 use Rattle.match_search.proofs.branching.ahead.Goals as goal
@@ -24,4 +23,4 @@ returns-clause-steps g c = steps_last (way_one c.in_ok-impasse.ensures.steps) c.
 
 pub returns-clause-ahead : goal.returns-clause-ahead
 returns-clause-ahead g c =
-    ahead_later c.args.graphs.now (map decided_by (g.O.Oracle.known c.go_on.new.session.oracle.now).facts) c.go_on.new.session.book.now c.args.trail.now.domains c.follow.new.trail.domains c.go_on.new.domains c.go_on.result c.in_ok-impasse.ensures.less c.go_on.ensures.ahead
+    ahead_later c.args.graphs.now (lent g.O.Oracle.known c.go_on.new.session) c.args.trail.now.domains c.follow.new.trail.domains c.go_on.new.domains c.go_on.result c.in_ok-impasse.ensures.less c.go_on.ensures.ahead

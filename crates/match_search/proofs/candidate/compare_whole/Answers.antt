@@ -1,37 +1,56 @@
-use Rattle.std.proofs.Common.{refl}
-use Rattle.fact_bans.proofs.HoldingLemmas.{held_same, holds_err, holds_fail, holds_ok, holds_stop, may_later}
+use Rattle.std.proofs.Common.{List, sym, subst}
+use Rattle.circuits.specs.declared.port.Pair.{Pair}
+use Rattle.circuits.specs.Netlists.{Net}
+use Rattle.claim_core.specs.Images.{Extends}
+use Rattle.table_guess.specs.Trials.{AreTrials}
+use Rattle.port_sides.specs.Held.{AreHeld, IsWhole}
+use Rattle.conflict_core.proofs.PivotLemmas.{held_known}
 use Rattle.match_search.proofs.CompareLemmas.{shown_match}
-use Rattle.match_search.proofs.StepLemmas.{held_asked, held_on}
+use Rattle.match_search.proofs.SearchLemmas.{may_ask}
+use Rattle.match_search.proofs.StepLemmas.{goes_asked, may_go_on, same_loans, steps_cut, steps_fail, steps_ok, steps_stop, steps_unkept, way_bans, way_start, way_tried}
 use Rattle.match_search.proofs.candidate.compare_whole.Goals as goal
 
-pub returns-in_err-compare_all-clause-holds : goal.returns-in_err-compare_all-clause-holds
-returns-in_err-compare_all-clause-holds g c =
-    holds_fail _ _ _ _ _ _ _ c.in_err-compare_all.field-0.0 c.from_residual-in_err-compare_all.ensures.1 c.requires.may c.in_err-compare_all.ensures.serves
+pub table-requires : goal.table-requires
+table-requires g c =
+    let d = c.args.domains.now in
+    record {
+      held = subst (AreHeld c.args.graphs.now) (sym c.pairs.ensures.value) (held_known c.args.graphs.now d.inputs d.outputs d.entries c.requires.may.trail.trail.fit c.entries-lawful.ensures.lawful);
+      whole = subst (IsWhole c.args.graphs.now) (sym c.pairs.ensures.value) c.requires.whole;
+    }
 
-pub returns-in-None-clause-holds : goal.returns-in-None-clause-holds
-returns-in-None-clause-holds g c =
-    holds_ok _ _ _ _ _ _ _ _ _ refl (held_asked (held_same _ _ _ _ c.requires.may) c.in_ok-compare_all.ensures.serves)
+pub returns-in_err-matching-clause-steps : goal.returns-in_err-matching-clause-steps
+returns-in_err-matching-clause-steps g c = steps_stop c.from_residual.ensures.1 (way_start c.requires.may)
+
+pub compare_all-requires-clause-may : goal.compare_all-requires-clause-may
+compare_all-requires-clause-may g c = may_ask c.requires.may.may
+
+pub returns-in_err-compare_all-clause-steps : goal.returns-in_err-compare_all-clause-steps
+returns-in_err-compare_all-clause-steps g c =
+    steps_fail c.from_residual-in_err-compare_all.ensures.1 (way_start c.requires.may) (goes_asked c.requires.may.may c.in_err-compare_all.ensures.serves)
+
+pub returns-in-None-clause-steps : goal.returns-in-None-clause-steps
+returns-in-None-clause-steps g c = steps_ok (way_bans (way_start c.requires.may) (goes_asked c.requires.may.may c.in_ok-compare_all.ensures.serves))
 
 pub returns-in-None-clause-settled : goal.returns-in-None-clause-settled
 returns-in-None-clause-settled g c =
     shown_match c.args.graphs.now c.in_ok-matching.matching c.compare_all.new.logs c.first-first.ensures.sound c.second-second.ensures.sound c.in_ok-matching.ensures.ports (rw c.in-None.is at c.in_ok-compare_all.ensures.same)
 
+pub returns-in_err-keep-in-Some-clause-steps : goal.returns-in_err-keep-in-Some-clause-steps
+returns-in_err-keep-in-Some-clause-steps g c =
+    steps_unkept c.from_residual-in_err-keep-in-Some.ensures.1 (way_bans (way_start c.requires.may) (goes_asked c.requires.may.may c.in_ok-compare_all.ensures.serves))
+
 pub exclude-requires-clause-may : goal.exclude-requires-clause-may
 exclude-requires-clause-may g c =
-    may_later _ _ _ _ _ _ _ c.requires.may (held_asked (held_same _ _ _ _ c.requires.may) c.in_ok-compare_all.ensures.serves)
+    (may_go_on c.requires.may.may (way_bans (way_start c.requires.may) (goes_asked c.requires.may.may c.in_ok-compare_all.ensures.serves))).may
 
-pub returns-in_ok-ban-in-Some-clause-holds : goal.returns-in_ok-ban-in-Some-clause-holds
-returns-in_ok-ban-in-Some-clause-holds g c =
-    holds_ok _ _ _ _ _ _ _ _ _ refl (held_on (held_asked (held_same _ _ _ _ c.requires.may) c.in_ok-compare_all.ensures.serves) c.in_ok-ban-in-Some.ensures.holds)
+pub returns-in_err-ban-in-Some-clause-steps : goal.returns-in_err-ban-in-Some-clause-steps
+returns-in_err-ban-in-Some-clause-steps g c =
+    steps_cut c.from_residual-in_err-ban-in-Some.ensures.1 (way_bans (way_start c.requires.may) (goes_asked c.requires.may.may c.in_ok-compare_all.ensures.serves)) same_loans c.in_err-ban-in-Some.ensures.holds
 
-pub returns-in_ok-ban-in-Some-clause-settled : goal.returns-in_ok-ban-in-Some-clause-settled
-returns-in_ok-ban-in-Some-clause-settled g c =
-    c.in_ok-ban-in-Some.ensures.covers c.args.held.now c.requires.whole c.in_ok-matching.ensures.extends
-
-pub returns-in_err-keep-in-Some-clause-holds : goal.returns-in_err-keep-in-Some-clause-holds
-returns-in_err-keep-in-Some-clause-holds g c =
-    holds_stop _ _ _ _ _ _ _ _ c.from_residual-in_err-keep-in-Some.ensures.1 (held_asked (held_same _ _ _ _ c.requires.may) c.in_ok-compare_all.ensures.serves)
-
-pub returns-in_err-ban-in-Some-clause-holds : goal.returns-in_err-ban-in-Some-clause-holds
-returns-in_err-ban-in-Some-clause-holds g c =
-    holds_err _ _ _ _ _ _ _ _ _ _ _ c.in_err-ban-in-Some.field-0.0 c.from_residual-in_err-ban-in-Some.ensures.1 (held_asked (held_same _ _ _ _ c.requires.may) c.in_ok-compare_all.ensures.serves) c.in_err-ban-in-Some.ensures.holds
+pub returns-in_ok-ban-in-Some : goal.returns-in_ok-ban-in-Some
+returns-in_ok-ban-in-Some g c = record {
+  steps = steps_ok (way_tried (way_bans (way_start c.requires.may) (goes_asked c.requires.may.may c.in_ok-compare_all.ensures.serves)) c.in_ok-ban-in-Some.ensures.holds (subst (λ (net : Net). AreTrials net c.keep.new.self) c.first.ensures.value c.in_ok-keep-in-Some.ensures.trials));
+  settled =
+      c.in_ok-ban-in-Some.ensures.covers _ c.requires.whole
+      (subst (λ (held : List Pair). Extends held c.in_ok-matching.matching.inputs c.in_ok-matching.matching.outputs) c.pairs.ensures.value c.in_ok-matching.ensures.extends);
+}

@@ -1,17 +1,49 @@
 -- Guesses are compared, and then counts, more guesses and the search decide.
-use Rattle.match_search.proofs.SearchLemmas.{may_start, none_last}
+use Rattle.std.proofs.Common.{rules}
+use Rattle.fact_bans.proofs.HoldingLemmas.{held_same, holds_no_more, may_later}
+use Rattle.match_search.proofs.SearchLemmas.{may_ask, may_start, searches_err, searches_last, searches_ok, searches_stop}
+use Rattle.match_search.proofs.StepLemmas.{held_asked}
 use Rattle.match_search.proofs.deciding.decide.Goals as goal
 
-pub guess_first-requires : goal.guess_first-requires
-guess_first-requires g c = record { may = may_start _ _ _ _ c.requires.graphs c.facts-facts.ensures.lawful c.requires.suits c.requires.book }
+pub returns-in_err-guesser : goal.returns-in_err-guesser
+returns-in_err-guesser g c =
+    let may = may_start c.requires.may c.facts-facts.ensures.lawful in
+    record { searches = searches_stop c.from_residual.ensures.1 (held_same _ _ _ _ may).served may.valid }
+
+pub compare_guesses-requires : goal.compare_guesses-requires
+compare_guesses-requires g c = record { may = may_ask (may_start c.requires.may c.facts-facts.ensures.lawful) }
+
+pub returns-in_err-matching : goal.returns-in_err-matching
+returns-in_err-matching g c =
+    let may = may_start c.requires.may c.facts-facts.ensures.lawful in
+    record { searches = searches_err c.from_residual-in_err-matching.ensures.1 (held_same _ _ _ _ may).served (holds_no_more _ _ _ _ _ _ _ may.valid c.in_err-matching.ensures.serves) }
+
+pub returns-in-Some : goal.returns-in-Some
+returns-in-Some g c =
+    let held = held_asked (held_same _ _ _ _ (may_start c.requires.may c.facts-facts.ensures.lawful)) c.in_ok-matching.ensures.serves in
+    record { searches = searches_ok held.served held.valid (rw c.in-Some.is at c.in_ok-matching.ensures.shown) }
+
+pub returns-in_err-aids : goal.returns-in_err-aids
+returns-in_err-aids g c =
+    let held = held_asked (held_same _ _ _ _ (may_start c.requires.may c.facts-facts.ensures.lawful)) c.in_ok-matching.ensures.serves in
+    record { searches = searches_stop c.from_residual-in_err-aids.ensures.1 held.served held.valid }
+
+pub refuse_or_find-requires : goal.refuse_or_find-requires
+refuse_or_find-requires g c =
+    let may = may_start c.requires.may c.facts-facts.ensures.lawful in
+    record { may = record { may = may_later _ _ _ _ _ _ _ may (held_asked (held_same _ _ _ _ may) c.in_ok-matching.ensures.serves); trials = c.in_ok-aids.ensures } }
+
+pub refuse_or_explore-requires : goal.refuse_or_explore-requires
+refuse_or_explore-requires g c =
+    let may = may_start c.requires.may c.facts-facts.ensures.lawful in
+    record { may = record { may = may_later _ _ _ _ _ _ _ may (held_asked (held_same _ _ _ _ may) c.in_ok-matching.ensures.serves); trials = c.in_ok-aids.ensures } }
+
+pub returns-in-Little : goal.returns-in-Little
+returns-in-Little g c =
+    let held = held_asked (held_same _ _ _ _ (may_start c.requires.may c.facts-facts.ensures.lawful)) c.in_ok-matching.ensures.serves in
+    record { searches = searches_last held.served (search rules) }
 
 pub returns : goal.returns
-returns g c = record {
-  serves = c.guess_first.ensures.searches.serves;
-  bans = c.guess_first.ensures.searches.valid.each;
-  last_resorts = c.guess_first.ensures.searches.valid.last_resorts;
-  found = c.guess_first.ensures.searches.found;
-}
-
-pub returns-in_err-guesser-clause-last_resorts : goal.returns-in_err-guesser-clause-last_resorts
-returns-in_err-guesser-clause-last_resorts g c = none_last _ _ _ c.requires.book
+returns g c =
+    let held = held_asked (held_same _ _ _ _ (may_start c.requires.may c.facts-facts.ensures.lawful)) c.in_ok-matching.ensures.serves in
+    record { searches = searches_last held.served (search rules) }

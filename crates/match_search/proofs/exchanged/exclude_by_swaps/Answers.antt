@@ -1,5 +1,5 @@
 use Rattle.std.proofs.lemmas.List.Elements.{Contains-get_or}
-use Rattle.match_search.proofs.StepLemmas.{goes_err, goes_ok, gone_more, gone_none, may_ask_on}
+use Rattle.match_search.proofs.StepLemmas.{goes_err, goes_ok, gone_more, gone_none, may_ask_on, never_if}
 use Rattle.match_search.proofs.exchanged.exclude_by_swaps.Goals as goal
 
 pub loop-other-init : goal.loop-other-init
@@ -14,12 +14,17 @@ exclude_with-requires-clause-other_held g c = Contains-get_or c.args.held.now c.
 pub loop-other-preserved : goal.loop-other-preserved
 loop-other-preserved g c = gone_more c.loop-other.invariant c.in_ok-ban.ensures.goes_on
 
-pub returns-in_err-ban-clause-goes_on : goal.returns-in_err-ban-clause-goes_on
-returns-in_err-ban-clause-goes_on g c =
-    goes_err c.from_residual.ensures.1 c.loop-other.invariant c.in_err-ban.ensures.goes_on
+pub returns-in_err-ban : goal.returns-in_err-ban
+returns-in_err-ban g c = record {
+  goes_on = goes_err c.from_residual.ensures.1 c.loop-other.invariant c.in_err-ban.ensures.goes_on;
+  covers = never_if _ _ _ c.from_residual.ensures.1;
+}
 
-pub returns-in-Some-clause-goes_on : goal.returns-in-Some-clause-goes_on
-returns-in-Some-clause-goes_on g c = goes_ok (gone_more c.loop-other.invariant c.in_ok-ban.ensures.goes_on)
+pub returns-in-Some : goal.returns-in-Some
+returns-in-Some g c = record {
+  goes_on = goes_ok (gone_more c.loop-other.invariant c.in_ok-ban.ensures.goes_on);
+  covers = rw c.in-Some.is at c.in_ok-ban.ensures.covers;
+}
 
-pub returns-clause-goes_on : goal.returns-clause-goes_on
-returns-clause-goes_on g c = goes_ok c.loop-other.invariant
+pub returns : goal.returns
+returns g c = record { goes_on = goes_ok c.loop-other.invariant; covers = tt }

@@ -1,11 +1,33 @@
-use Rattle.std.proofs.Common.{◌∷◌, []}
+use Rattle.std.proofs.Common.{refl}
+use Rattle.std.specs.Prelude.{Contains}
+use Rattle.account_core.specs.Ports.{IsKnown}
 use Rattle.fact_bans.proofs.WiderLemmas.{all_wider, three_among}
+use Rattle.match_search.proofs.AskLemmas.{each_of_three}
+use Rattle.match_search.proofs.StepLemmas.{goes_by, goes_ok, gone_none}
 use Rattle.match_search.proofs.exchanged.exclude_three.Goals as goal
 
-pub returns-in-Input-Input-Output-clause-covers : goal.returns-in-Input-Input-Output-clause-covers
-returns-in-Input-Input-Output-clause-covers g c =
-    λ held one other third. all_wider _ (c.args.one ∷ c.args.other ∷ c.args.third ∷ []) held _ (three_among c.args.one c.args.other c.args.third held one other third) c.exclude_swap.ensures.covers
+pub returns-in_default-clause-goes_on : goal.returns-in_default-clause-goes_on
+returns-in_default-clause-goes_on g c = goes_ok (gone_none c.requires.may)
 
-pub returns-in-Output-Input-Input-clause-covers : goal.returns-in-Output-Input-Input-clause-covers
-returns-in-Output-Input-Input-clause-covers g c =
-    λ held one other third. all_wider _ (c.args.other ∷ c.args.third ∷ c.args.one ∷ []) held _ (three_among c.args.other c.args.third c.args.one held other third one) c.exclude_swap-in-Output-Input-Input.ensures.covers
+pub swap_mismatch-requires : goal.swap_mismatch-requires
+swap_mismatch-requires g c =
+    let three = rw c.in-Some.is at c.inputs_and_output.ensures in
+    let known = each_of_three (IsKnown c.args.graphs.now) three c.requires.one_known c.requires.other_known c.requires.third_known in
+    record {
+      may = c.requires.may;
+      pairs = record {
+        one = record { kind_is = three.one_is; known = known.0 };
+        other = record { kind_is = three.other_is; known = known.1 };
+        output = record { kind_is = three.output; known = known.2 };
+      };
+    }
+
+pub returns : goal.returns
+returns g c =
+    let three = rw c.in-Some.is at c.inputs_and_output.ensures in
+    record {
+      goes_on = goes_by c.swap_mismatch.ensures.holds refl;
+      covers = λ held one other third.
+          let within = each_of_three (Contains held) three one other third in
+          all_wider _ _ held _ (three_among _ _ _ held within.0 within.1 within.2) c.swap_mismatch.ensures.covers;
+    }

@@ -1,19 +1,14 @@
 -- Guesses are compared one after the other.
-use Rattle.std.proofs.Common.{◌∙◌, sym, subst, refl}
-use Rattle.net_core.specs.Sides.{Graphs}
-use Rattle.account_core.specs.Facts.{AreFacts}
-use Rattle.match_search.proofs.SearchLemmas.{guessing_start}
+use Rattle.std.proofs.Common.{refl}
+use Rattle.match_search.proofs.CompareLemmas.{asked_none, may_ask_later}
 use Rattle.fact_bans.proofs.ServeLemmas.{served_one, served_then, serves_ok, serves_err}
 use Rattle.match_search.proofs.guessed.compare_guesses.Goals as goal
 
 pub loop-guesses-init : goal.loop-guesses-init
-loop-guesses-init g c = guessing_start c.args.graphs.now (g.O.Oracle.known c.args.oracle.now) c.args.ledger.now c.requires.graphs c.requires.lawful c.requires.suits
+loop-guesses-init g c = asked_none c.requires.may
 
-pub compare_guess-requires-clause-graphs : goal.compare_guess-requires-clause-graphs
-compare_guess-requires-clause-graphs g c = c.requires.graphs ∙ sym c.loop-guesses.invariant.grows.graphs
-
-pub compare_guess-requires-clause-lawful : goal.compare_guess-requires-clause-lawful
-compare_guess-requires-clause-lawful g c = subst (λ (gr : Graphs). AreFacts gr (g.O.Oracle.known c.loop-guesses.oracle).facts) (sym (c.requires.graphs ∙ sym c.loop-guesses.invariant.grows.graphs)) c.loop-guesses.invariant.grows.lawful
+pub compare_guess-requires : goal.compare_guess-requires
+compare_guess-requires g c = record { may = may_ask_later c.requires.may c.loop-guesses.invariant }
 
 pub returns-in_err-table-clause-serves : goal.returns-in_err-table-clause-serves
 returns-in_err-table-clause-serves g c =

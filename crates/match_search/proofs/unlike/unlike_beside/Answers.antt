@@ -1,16 +1,26 @@
-use Rattle.std.proofs.Common.{◌∷◌, [], ap, map}
-use Rattle.circuits.specs.declared.port.PortKind.{PortKind}
+use Rattle.std.proofs.Common.{map}
 use Rattle.account_core.specs.Given.{decided_by}
-use Rattle.conflict_core.specs.Grounded.{in_order}
-use Rattle.match_search.proofs.AskLemmas.{shown_of}
+use Rattle.match_search.proofs.AskLemmas.{both_known, in_order_of, shown_of}
+use Rattle.match_search.proofs.StepLemmas.{goes_asked, goes_ok, gone_none}
 use Rattle.match_search.proofs.unlike.unlike_beside.Goals as goal
 
-pub returns-in-Input-Output-clause-shown : goal.returns-in-Input-Output-clause-shown
-returns-in-Input-Output-clause-shown g c =
-    shown_of c.args.graphs.now (map decided_by (g.O.Oracle.known c.tell_apart.new.oracle).facts) c.args.pair c.args.way (c.args.pair ∷ c.args.way ∷ []) c.tell_apart.result
-    (ap (λ (kind : PortKind). in_order kind c.args.way c.args.pair) c.in-Input-Output.is-1) c.tell_apart.ensures.shown
+pub returns-in_default-clause-goes_on : goal.returns-in_default-clause-goes_on
+returns-in_default-clause-goes_on g c = goes_ok (gone_none c.requires.may)
 
-pub returns-in-Output-Input-clause-shown : goal.returns-in-Output-Input-clause-shown
-returns-in-Output-Input-clause-shown g c =
-    shown_of c.args.graphs.now (map decided_by (g.O.Oracle.known c.tell_apart-in-Output-Input.new.oracle).facts) c.args.pair c.args.way (c.args.way ∷ c.args.pair ∷ []) c.tell_apart-in-Output-Input.result
-    (ap (λ (kind : PortKind). in_order kind c.args.way c.args.pair) c.in-Output-Input.is-1) c.tell_apart-in-Output-Input.ensures.shown
+pub tell_apart-requires : goal.tell_apart-requires
+tell_apart-requires g c =
+    let both = rw c.in-Some.is at c.input_and_output.ensures in
+    let known = both_known both c.requires.known c.requires.way in
+    record {
+      may = record { graphs_are = c.requires.may.graphs_are; suits = c.requires.may.suits };
+      input = record { kind_is = both.input; known = known.0 };
+      output = record { kind_is = both.output; known = known.1 };
+    }
+
+pub returns : goal.returns
+returns g c =
+    let both = rw c.in-Some.is at c.input_and_output.ensures in
+    record {
+      goes_on = goes_asked c.requires.may c.tell_apart.ensures.serves;
+      shown = shown_of c.args.graphs.now (map decided_by (g.O.Oracle.known c.tell_apart.new.oracle).facts) c.args.pair c.args.way _ c.tell_apart.result (in_order_of both) c.tell_apart.ensures.shown;
+    }
