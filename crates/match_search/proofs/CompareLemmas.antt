@@ -62,7 +62,7 @@ logs_more graphs matching count logs after are adds = record {
 abbrev no_log : Log
 no_log = record { lines = [] }
 
--- a whole table whose outputs all agree with their partners is a match
+-- a whole matching whose outputs all agree with their partners is a match
 pub shown_match : (graphs : Graphs) (matching : Matching) (logs : List Log) → IsGraph graphs.first → IsGraph graphs.second → HavePorts graphs.first graphs.second matching.inputs matching.outputs → AreLogs graphs matching logs → IsShownMatch graphs matching logs
 shown_match graphs matching logs first second ports are = record {
   is_match = match_of_refuted graphs matching first second ports refuted;

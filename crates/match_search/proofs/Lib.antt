@@ -1,4 +1,4 @@
-pub mod TableLemmas
+pub mod MatchingLemmas
 pub mod AskLemmas
 pub mod StepLemmas
 pub mod CompareLemmas

@@ -25,7 +25,7 @@ abbrev pub IsComparison : Graphs → Matching → ℕ → List Log → List Log 
 IsComparison graphs matching k before after None = AddsLogs graphs matching k before after
 IsComparison graphs matching k before after (Some vector) = IsDifference graphs matching k vector
 
--- a guessed table is a match, if it is said to be one
+-- a guessed matching is a match, if it is said to be one
 abbrev pub IsGuessed : Graphs → Guessed → Type 0
 IsGuessed graphs (guessed.Match matching logs) = IsShownMatch graphs matching logs
 IsGuessed graphs guessed.Fails = Unit {0}

@@ -162,7 +162,7 @@ IsAhead graphs lent before after (ahead.Match matching logs) =
     IsShownMatch graphs matching logs × AreOutputsDecided graphs (map decided_by lent.known.facts)
 IsAhead graphs lent before after (ahead.Impasse impasse) = IsStuck lent.bans before after impasse
 
--- a whole table is a match, or has all pairs of a ban
+-- a whole matching is a match, or has all pairs of a ban
 abbrev pub IsSettled : Graphs → List Ban → List Pair → Settled → Type 0
 IsSettled graphs bans held (settled.Match matching logs) = IsShownMatch graphs matching logs
 IsSettled graphs bans held (settled.Ban number) = Covers bans held number

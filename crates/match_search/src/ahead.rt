@@ -16,11 +16,11 @@ pub(crate) enum Ahead {
     Impasse(Impasse),
 }
 
-/// What comparing the outputs under a whole table comes to.
+/// What comparing the outputs under a whole matching comes to.
 #[derive(Drop)]
 pub(crate) enum Settled {
-    /// The table is a match.
+    /// The matching is a match.
     Match(Matching, Items<Log>),
-    /// The table has all pairs of this ban.
+    /// The matching has all pairs of this ban.
     Ban(u64),
 }

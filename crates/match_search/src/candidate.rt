@@ -1,4 +1,4 @@
-//! Whole tables, which are compared output by output.
+//! Whole matchings, which are compared output by output.
 
 ghost use Rattle.std.specs.Prelude.{◌≡◌, ◌<◌, [], IfNone, IfOk, IfSome, length};
 ghost use Rattle.oracle_core.specs.Oracles.{Serves, Suits};
@@ -12,7 +12,7 @@ ghost use Rattle.class_refine.specs.Trails.{held_in};
 
 use crate::ahead::Settled;
 use crate::session::Session;
-use crate::table::table;
+use crate::matching::matching_of;
 use bit_list::Bits;
 use class_refine::Domains;
 use cnf_core::{Log, Stop};
@@ -41,7 +41,7 @@ pub(crate) fn compare_whole<O: Oracle>(
     let _second = graphs.second();
     let _lawful = domains.entries();
     let alloc = session.alloc;
-    let matching = table(alloc, graphs, domains.pairs())?;
+    let matching = matching_of(alloc, graphs, domains.pairs())?;
     let mut logs = Items::new(alloc);
     match compare_all(
         alloc,

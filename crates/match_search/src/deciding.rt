@@ -20,10 +20,10 @@ use table_guess::{Effort, Guesser};
 /// Up to how many inputs times outputs counts are looked at, and a short search is made, before all guesses. An adder of 32 bits has
 /// 2,112. Near misses of an encoder of 64 bits and of a subtractor and an incrementer of 32 are refused in a quarter of the time that
 /// way, though one of a unit of 24 bits that adds and subtracts takes twice as long. An adder of 128 bits has 33,024, and asks for
-/// seconds there, though its table is guessed in one.
+/// seconds there, though its matching is guessed in one.
 const FEW_FLIPS: u64 = 2_304;
 
-/// How often a refusal by counts is tried before more tables are guessed: once, since vectors that err there say little, and of
+/// How often a refusal by counts is tried before more matchings are guessed: once, since vectors that err there say little, and of
 /// circuits that match each further try is lost.
 const FEW_TRIES: u32 = 1;
 
@@ -35,8 +35,8 @@ const LITTLE_ROUNDS: u64 = 7;
 /// rounds, gain nothing more.
 const FEW_LINES: u64 = 5_000;
 
-/// Decides whether two circuits with as many ports match. Tables that are guessed are compared first; where none of them is a
-/// match, `search` decides. Of circuits with few claims, tables of little effort come first, then a refusal by counts and a
+/// Decides whether two circuits with as many ports match. Matchings that are guessed are compared first; where none of them is a
+/// match, `search` decides. Of circuits with few claims, matchings of little effort come first, then a refusal by counts and a
 /// short search, which take little there, and then all guesses and the search. All draw by the seed.
 ///
 /// The book's bans are valid in view of the oracle's facts, and each ban by a vector is a last resort, as `search` says,
@@ -83,7 +83,7 @@ pub fn decide<O: Oracle>(
     }
 }
 
-// With how much effort tables are guessed at first: little where there are few claims of one input, so that counts may refuse a
+// With how much effort matchings are guessed at first: little where there are few claims of one input, so that counts may refuse a
 // match before all guesses failed.
 fn first_effort(graphs: &PairableGraphs<'_>) -> Effort {
     let inputs = graphs.ports(PortKind::Input) as u64;

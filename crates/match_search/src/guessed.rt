@@ -1,4 +1,4 @@
-//! The first phase, which leaves no ban: tables that are guessed are compared.
+//! The first phase, which leaves no ban: matchings that are guessed are compared.
 
 ghost use Rattle.std.specs.Prelude.{IfOk, IfSome};
 ghost use Rattle.oracle_core.specs.Oracles.{Serves};
@@ -17,22 +17,22 @@ use std::alloc::Global;
 use table_guess::{Effort, Guesser};
 use watch_core::Stage;
 
-/// How many guessed tables are compared. Each is right on the vectors that showed the ones before it to be wrong, so that it
+/// How many guessed matchings are compared. Each is right on the vectors that showed the ones before it to be wrong, so that it
 /// isn't wrong for what they were; that they are 16 was chosen, and not measured.
 const MOST_GUESSES: u32 = 16;
 
 /// What a guess comes to.
 #[derive(Drop)]
 pub(crate) enum Guessed {
-    /// The table is a match.
+    /// The matching is a match.
     Match(Matching, Items<Log>),
     /// It is no match.
     Fails,
-    /// No table was guessed.
+    /// No matching was guessed.
     Nothing,
 }
 
-/// Compares tables that are guessed with so much effort, a bounded number of them, and answers one that is a match, with its
+/// Compares matchings that are guessed with so much effort, a bounded number of them, and answers one that is a match, with its
 /// logs. None says nothing of whether there is a match.
 pub(crate) fn compare_guesses<O: Oracle>(
     alloc: Global,
@@ -49,7 +49,7 @@ pub(crate) fn compare_guesses<O: Oracle>(
     for guesses in 0..MOST_GUESSES {
         oracle.at(Stage::Guessing { guesses });
         match compare_guess(alloc, graphs, oracle, guesser, effort, ledger)? {
-            Guessed::Match(table, logs) => return Ok(Some((table, logs))),
+            Guessed::Match(matching, logs) => return Ok(Some((matching, logs))),
             Guessed::Fails => {}
             Guessed::Nothing => return Ok(None),
         }
@@ -57,7 +57,7 @@ pub(crate) fn compare_guesses<O: Oracle>(
     Ok(None)
 }
 
-// Compares a table that is guessed. Where it is no match, the vector that shows it is kept, so that the next guess
+// Compares a matching that is guessed. Where it is no match, the vector that shows it is kept, so that the next guess
 // agrees on it.
 fn compare_guess<O: Oracle>(
     alloc: Global,
@@ -73,12 +73,12 @@ fn compare_guess<O: Oracle>(
 {
     let _first = graphs.first();
     let _second = graphs.second();
-    let Some(table) = guesser.guess(alloc, graphs, effort)? else {
+    let Some(matching) = guesser.guess(alloc, graphs, effort)? else {
         return Ok(Guessed::Nothing);
     };
     let mut logs = Items::new(alloc);
-    match compare_all(alloc, graphs, oracle, &table, ledger, &mut logs)? {
-        None => Ok(Guessed::Match(table, logs)),
+    match compare_all(alloc, graphs, oracle, &matching, ledger, &mut logs)? {
+        None => Ok(Guessed::Match(matching, logs)),
         Some(found) => {
             guesser.keep(&found.vector);
             Ok(Guessed::Fails)

@@ -1,4 +1,4 @@
-//! Looks for a match of two circuits: compares tables that are guessed, and then searches by conflicts.
+//! Looks for a match of two circuits: compares matchings that are guessed, and then searches by conflicts.
 #![tactic(auto)]
 
 mod ahead;
@@ -11,9 +11,9 @@ mod exchanged;
 mod following;
 mod found;
 mod guessed;
+mod matching;
 mod searching;
 mod session;
-mod table;
 mod trail;
 mod unlike;
 

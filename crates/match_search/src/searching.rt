@@ -31,7 +31,7 @@ const MOST_TIMES: u64 = 10_000;
 
 /// Looks for a match of two circuits with as many ports, as conflict-driven solvers look for models, unless counts of inputs
 /// refuse one at once. Ports are decided one by one, and what follows of bans and of ports with one way left is held and deleted.
-/// From an impasse a ban is learned that leads as far back as it can, and the outputs of whole tables are compared. Pairs are
+/// From an impasse a ban is learned that leads as far back as it can, and the outputs of whole matchings are compared. Pairs are
 /// tried on vectors; another seed draws other ones. `docs/SEARCH.md` tells how, and why it ends.
 ///
 /// The book's bans are valid in view of the oracle's facts, whatever is answered. A ban by a vector is a last resort: the

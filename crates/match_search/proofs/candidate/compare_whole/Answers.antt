@@ -10,8 +10,8 @@ use Rattle.match_search.proofs.SearchLemmas.{may_ask}
 use Rattle.match_search.proofs.StepLemmas.{goes_asked, may_go_on, same_loans, steps_cut, steps_fail, steps_ok, steps_stop, steps_unkept, way_bans, way_start, way_tried}
 use Rattle.match_search.proofs.candidate.compare_whole.Goals as goal
 
-pub table-requires : goal.table-requires
-table-requires g c =
+pub matching_of-requires : goal.matching_of-requires
+matching_of-requires g c =
     let d = c.args.domains.now in
     record {
       held = subst (AreHeld c.args.graphs.now) (sym c.pairs.ensures.value) (held_known c.args.graphs.now d.inputs d.outputs d.entries c.requires.may.trail.trail.fit c.entries-lawful.ensures.lawful);

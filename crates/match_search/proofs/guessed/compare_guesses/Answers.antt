@@ -10,17 +10,17 @@ loop-guesses-init g c = asked_none c.requires.may
 pub compare_guess-requires : goal.compare_guess-requires
 compare_guess-requires g c = record { may = may_ask_later c.requires.may c.loop-guesses.invariant }
 
-pub returns-in_err-table-clause-serves : goal.returns-in_err-table-clause-serves
-returns-in_err-table-clause-serves g c =
-    serves_err _ _ _ _ _ _ _ c.in_err-table.field-0.0 c.from_residual.ensures.1 c.loop-guesses.invariant c.in_err-table.ensures.serves
+pub returns-in_err-matching-clause-serves : goal.returns-in_err-matching-clause-serves
+returns-in_err-matching-clause-serves g c =
+    serves_err _ _ _ _ _ _ _ c.in_err-matching.field-0.0 c.from_residual.ensures.1 c.loop-guesses.invariant c.in_err-matching.ensures.serves
 
 pub returns-in-Match-clause-serves : goal.returns-in-Match-clause-serves
 returns-in-Match-clause-serves g c =
-    serves_ok _ _ _ _ _ _ refl (served_then _ _ _ _ _ _ c.loop-guesses.invariant (served_one _ _ _ _ _ c.in_ok-table.ensures.serves))
+    serves_ok _ _ _ _ _ _ refl (served_then _ _ _ _ _ _ c.loop-guesses.invariant (served_one _ _ _ _ _ c.in_ok-matching.ensures.serves))
 
 pub returns-in-Nothing-clause-serves : goal.returns-in-Nothing-clause-serves
 returns-in-Nothing-clause-serves g c =
-    serves_ok _ _ _ _ _ _ refl (served_then _ _ _ _ _ _ c.loop-guesses.invariant (served_one _ _ _ _ _ c.in_ok-table.ensures.serves))
+    serves_ok _ _ _ _ _ _ refl (served_then _ _ _ _ _ _ c.loop-guesses.invariant (served_one _ _ _ _ _ c.in_ok-matching.ensures.serves))
 
 pub loop-guesses-preserved : goal.loop-guesses-preserved
-loop-guesses-preserved g c = served_then _ _ _ _ _ _ c.loop-guesses.invariant (served_one _ _ _ _ _ c.in_ok-table.ensures.serves)
+loop-guesses-preserved g c = served_then _ _ _ _ _ _ c.loop-guesses.invariant (served_one _ _ _ _ _ c.in_ok-matching.ensures.serves)

@@ -1,7 +1,0 @@
-use Rattle.port_sides.specs.Held.{IsEntryOf}
-use Rattle.port_covers.proofs.OrderLemmas.{held_more}
-use Rattle.match_search.proofs.table.put_entries.Goals as goal
-
-pub loop-pair-preserved : goal.loop-pair-preserved
-loop-pair-preserved c =
-    held_more c.args.held.now c.loop-pair.pair-index _ (IsEntryOf c.args.kind c.loop-pair.entries) (IsEntryOf c.args.kind c.put_entry.new.entries) c.loop-pair-test.true c.requires.apart c.put_entry.ensures.others c.loop-pair.invariant c.put_entry.ensures.put
