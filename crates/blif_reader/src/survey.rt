@@ -112,16 +112,12 @@ impl<'a> Survey<'a> {
         let Some(row) = words_of_row(first, lines) else {
             return Err(fault_at(at, NetKind::RowWidth));
         };
-        match cover.check_row(&row) {
-            Ok(output) => {
-                self.cover = Some(OpenCover {
-                    operands: cover.operands,
-                    output: Some(output),
-                });
-                Ok(())
-            }
-            Err(kind) => Err(fault_at(at, kind)),
-        }
+        let output = cover.check_row(&row).map_err(|kind| fault_at(at, kind))?;
+        self.cover = Some(OpenCover {
+            operands: cover.operands,
+            output: Some(output),
+        });
+        Ok(())
     }
 
     // Reads a `.names` line.

@@ -42,7 +42,7 @@ const OUT_OF_MEMORY: &[u8] = b"out of memory\n";
 ///   others. At most BUDGET clauses are learned, by default 1,000,000,000; SEED, by default 1, chooses the vectors that
 ///   are simulated.
 /// - `check FIRST SECOND ACCOUNT`: FIRST and SECOND are netlists, and ACCOUNT is a text that claims a matching and
-///   proves, by refutations, that it is a match of the two, or that proves by exclusions that no matching is one. A match
+///   proves, by refutations, that it is a match of the two, or that proves by bans that no matching is one. A match
 ///   that it proves is printed as a port table.
 /// - `info FILE [BUDGET]`: FILE is a netlist. Its supports, unateness and symmetries are decided; at most BUDGET
 ///   clauses are learned for that, by default 1,000,000,000.
