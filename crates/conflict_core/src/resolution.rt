@@ -13,17 +13,17 @@ ghost use Rattle.conflict_core.specs.Justified.{IsTrail};
 ghost use Rattle.conflict_core.specs.declared.learned.LearnedBan.TheVariants as learned;
 ghost use Rattle.conflict_core.specs.Pivots.{IsPivot};
 
-use account_core::port_on;
 use crate::conflict::{Conflict, cover_port};
 use crate::learned::{Back, LearnedBan};
 use crate::mismatch::Mismatches;
 use crate::port::{Port, Resolved};
+use account_core::port_on;
 use ban_book::BanBook;
 use circuits::Pair;
 use class_refine::{Cause, Domains, Entry, Fate};
 use net_core::Side;
-use port_sides::PairableGraphs;
 use port_covers::needed::place_of;
+use port_sides::PairableGraphs;
 use std::alloc::{AllocError, Global};
 
 // What is done about the latest pair of a conflict.

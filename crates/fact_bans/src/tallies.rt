@@ -10,10 +10,10 @@ ghost use Rattle.claim_rows.specs.Listed.{AreLists};
 ghost use Rattle.fact_bans.specs.Carrying.{IsPairOf};
 ghost use Rattle.fact_bans.specs.Serving.{HoldsBans, MayAsk, MayHold};
 
-use account_core::{other_side, port_on};
 use crate::lists::{Wanted, list};
 use crate::plan::Plan;
 use crate::seen::Seen;
+use account_core::{other_side, port_on};
 use ban_book::BanBook;
 use circuits::Pair;
 use claim_rows::{Lists, tally_ban};

@@ -11,8 +11,8 @@ ghost use Rattle.vector_bans.specs.Differences.{Differs};
 ghost use Rattle.class_refine.specs.Trails.{held_in};
 
 use crate::ahead::Settled;
-use crate::session::Session;
 use crate::matching::matching_of;
+use crate::session::Session;
 use bit_list::Bits;
 use class_refine::Domains;
 use cnf_core::{Log, Stop};

@@ -9,9 +9,9 @@ ghost use Rattle.class_refine.specs.Trails.{held_in};
 ghost use Rattle.conflict_core.specs.Grounded.{IsGrounded};
 ghost use Rattle.match_search.specs.States.{Deletes, GoesOn, MayGoOn, MayStep, Steps, lent};
 
-use account_core::port_on;
 use crate::asking::input_and_output;
 use crate::session::Session;
+use account_core::port_on;
 use circuits::{Pair, PortKind};
 use class_refine::{Domains, Reason};
 use cnf_core::Stop;

@@ -3,9 +3,9 @@
 ghost use Rattle.std.specs.Prelude.{◌<◌};
 ghost use Rattle.class_refine.specs.Trails.{ports_of};
 
-use account_core::port_on;
 use crate::reads::Reads;
 use crate::weights::Weights;
+use account_core::port_on;
 use circuits::{Pair, PortKind};
 use class_refine::Domains;
 use conflict_core::Port;
