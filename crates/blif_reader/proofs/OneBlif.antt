@@ -24,7 +24,8 @@ pub one_netlist : (bytes : List ℕ) (a b : Circuit) (i o j p : List (List ℕ))
 one_netlist bytes a b i o j p one other =
     (one.same ∙ sym other.same, one.input_names_are ∙ sym other.input_names_are, one.output_names_are ∙ sym other.output_names_are)
 
-nothing : Piece
+-- stands where a list has no piece
+pub nothing : Piece
 nothing = record { bytes = []; at = 0 }
 
 -- each sort of fault is one at most

@@ -20,6 +20,7 @@ use Rattle.blif_reader.specs.Faults.{has_line, is_faulty, line_fault, AreDeclare
 use Rattle.blif_reader.specs.Covers.{blif_circuit, names_lines}
 use Rattle.blif_reader.specs.Blif.{blif_lines, IsFaultOfLines, IsBlif}
 use Rattle.blif_reader.proofs.FirstLemmas.{NoneIs-push, IsFirst-seam}
+use Rattle.blif_reader.proofs.OneBlif.{nothing}
 
 -- a test finds a first element, or none
 abbrev FirstOrNone : {X : Type 0} → (List X → X → Bool) → List X → Type 0
@@ -41,9 +42,6 @@ first_after found before (x ∷ after) none =
 
 first_or_none : {X : Type 0} (found : List X → X → Bool) (xs : List X) → FirstOrNone found xs
 first_or_none found xs = first_after found [] xs (λ k d below. absurd (omega arith))
-
-nowhere : Piece
-nowhere = record { bytes = []; at = 0 }
 
 some_kind : (found : Option NetKind) → is_some found ≡ true → (kind : NetKind) × (found ≡ Some kind)
 some_kind None h = absurd (cc h)
@@ -72,7 +70,7 @@ module _ (end : ℕ) (lines : List (List Piece)) where
 
   distinct : AreDeclared lines → HasFault ⊎ AreDistinct lines
   distinct declared =
-      let none_port : Port = record { kind = Input; word = nowhere } in
+      let none_port : Port = record { kind = Input; word = nothing } in
       elim (first_or_none repeats_port (port_words lines)) [
         | inr none ↦ inr (record { declared = declared; once = none })
         | inl found ↦ inl (

@@ -12,27 +12,24 @@ use Rattle.claim_core.specs.Claims.{output_bit, with_input}
 use Rattle.claim_core.specs.Formulas.{reaching}
 use Rattle.claim_core.specs.Facts.{InSupport}
 use Rattle.net_supports.specs.Supports.{only_input, output_reaches}
-use Rattle.fact_tests.proofs.StructureLemmas.{length-only_input, only_at}
+use Rattle.fact_tests.proofs.StructureLemmas.{length-only_input, only_at, operand_marked}
 use Rattle.claim_core.proofs.AssignmentLemmas.{gate_agrees}
 
 -- two valuations have the same bit at each signal that only marks inputs of which P is said
 abbrev SameWhere : (ℕ → List Bool) → (ℕ → Type 0) → List Bool → List Bool → Type 0
 SameWhere marks P v w = (s : ℕ) → s < length v → ((i : ℕ) → bit (marks i) s ≡ true → P i) → bit v s ≡ bit w s
 
-abbrev either : List Bool → Gate → Bool
-either marks gate = bit marks (signal_of gate.a) || bit marks (signal_of gate.b)
-
-same_more : (marks : ℕ → List Bool) (P : ℕ → Type 0) (v w : List Bool) (gate : Gate) → ((i : ℕ) → length (marks i) ≡ length v) → length w ≡ length v → first_operand gate < length v → second_operand gate < length v → SameWhere marks P v w → SameWhere (λ i. marks i ++ either (marks i) gate ∷ []) P (v ++ gate_bit v gate ∷ []) (w ++ gate_bit w gate ∷ [])
+same_more : (marks : ℕ → List Bool) (P : ℕ → Type 0) (v w : List Bool) (gate : Gate) → ((i : ℕ) → length (marks i) ≡ length v) → length w ≡ length v → first_operand gate < length v → second_operand gate < length v → SameWhere marks P v w → SameWhere (λ i. marks i ++ operand_marked (marks i) gate ∷ []) P (v ++ gate_bit v gate ∷ []) (w ++ gate_bit w gate ∷ [])
 same_more marks P v w gate counts count a b same s below on =
     elim (cases_lt s (length v)) [
       | inl before ↦
           get_or_append_left v (gate_bit v gate ∷ []) false s before
-          ∙ (same s before (λ i is. on i (get_or_append_left (marks i) (either (marks i) gate ∷ []) false s (omega (arith, before, counts i)) ∙ is))
+          ∙ (same s before (λ i is. on i (get_or_append_left (marks i) (operand_marked (marks i) gate ∷ []) false s (omega (arith, before, counts i)) ∙ is))
           ∙ sym (get_or_append_left w (gate_bit w gate ∷ []) false s (omega (arith, before, count))))
       | inr past ↦
           let here : s ≡ length v = omega (arith, past, below, length_push v (gate_bit v gate)) in
           let here_too : s ≡ length w = omega (arith, here, count) in
-          let marked : (i : ℕ) → either (marks i) gate ≡ true → P i = λ i is. on i (get_or_push (marks i) (either (marks i) gate) false s (counts i ∙ sym here) ∙ is) in
+          let marked : (i : ℕ) → operand_marked (marks i) gate ≡ true → P i = λ i is. on i (get_or_push (marks i) (operand_marked (marks i) gate) false s (counts i ∙ sym here) ∙ is) in
           let one = same (signal_of gate.a) a (λ i is. marked i (or_left (bit (marks i) (signal_of gate.a)) (bit (marks i) (signal_of gate.b)) is)) in
           let other = same (signal_of gate.b) b (λ i is. marked i (or_right (bit (marks i) (signal_of gate.a)) (bit (marks i) (signal_of gate.b)) is)) in
           get_or_push v (gate_bit v gate) false s (sym here) ∙ (gate_agrees v w gate one other ∙ sym (get_or_push w (gate_bit w gate) false s (sym here_too)))
@@ -43,7 +40,7 @@ same_through marks P v w [] counts count a b same = same
 same_through marks P v w (gate ∷ gates) counts count a b same =
     let one : first_operand gate < length v = omega (arith, a 0 gate (omega arith)) in
     let other : second_operand gate < length v = omega (arith, b 0 gate (omega arith)) in
-    same_through (λ i. marks i ++ either (marks i) gate ∷ []) P (v ++ gate_bit v gate ∷ []) (w ++ gate_bit w gate ∷ []) gates (λ i. omega (arith, counts i, length_push (marks i) (either (marks i) gate), length_push v (gate_bit v gate))) (omega (arith, count, length_push w (gate_bit w gate), length_push v (gate_bit v gate))) (ReadsBelow-tail v (gate_bit v gate) first_operand gate gates a) (ReadsBelow-tail v (gate_bit v gate) second_operand gate gates b) (same_more marks P v w gate counts count one other same)
+    same_through (λ i. marks i ++ operand_marked (marks i) gate ∷ []) P (v ++ gate_bit v gate ∷ []) (w ++ gate_bit w gate ∷ []) gates (λ i. omega (arith, counts i, length_push (marks i) (operand_marked (marks i) gate), length_push v (gate_bit v gate))) (omega (arith, count, length_push w (gate_bit w gate), length_push v (gate_bit v gate))) (ReadsBelow-tail v (gate_bit v gate) first_operand gate gates a) (ReadsBelow-tail v (gate_bit v gate) second_operand gate gates b) (same_more marks P v w gate counts count one other same)
 
 same_inputs : (n : ℕ) (x y : List Bool) → length x ≡ n → SameWhere (λ i. false ∷ only_input n i) (λ i. bit x i ≡ bit y i) (false ∷ x) (false ∷ y)
 same_inputs n x y count zero below on = refl

@@ -64,7 +64,7 @@ marked_last : (xs : List Bool) (b : Bool) (s : ℕ) → s ≡ length xs → b �
 marked_last xs b s end is = get_or_push xs b false s (sym end) ∙ is
 
 -- the mark that a gate gets
-abbrev operand_marked : List Bool → Gate → Bool
+abbrev pub operand_marked : List Bool → Gate → Bool
 operand_marked marks gate = bit marks (signal_of gate.a) || bit marks (signal_of gate.b)
 
 operands_covered : (xs ys zs : List Bool) (gate : Gate) → Covered xs ys zs → operand_marked xs gate ≡ true → (operand_marked ys gate ≡ true) ⊎ (operand_marked zs gate ≡ true)
