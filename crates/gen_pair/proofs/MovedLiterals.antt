@@ -74,7 +74,7 @@ alike_inputs p x y entries places moves = record {
             ∙ input_bit (false ∷ y) place (differ neg sign)
             ∙ ap (λ s. differ (bit (false ∷ y) s) (differ neg sign)) after
             ∙ ap (λ b. differ b (differ neg sign)) (moves.bits i (omega (arith, some, few)))
-            ∙ differ_both (bit x i) sign neg
+            ∙ differ_both (bit x i) neg sign
             ∙ sym (ap (λ s. differ (bit (false ∷ x) s) neg) at)
         | inr none ↦
             let constant : signal_of lit ≡ 0 = omega (arith, none) in
