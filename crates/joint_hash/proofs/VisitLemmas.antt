@@ -1,5 +1,5 @@
 -- The numbers of the cones' clauses, one after the other, and what is known once one more was gone over.
-use Rattle.std.proofs.Common.{◌≡◌, ◌↔◌, ◌==◌, ℕ, zero, suc, ◌+◌, ◌%◌, ◌<◌, ◌≤◌, false, List, [], length, nat_lt, All, AllPairs, Contains, slice_index_or, inl, inr, sym, ◌∙◌, ap, subst, arith, lt-ltb, eq-eqb}
+use Rattle.std.proofs.Common.{◌≡◌, ◌↔◌, ◌==◌, ℕ, zero, suc, ◌+◌, ◌%◌, ◌<◌, ◌≤◌, false, List, length, nat_lt, All, AllPairs, Contains, slice_index_or, inl, inr, sym, ◌∙◌, ap, subst, arith, lt-ltb, eq-eqb}
 use Rattle.std.proofs.lemmas.Bool.{and_from, cases_lt, cases_eq, false≢true}
 use Rattle.std.proofs.lemmas.List.{get_or_default}
 use Rattle.cnf_core.specs.declared.literal.SatLit.{SatLit}

@@ -1,5 +1,5 @@
 -- The order in which variables are decided.
-use Rattle.std.proofs.Common.{◌≡◌, ℕ, ◌<◌, ◌≤◌, Bool, List, length, sum_by}
+use Rattle.std.proofs.Common.{ℕ, ◌≤◌, Bool, List, length, sum_by}
 use Rattle.trail_core.specs.Trails.{Trailing}
 use Rattle.learn_solver.specs.declared.order.Order.{Order}
 use Rattle.learn_solver.specs.Orders.{IsOrder}

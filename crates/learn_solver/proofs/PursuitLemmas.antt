@@ -1,5 +1,5 @@
 -- A search that goes on from one part of the question to the next.
-use Rattle.std.proofs.Common.{◌≡◌, ◌<◌, Option, None, Some, Result, IfErr, subst}
+use Rattle.std.proofs.Common.{◌≡◌, Option, None, Some, Result, IfErr, subst}
 use Rattle.std.specs.Result.{IsErrAnd}
 use Rattle.cnf_core.specs.declared.stop.Stop.{Stop}
 use Rattle.cnf_core.specs.Charges.{Charging}

@@ -56,8 +56,7 @@ fn try_held<O: Oracle>(
 ) -> Result<Option<Impasse>, Stop>
     requires may { MayStep graphs.now (lent O.known session.old) domains.now }
     ensures steps { Steps graphs.now (lent O.known session.old) (lent O.known session.new) domains.now result }
-    ensures impasse { IfOk result (λ found. IfSome found
-        (IsImpasse domains.now.inputs domains.now.outputs session.new.book.now domains.now.entries)) }
+    ensures impasse { IfOk result (λ found. IfSome found (IsImpasse session.new.book.now domains.now)) }
 {
     let _lawful = domains.entries();
     let aids = &mut *session.aids;

@@ -1,4 +1,4 @@
-use Rattle.std.proofs.Common.{◌∙◌, List, map, refl, subst, sym}
+use Rattle.std.proofs.Common.{List, map, refl, subst}
 use Rattle.account_core.specs.Given.{decided_by}
 use Rattle.account_core.specs.declared.fact.Fact.{Fact}
 use Rattle.fact_bans.proofs.ServeLemmas.{ask_later, served_one, served_then, serves_err, serves_memory, serves_ok}

@@ -1,4 +1,4 @@
-use Rattle.std.proofs.Common.{◌∙◌, ap, length, map, refl, sym, subst, arith, ℕ}
+use Rattle.std.proofs.Common.{ap, length, map, refl, subst, arith, ℕ}
 use Rattle.circuits.specs.Netlists.{Net}
 use Rattle.account_core.specs.Given.{decided_by}
 use Rattle.fact_bans.proofs.ServeLemmas.{ask_later, served_one, served_then, serves_err, serves_memory, serves_ok}
