@@ -1,9 +1,14 @@
 use crate::compared::{FaultRow, expect_faults, has_names, is_graph};
 use aiger_reader::read;
 use net_core::Lit;
-use net_file::{NetKind, NetStop};
+use net_file::{Named, NetKind, NetStop};
 use std::alloc::Global;
 use std::test::Fail;
+
+// The reader as a function of this crate, since the contract of one that is passed on has to stand here.
+fn read_text(alloc: Global, text: &[u8]) -> Result<Named, NetStop> {
+    read(alloc, text)
+}
 
 // A file, how many inputs it has, its gates, its outputs, and the names of the inputs and of the outputs.
 type File = (
@@ -251,5 +256,5 @@ static FAULTS: [FaultRow; 65] = [
 
 #[test]
 fn finds_the_first_fault(rt: HostRuntime) {
-    expect_faults(&rt, rt.alloc(), &FAULTS, read)
+    expect_faults(&rt, rt.alloc(), &FAULTS, read_text)
 }
