@@ -84,7 +84,6 @@ wants 6 '' match a.aag b.aag other.account
 wants 0 'accepted match' check a.aag b.aag a-b.account
 # a device or a pipe takes an account as it can
 wants 6 '' match a.aag b.aag /dev/full
-wants 0 'npnp 1' match a.aag b.aag /dev/stdout
 wants 4 'usage'
 wants 4 'usage' info c17.blif 18446744073709551616
 wants 6 'read fault' check folder b.aag a-b.account
@@ -96,4 +95,57 @@ cat c17.blif >named_pipe &
 wants 0 'accepted match' check named_pipe c17_moved.aig c17.account
 wants 5 'malformed first 28 0' check /dev/null b.aag a-b.account
 wants 6 'read fault' check /dev/zero b.aag a-b.account
+
+# the file that standard output goes to isn't made anew, whatever name leads to it; a file that the run made isn't either; and a
+# file that would pass the limit on its size is a failed write, and no signal
+wants 6 '' match a.aag b.aag /dev/stdout
+wants 6 '' make 7 /dev/stdout made.blif
+
+ends() { # STATUS FILE BLOCKS WORDS.. ; standard output is added to FILE, and files have at most so many blocks of 1,024 bytes
+  local status=$1 file=$2 blocks=$3
+  shift 3
+  (ulimit -f "$blocks" && exec "$here/../npnp" "$@") >>"$file" 2>/dev/null
+  local ended=$?
+  if [ "$ended" = "$status" ]; then
+    echo "ok: npnp $* >>$file: status $ended"
+  else
+    echo "WRONG: npnp $* >>$file: status $ended; wanted status $status"
+    failed=1
+  fi
+}
+
+is_same() { # ONE OTHER
+  if cmp -s "$1" "$2"; then
+    echo "ok: $1 has what $2 has"
+  else
+    echo "WRONG: $1 hasn't what $2 has"
+    failed=1
+  fi
+}
+
+echo kept >output
+cp output kept
+ln -s output output_link
+ln output output_other
+for name in /dev/stdout output ./output output_link output_other; do
+  ends 6 output unlimited match a.aag b.aag "$name"
+done
+ends 6 output unlimited make 7 output made.blif
+is_same output kept
+ends 0 /dev/null unlimited match a.aag b.aag /dev/null
+wants 0 'made 64 32 2000' make 7 whole.aig whole.blif
+ln -s one.aig one_link
+: >two.aig
+ln two.aig two_other
+wants 6 '' make 7 one.aig one_link
+wants 6 '' make 7 two.aig two_other
+wants 6 '' make 7 three.aig ./three.aig
+for name in one two three; do
+  is_same "$name.aig" whole.aig
+done
+ends 6 report 1 match alu4.aig alu4_lost.aig large.account
+ends 0 report 1 match a.aag b.aag small.account
+: >empty
+ends 6 no_report 0 info c17.blif
+is_same no_report empty
 exit "$failed"

@@ -6,6 +6,8 @@ mod bits;
 #[cfg(test)]
 mod failing_shelves;
 #[cfg(test)]
+mod file_faults;
+#[cfg(test)]
 mod lists;
 #[cfg(test)]
 mod marks;

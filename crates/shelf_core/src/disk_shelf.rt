@@ -2,13 +2,15 @@ ghost use Rattle.std.specs.Prelude.{◌≡◌, ◌+◌, ◌≤◌, ◌<◌, leng
 ghost use Rattle.shelf_core.specs.State.{Closed, Writing};
 ghost use Rattle.shelf_core.specs.Disk.{IsOpenToRead, disk_mode};
 
-use crate::outside::{Shelf, ShelfStop, counted};
+use crate::file_error::{Faults, FileError, FileFault, FileStop};
+use crate::file_id::{FileId, output_file};
+use crate::file_limit::file_size_limit;
+use crate::outside::{Shelf, ShelfStop};
 use crate::stream::{Stream, read_next};
 use std::alloc::{Alloc, Allocator};
-use std::fs::{File, Metadata, OpenFile, OpenOptions};
+use std::fs::{File, OpenFile, OpenOptions};
 use std::io::{ErrorKind, Read, Write};
 use std::mem;
-use std::os::unix::fs::MetadataExt;
 use std::rt::{Files, Runtime};
 
 /// The most bytes that are taken from a pipe or a device: 1 GiB.
@@ -16,16 +18,19 @@ const STREAM_BOUND: usize = 1 << 30;
 
 /// The machine's files, by their paths. It does not tell what they hold. What is neither a file nor a directory, as a pipe
 /// or a device, is read to its end when it is opened, since its length isn't known before; past 1 GiB that is a fault.
-/// A directory opens, and fails at its first read. A file that was read isn't written, by whatever name: to create it is a
-/// fault, and leaves it as it is. A file that was written is closed once the device holds it. Each error of the machine is
-/// a fault, but that a path to be read leads to nothing.
+/// A directory opens, and fails at its first read. A regular file that was read or made isn't made anew, nor is the file
+/// that standard output goes to, whatever names lead to them: to create one is a fault, and leaves it as it is. A file that
+/// would grow past the limit that the system sets to the size of a file is a fault. A file that was written is closed once
+/// the device holds it. Each error of the machine is a fault, but that a path to be read leads to nothing.
 #[derive(Drop)]
 pub struct DiskShelf<R: Runtime> {
     rt: R,
     opened: Opened<R::File, R::A>,
-    /// The files that were read.
-    read: Vec<FileId, R::A>,
-    faults: u64,
+    /// The regular files that were read or made.
+    used: Vec<FileId, R::A>,
+    /// The name that the last `open` or `create` was given.
+    name: String<R::A>,
+    faults: Faults,
 }
 
 /// The file that is open, if any.
@@ -33,8 +38,16 @@ enum Opened<F, A: Allocator> {
     No,
     Reading { file: F, left: u64 },
     Held(Stream<A>),
-    /// A file, which is regular, or a pipe or a device, which needn't be synced.
-    Writing { file: F, regular: bool },
+    Writing { file: F, room: Room },
+}
+
+/// How much a file that is written may take.
+#[derive(Clone, Copy, Debug)]
+enum Room {
+    /// A regular file takes so many bytes more, by the limit on its size.
+    Left(u64),
+    /// A pipe or a device takes what it can, and needn't be synced.
+    Unbounded,
 }
 
 // By hand, and so one call wherever a value ends: a derived drop is expanded there, field by field, and makes proofs long.
@@ -49,17 +62,10 @@ impl<F: Drop, A: Allocator> Drop for Opened<F, A> {
             Opened::Held(_stream) => {}
             Opened::Writing {
                 file: _file,
-                regular: _regular,
+                room: _room,
             } => {}
         }
     }
-}
-
-/// What a regular file is told by, whatever names lead to it: its device, and its number there.
-#[derive(Clone, Copy, Debug, PartialEq, Eq)]
-struct FileId {
-    device: u64,
-    inode: u64,
 }
 
 impl<R: Runtime> DiskShelf<R> {
@@ -68,13 +74,22 @@ impl<R: Runtime> DiskShelf<R> {
         ensures closed { (⟦<DiskShelf<R> as Shelf>⟧.state result).mode ≡ Closed }
         ensures faults { (⟦<DiskShelf<R> as Shelf>⟧.state result).faults ≡ 0 }
     {
-        let read = Vec::new(rt.alloc());
+        let used = Vec::new(rt.alloc());
+        let name = String::new(rt.alloc());
         DiskShelf {
             rt,
             opened: Opened::No,
-            read,
-            faults: 0,
+            used,
+            name,
+            faults: Faults::none(),
         }
+    }
+
+    /// The last call that failed, with the name that the last `open` or `create` was given; `None` where none failed.
+    pub fn last_error(&self) -> Option<FileError<'_>> {
+        let fault = self.faults.last?;
+        let name = self.name.as_str();
+        Some(FileError { name, fault })
     }
 }
 
@@ -83,11 +98,12 @@ impl<R: Runtime> Shelf for DiskShelf<R> {
 
     ghost tells = { false };
 
-    ghost state = { λ shelf. disk_state shelf.opened shelf.faults };
+    ghost state = { λ shelf. disk_state shelf.opened shelf.faults.count };
 
     fn open(&mut self, name: &str) -> Result<Option<u64>, ShelfStop> {
-        let found = open_to_read(&self.rt, name, &mut self.read);
-        let Some((opened, left)) = counted(found, &mut self.faults)? else {
+        self.name = String::from_str(self.rt.alloc(), name)?;
+        let found = open_to_read(&self.rt, name, &mut self.used);
+        let Some((opened, left)) = self.faults.note(found)? else {
             return Ok(None);
         };
         self.opened = opened;
@@ -100,36 +116,37 @@ impl<R: Runtime> Shelf for DiskShelf<R> {
             Opened::Held(stream) => Ok(stream.read(buf)),
             _ => unreachable!(),
         };
-        counted(answer, &mut self.faults)
+        self.faults.note(answer)
     }
 
     fn create(&mut self, name: &str) -> Result<(), ShelfStop> {
-        let opened = open_to_write(&self.rt, name, &self.read);
-        self.opened = counted(opened, &mut self.faults)?;
+        self.name = String::from_str(self.rt.alloc(), name)?;
+        let opened = open_to_write(&self.rt, name, &mut self.used);
+        self.opened = self.faults.note(opened)?;
         Ok(())
     }
 
     fn append(&mut self, piece: &[u8]) -> Result<(), ShelfStop> {
-        let Opened::Writing { file, .. } = &mut self.opened else {
+        let Opened::Writing { file, room } = &mut self.opened else {
             unreachable!()
         };
-        let answer = file.write_all(piece).map_err(ShelfStop::from);
-        counted(answer, &mut self.faults)
+        let answer = append_within(file, room, piece);
+        self.faults.note(answer)
     }
 
     fn close(&mut self) -> Result<(), ShelfStop> {
         let file = mem::replace(&mut self.opened, Opened::No);
-        counted(sync_written(&file), &mut self.faults)
+        self.faults.note(sync_written(&file))
     }
 }
 
 /// The file of a path, open for reading, with the number of its bytes; `None` where the path leads to nothing. A regular
-/// file is noted as one that is read.
+/// file is noted as one that is used.
 fn open_to_read<R: Files + Alloc>(
     rt: &R,
     name: &str,
-    read: &mut Vec<FileId, R::A>,
-) -> Result<Option<(Opened<R::File, R::A>, u64)>, ShelfStop>
+    used: &mut Vec<FileId, R::A>,
+) -> Result<Option<(Opened<R::File, R::A>, u64)>, FileStop>
     ensures { IfOk result (λ found. IfSome found (λ sized. IsOpenToRead sized.0 sized.1)) }
 {
     let mut file = match File::open(rt, name) {
@@ -143,55 +160,76 @@ fn open_to_read<R: Files + Alloc>(
         return Ok(Some((Opened::Held(stream), left)));
     }
     if metadata.is_file() {
-        read.push(file_id(&metadata))?;
+        used.push(FileId::of(&metadata))?;
     }
     // a directory has no bytes: it is to fail at its first read, also where its length is 0
     let left = metadata.len().max(u64::from(metadata.is_dir()));
     Ok(Some((Opened::Reading { file, left }, left)))
 }
 
-/// The file of a path, empty and open for writing; it is made where the path leads to nothing. A regular file that was read
-/// is an error, and is left as it is: so it is opened with its bytes, and emptied once it is known not to be one of those.
+/// The file of a path, empty and open for writing; it is made where the path leads to nothing. A regular file that is used
+/// already is an error, and so is the file of standard output; either is left as it is. So the file is opened with its
+/// bytes, and emptied once it is known to be none of those.
 fn open_to_write<R: Files + Alloc>(
     rt: &R,
     name: &str,
-    read: &[FileId],
-) -> Result<Opened<R::File, R::A>, ShelfStop>
+    used: &mut Vec<FileId, R::A>,
+) -> Result<Opened<R::File, R::A>, FileStop>
     ensures { IfOk result (λ opened. disk_mode opened ≡ Writing) }
 {
+    // where standard output is closed, the file that is opened next may take its number
+    let output = output_file(rt);
     let file = OpenOptions::new().write(true).create(true).open(rt, name)?;
     let metadata = file.metadata()?;
-    let regular = metadata.is_file();
-    if regular {
-        // a run reads two netlists, so that a scan is good enough
-        if read.contains(&file_id(&metadata)) {
-            return Err(ShelfStop::Failed);
-        }
-        file.set_len(0)?;
+    let id = FileId::of(&metadata);
+    if output == Some(id) {
+        return Err(FileStop::Failed(FileFault::Output));
     }
-    Ok(Opened::Writing { file, regular })
+    if !metadata.is_file() {
+        let room = Room::Unbounded;
+        return Ok(Opened::Writing { file, room });
+    }
+    note_once(id, used)?;
+    file.set_len(0)?;
+    let room = Room::Left(file_size_limit(rt));
+    Ok(Opened::Writing { file, room })
 }
 
-fn file_id(metadata: &Metadata) -> FileId {
-    FileId {
-        device: metadata.dev(),
-        inode: metadata.ino(),
+/// Notes a file as one that is used; that it is so already is an error.
+fn note_once<A: Allocator>(id: FileId, used: &mut Vec<FileId, A>) -> Result<(), FileStop> {
+    // a run uses four files at most, so that a scan is good enough
+    if used.contains(&id) {
+        return Err(FileStop::Failed(FileFault::Used));
     }
+    used.push(id)?;
+    Ok(())
+}
+
+/// Writes a piece at the end of a file, where there is room for it.
+fn append_within<F: Write>(file: &mut F, room: &mut Room, piece: &[u8]) -> Result<(), FileStop> {
+    if let Room::Left(left) = room {
+        let len = piece.len() as u64;
+        if len > *left {
+            return Err(FileStop::Failed(FileFault::SizeLimit));
+        }
+        *left -= len;
+    }
+    file.write_all(piece).map_err(FileStop::from)
 }
 
 /// Waits until the device holds what was written to a regular file, so that a write which fails late is an error.
-fn sync_written<F: OpenFile, A: Allocator>(opened: &Opened<F, A>) -> Result<(), ShelfStop> {
+fn sync_written<F: OpenFile, A: Allocator>(opened: &Opened<F, A>) -> Result<(), FileStop> {
     match opened {
         Opened::Writing {
             file,
-            regular: true,
-        } => file.sync_all().map_err(ShelfStop::from),
+            room: Room::Left(_),
+        } => file.sync_all().map_err(FileStop::from),
         _ => Ok(()),
     }
 }
 
 /// Reads at most `left` bytes, and at least one if there is any and room for it. A file that ends before is an error.
-fn read_some<F: Read>(file: &mut F, buf: &mut [u8], left: &mut u64) -> Result<usize, ShelfStop>
+fn read_some<F: Read>(file: &mut F, buf: &mut [u8], left: &mut u64) -> Result<usize, FileStop>
     ensures within { IfOk result (λ count. count ≤ length buf.old) }
     ensures left { IfOk result (λ count. count + left.new ≡ left.old) }
     ensures some { IfOk result (λ count. 0 < left.old → 0 < length buf.old → 0 < count) }
@@ -203,7 +241,7 @@ fn read_some<F: Read>(file: &mut F, buf: &mut [u8], left: &mut u64) -> Result<us
     }
     let count = read_next(file, &mut buf[..room])?;
     if count == 0 {
-        return Err(ShelfStop::Failed);
+        return Err(FileStop::Failed(FileFault::Shorter));
     }
     *left -= count as u64;
     Ok(count)

@@ -4,6 +4,9 @@
 mod copy;
 mod disk_shelf;
 mod failing;
+mod file_error;
+mod file_id;
+mod file_limit;
 mod mem_shelf;
 mod mem_sink;
 mod outside;
@@ -14,6 +17,8 @@ mod stored_file;
 mod stream;
 
 pub use disk_shelf::DiskShelf;
+pub use file_error::{FileError, FileFault, FileStop};
+pub use file_limit::size_in;
 pub use mem_shelf::MemShelf;
 pub use mem_sink::MemSink;
 pub use outside::{Shelf, ShelfStop, Sink};

@@ -6,7 +6,6 @@ ghost use Rattle.shelf_core.specs.Puts.{Puts};
 ghost use Rattle.shelf_core.specs.declared.outside.ShelfStop.TheVariants.{Failed, Memory};
 
 use std::alloc::{AllocError, AllocFailed};
-use std::io;
 use thiserror::Error;
 use watch_core::Watch;
 
@@ -19,18 +18,6 @@ pub enum ShelfStop {
     /// There was no memory for the call.
     #[error("out of memory")]
     Memory,
-}
-
-/// The answer of the outside, which counts a fault where it failed.
-pub(crate) fn counted<T>(answer: Result<T, ShelfStop>, faults: &mut u64) -> Result<T, ShelfStop>
-    ensures same { result ≡ answer }
-    ensures kept { faults.old ≤ faults.new }
-    ensures failed { result ≡ Err ShelfStop.Failed → Rose faults.old faults.new }
-{
-    if let Err(ShelfStop::Failed) = &answer {
-        *faults = faults.saturating_add(1);
-    }
-    answer
 }
 
 /// A place for files, each a name and its bytes, of which at most one is open at a time. `ShelfStop::Memory` may come
@@ -101,13 +88,5 @@ impl<T: Drop> From<AllocFailed<T>> for ShelfStop {
 
     fn from(_refused: AllocFailed<T>) -> ShelfStop {
         ShelfStop::Memory
-    }
-}
-
-impl From<io::Error> for ShelfStop {
-    ghost from_gives = { λ _ stop. stop ≡ Failed };
-
-    fn from(_error: io::Error) -> ShelfStop {
-        ShelfStop::Failed
     }
 }

@@ -1,17 +1,25 @@
 ghost use Rattle.std.specs.Prelude.{◌≡◌, [], false};
 
-use crate::outside::{ShelfStop, Sink, counted};
-use std::io;
+use crate::file_error::{Faults, FileError, FileFault, FileStop};
+use crate::file_id::OUTPUT;
+use crate::file_limit::file_size_limit;
+use crate::outside::{ShelfStop, Sink};
+use std::alloc::Alloc;
 use std::io::Write;
-use std::rt::Runtime;
+use std::rt::{Files, Runtime};
+use std::{fs, io};
 use watch_core::{Silent, Stage, Watch};
 
-/// The machine's standard output. It does not tell what was written. What the run is at goes to its watcher.
+/// What a failure of the standard output names.
+const NAME: &str = "standard output";
+
+/// The machine's standard output. It does not tell what was written. A piece that would take a regular file past the limit
+/// that the system sets to its size is a fault. What the run is at goes to its watcher.
 #[derive(Drop)]
 pub struct StdSink<R: Runtime, W: Watch = Silent> {
     rt: R,
     watch: W,
-    faults: u64,
+    faults: Faults,
 }
 
 impl<R: Runtime> StdSink<R> {
@@ -31,8 +39,14 @@ impl<R: Runtime, W: Watch> StdSink<R, W> {
         StdSink {
             rt,
             watch,
-            faults: 0,
+            faults: Faults::none(),
         }
+    }
+
+    /// The last call that failed; `None` where none did.
+    pub fn last_error(&self) -> Option<FileError<'_>> {
+        let fault = self.faults.last?;
+        Some(FileError { name: NAME, fault })
     }
 }
 
@@ -45,16 +59,28 @@ impl<R: Runtime, W: Watch> Watch for StdSink<R, W> {
 impl<R: Runtime, W: Watch> Sink for StdSink<R, W> {
     ghost tells = { false };
 
-    ghost state = { λ sink. record { written = []; faults = sink.faults } };
+    ghost state = { λ sink. record { written = []; faults = sink.faults.count } };
 
     fn put(&mut self, piece: &[u8]) -> Result<(), ShelfStop> {
-        counted(print_all(&self.rt, piece), &mut self.faults)
+        self.faults.note(print_all(&self.rt, piece))
     }
 }
 
 /// Writes all of a piece to the standard output, and leaves nothing of it in a buffer.
-fn print_all<R: Runtime>(rt: &R, piece: &[u8]) -> Result<(), ShelfStop> {
+fn print_all<R: Runtime>(rt: &R, piece: &[u8]) -> Result<(), FileStop> {
+    if piece.len() as u64 > room_for_output(rt) {
+        return Err(FileStop::Failed(FileFault::SizeLimit));
+    }
     let mut output = io::writer(rt);
     output.write_all(piece)?;
-    output.flush().map_err(ShelfStop::from)
+    output.flush().map_err(FileStop::from)
+}
+
+/// How many bytes standard output may take: what goes to a regular file stands at its end, and the limit on the size of a
+/// file leaves room for so many.
+fn room_for_output<R: Files + Alloc>(rt: &R) -> u64 {
+    match fs::metadata(rt, OUTPUT) {
+        Ok(metadata) if metadata.is_file() => file_size_limit(rt).saturating_sub(metadata.len()),
+        _ => u64::MAX,
+    }
 }

@@ -1,7 +1,7 @@
 ghost use Rattle.std.specs.Prelude.{◌≡◌, ◌+◌, ◌<◌, ◌≤◌, length, IfOk, vec_len};
 
 use crate::copy::copy_some;
-use crate::outside::ShelfStop;
+use crate::file_error::{FileFault, FileStop};
 use std::alloc::Allocator;
 use std::io;
 use std::io::{ErrorKind, Read};
@@ -29,7 +29,7 @@ impl<A: Allocator> Model for Stream<A> {
 
 impl<A: Allocator> Stream<A> {
     /// Reads a stream to its end. One that goes on past `bound` bytes is a failure.
-    pub fn read_from<F: Read>(alloc: A, file: &mut F, bound: usize) -> Result<Stream<A>, ShelfStop>
+    pub fn read_from<F: Read>(alloc: A, file: &mut F, bound: usize) -> Result<Stream<A>, FileStop>
         ensures { IfOk result (λ stream. stream ≤ bound) }
     {
         let mut bytes = Vec::new(alloc);
@@ -40,11 +40,11 @@ impl<A: Allocator> Stream<A> {
                 return Ok(Stream { bytes, at: 0 });
             }
             if count > bound.saturating_sub(bytes.len()) {
-                return Err(ShelfStop::Failed);
+                return Err(FileStop::Failed(FileFault::TooLong));
             }
             bytes.extend_from_slice(&piece[..count])?;
         }
-        Err(ShelfStop::Failed)
+        Err(FileStop::Failed(FileFault::TooLong))
     }
 
     /// How many bytes are unread.
