@@ -1,0 +1,52 @@
+# Functions that the scripts here share. Checksums of the sources and of programs: nothing here goes by times. The script that reads
+# this has set `top`, the folder of the repository.
+
+released=$top/release/npnp-x86_64-linux
+built=$top/release/out/npnp_cli
+
+# lists what the checksum is of: HANDLES, crates.txt and each file below crates/, but for the folders `out` and `must-fail` right in
+# a crate's folder. Names end with a zero byte. Status 1, and a line, where a link, a pipe or the like stands among them
+list_sources() {
+  find HANDLES crates.txt crates -type d -regex 'crates/[^/]*/\(out\|must-fail\)' -prune -o -type d -o -type f -print0 \
+    -o -fprintf /dev/stderr 'release: %p is no plain file\n' -exec false {} +
+}
+
+# prints the checksum of the sources in a folder: of their names, sizes and bytes, which `tar` prints in one stream
+sum_sources() (
+  set -o pipefail
+  cd -- "$1" && list_sources | LC_ALL=C sort -z | TAR_OPTIONS='' tar --create --file=- --format=ustar --blocking-factor=128 \
+    --owner=0 --group=0 --numeric-owner --mode=644 --mtime=@0 --hard-dereference --no-recursion --null --verbatim-files-from \
+    --files-from=- | sum_bytes
+)
+
+# prints the checksum of its standard input
+sum_bytes() {
+  local line
+  line=$(b2sum --length=256) && printf '%s\n' "${line%% *}"
+}
+
+# says why a program isn't the one that the files SOURCES and PROGRAM of its folder say, of the sources that lie here, if it isn't
+check_program() { # PROGRAM SUM-OF-SOURCES
+  local folder=${1%/*} sources='' program=''
+  { read -r sources <"$folder/SOURCES" && read -r program <"$folder/PROGRAM"; } 2>/dev/null
+  if [ ! -f "$1" ] || [ -z "$program" ]; then
+    echo "there is no program in $folder"
+  elif [ "$sources" != "$2" ]; then
+    echo "the program in $folder is of other sources than those that lie here"
+  elif [ "$program" != "$(sum_bytes <"$1")" ]; then
+    echo "the program in $folder is not the one that was put there"
+  fi
+}
+
+# puts a program where it belongs, with its checksum, that of its sources, and the kit that built it
+put_program() { # FROM TO SUM-OF-SOURCES KIT
+  local folder=${2%/*} program
+  program=$(sum_bytes <"$1") && install -m 755 -- "$1" "$2.new" && mv -- "$2.new" "$2" && printf '%s\n' "$program" >"$folder/PROGRAM" &&
+    printf '%s\n' "$3" >"$folder/SOURCES" && printf '%s\n' "$4" >"$folder/KIT"
+}
+
+# whether this machine runs a program: given no words it ends with status 4
+runs_here() {
+  "$1" >/dev/null 2>&1 </dev/null
+  [ $? -eq 4 ]
+}
