@@ -202,6 +202,9 @@ link_as_source() {
   mv "$tree/crates/items" "$tree/items" && ln -s ../items "$tree/crates/items"
   ends 'a link to a crate' 1 "$tree/release/check"
   copy_tree
+  mv "$tree/crates" "$tree/sources" && ln -s sources "$tree/crates"
+  ends 'a link to all crates' 1 "$tree/release/check"
+  copy_tree
   mkfifo "$tree/crates/items/src/pipe.rt"
   ends 'a pipe' 1 "$tree/release/check"
 }

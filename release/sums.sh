@@ -4,19 +4,36 @@
 released=$top/release/npnp-x86_64-linux
 built=$top/release/out/npnp_cli
 
-# lists what the checksum is of: HANDLES, crates.txt and each file below crates/, but for the folders `out` and `must-fail` right in
-# a crate's folder. Names end with a zero byte. Status 1, and a line, where a link, a pipe or the like stands among them
-list_sources() {
-  find HANDLES crates.txt crates -type d -regex 'crates/[^/]*/\(out\|must-fail\)' -prune -o -type d -o -type f -print0 \
+# lists the files at and below some paths, but for the folders `out` and `must-fail` right in a crate's folder. Names end with a zero
+# byte. Status 1, and a line, where a link, a pipe or the like stands among them
+list_files() { # PATH ..
+  find "$@" -type d -regex 'crates/[^/]*/\(out\|must-fail\)' -prune -o -type d -o -type f -print0 \
     -o -fprintf /dev/stderr 'release: %p is no plain file\n' -exec false {} +
 }
 
-# prints the checksum of the sources in a folder: of their names, sizes and bytes, which `tar` prints in one stream
-sum_sources() (
-  set -o pipefail
-  cd -- "$1" && list_sources | LC_ALL=C sort -z | TAR_OPTIONS='' tar --create --file=- --format=ustar --blocking-factor=128 \
+# lists, in the folder of a repository, what its checksum is of
+list_sources() {
+  list_files HANDLES crates.txt crates
+}
+
+# prints the checksum of the names, sizes and bytes of such files, which `tar` prints in one stream
+sum_files() { # PATH ..
+  list_files "$@" | LC_ALL=C sort -z | TAR_OPTIONS='' tar --create --file=- --format=ustar --blocking-factor=128 \
     --owner=0 --group=0 --numeric-owner --mode=644 --mtime=@0 --hard-dereference --no-recursion --null --verbatim-files-from \
     --files-from=- | sum_bytes
+}
+
+# prints the checksum of the sources in a folder: HANDLES, crates.txt and all below crates/ as listed above. It has two halves, which are
+# summed up side by side, since most of the time goes by in opening files
+sum_sources() ( # FOLDER
+  set -o pipefail
+  shopt -s dotglob nullglob
+  LC_ALL=C
+  cd -- "$1" || exit
+  [ ! -L crates ] || { echo 'release: crates is no plain folder' >&2 && exit 1; }
+  exec 3< <(sum_files crates.txt crates/[!a-m]*)
+  later=$!
+  first=$(sum_files HANDLES crates/[a-m]*) && read -r second <&3 && wait "$later" && printf '%s %s\n' "$first" "$second"
 )
 
 # prints the checksum of its standard input
