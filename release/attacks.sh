@@ -118,6 +118,13 @@ RATTLE
   rm -f "$tree/release/npnp-x86_64-linux"
 }
 
+gate_release() {
+  copy_small
+  ends 'without an attack the gate makes a release' 0 "$tree/release/make" --gate
+  ends 'it is what the gate built' 0 "$tree/release/compare"
+  ends 'it runs' 4 runs info "$tree/absent"
+}
+
 without_attack() {
   copy_tree
   ends 'without an attack the release passes' 0 "$tree/release/check"
@@ -217,6 +224,7 @@ altered_build() {
   ends 'what was proved here runs where there is no release' 5 runs info "$tree/absent"
   change_kept_time "$tree/release/out/npnp_cli" write_foreign "$tree/release/out/npnp_cli"
   ends 'another program in release/out is not run' 70 runs info "$tree/absent"
+  ends 'nor a release made of it' 1 "$tree/release/make"
 }
 
 altered_before_proof() {
@@ -263,6 +271,7 @@ source_below_out
 link_as_source
 altered_build
 if [ "${1-}" != --quick ]; then
+  gate_release
   altered_before_proof
   abort
   changed_while_proving

@@ -28,7 +28,7 @@ sum_files() { # PATH ..
 sum_sources() ( # FOLDER
   set -o pipefail
   shopt -s dotglob nullglob
-  LC_ALL=C
+  export LC_ALL=C
   cd -- "$1" || exit
   [ ! -L crates ] || { echo 'release: crates is no plain folder' >&2 && exit 1; }
   exec 3< <(sum_files crates.txt crates/[!a-m]*)
