@@ -14,9 +14,9 @@ if [ $# -eq 0 ]; then
   "$top/bench/make_info_circuits.sh" "$work"
   set -- "$work"/*.aig "$work"/*.blif
 fi
-"$top/npnp" --help >/dev/null
+npnp=$("$top/bench/program.sh")
 failed=0
 for file in "$@"; do
-  python3 "$top/bench/info_beside_abc.py" "$top/npnp" "$file" || failed=1
+  python3 "$top/bench/info_beside_abc.py" "$npnp" "$file" || failed=1
 done
 exit "$failed"

@@ -8,7 +8,7 @@ set -eu
 top=$(cd "$(dirname "${BASH_SOURCE[0]}")/.." && pwd)
 work=$(mktemp -d)
 trap 'rm -rf "$work"' EXIT
-"$top/npnp" --help >/dev/null
+npnp=$("$top/bench/program.sh")
 
 # writes a netlist of 100 inputs and n outputs
 chains() {
@@ -43,7 +43,7 @@ PYTHON
 }
 
 # prints processor seconds and kilobytes at most of `info`
-measure() { /usr/bin/time -f '%U %M' "$top/npnp" info "$1" 2>&1 >"$work/report" | tail -1; }
+measure() { /usr/bin/time -f '%U %M' "$npnp" info "$1" 2>&1 >"$work/report" | tail -1; }
 
 echo "outputs    claims   seconds     MiB   bytes for each claim more"
 before_claims=0 before=0

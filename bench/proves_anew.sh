@@ -1,8 +1,8 @@
 #!/usr/bin/env bash
 # Prints what four changes prove anew: the crates above the one that is changed, and their processor minutes, by crates.txt
-# and by a table of minutes. A row of the table is a crate's name and its minutes of proofs, tests and must-fail edits, or of
-# proofs alone; they are added up. The table is that in the documents of a commit, by default of the files that lie here, the
-# last one where there are several. Each change names the crate that it is made in.
+# and by a table of minutes, as bench/gate_times.sh prints it: a row is a crate's name and its minutes of proofs, tests and
+# must-fail edits, which are added up. The table is docs/gate.txt of a commit, by default of the files that lie here; of a
+# commit that hasn't got it, the last one in its documents. Each change names the crate that it is made in.
 #
 #   bench/proves_anew.sh [--minutes FILE] [--proofs] [COMMIT]
 #
@@ -42,7 +42,7 @@ def last_table(text, crates):
             if not in_table:
                 table, in_table = {}, True
             minutes = [float(it) for it in row[2].split()]
-            table[row[1]] = minutes[0] if words.proofs else sum(minutes)
+            table[row[1]] = minutes[0] if words.proofs else sum(minutes[:3])
         else:
             in_table = False
     return table
@@ -54,7 +54,7 @@ for line in read("crates.txt").splitlines():
     if ":" in line:
         name, deps = line.split(":")
         below[name.split()[0]] = deps.split()
-documents = pathlib.Path(words.minutes).read_text() if words.minutes else read("docs/MEASURED.md") or read("docs/MAP.md")
+documents = pathlib.Path(words.minutes).read_text() if words.minutes else read("docs/gate.txt") or read("docs/MEASURED.md") or read("docs/MAP.md")
 minutes = last_table(documents, below)
 
 

@@ -24,10 +24,10 @@ put("long_lines", ports + ".default_input_arrival " + "x" * 30_000_000 + "\n#" +
 put("goes_on", ".model large\n.inputs a" + " \\\n" * 1_000_000 + " b\n.outputs y\n.names a b y\n11 1\n.end\n")
 put("empty_lines", ports + "\n" * 1_000_000 + ".names a b y\n11 1\n.end\n")
 PYTHON
-"$top/npnp" >/dev/null || true
+npnp=$("$top/bench/program.sh")
 for file in names rows long_lines goes_on empty_lines; do
   printf '%s, %d bytes: ' "$file" "$(stat -c %s "$work/$file.blif")"
-  python3 "$top/bench/measure.py" "$top/npnp" check "$work/$file.blif" "$work/absent" "$work/absent"
+  python3 "$top/bench/measure.py" "$npnp" check "$work/$file.blif" "$work/absent" "$work/absent"
   if command -v berkeley-abc >/dev/null; then
     printf '  ABC: '
     timeout 60 python3 "$top/bench/measure.py" berkeley-abc -c "read_blif $work/$file.blif; print_stats" || echo 'not in 60 s'

@@ -39,10 +39,10 @@ with open(f"{work}/binary.aig", "wb") as file:
     for l, a, b in rows:
         file.write(delta(l - a) + delta(a - b))
 PYTHON
-"$top/npnp" >/dev/null || true
+npnp=$("$top/bench/program.sh")
 for file in in_order.aag reverse.aag cycle.aag binary.aig; do
   printf '%s, %d bytes: ' "$file" "$(stat -c %s "$work/$file")"
-  python3 "$top/bench/measure.py" "$top/npnp" check "$work/$file" "$work/absent" "$work/absent"
+  python3 "$top/bench/measure.py" "$npnp" check "$work/$file" "$work/absent" "$work/absent"
 done
 if command -v berkeley-abc >/dev/null; then
   printf 'ABC, binary.aig: '

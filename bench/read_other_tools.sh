@@ -6,6 +6,7 @@
 # status 1 where something differs. Not part of the gate.
 set -eu
 top=$(cd "$(dirname "${BASH_SOURCE[0]}")/.." && pwd)
+npnp=$("$top/bench/program.sh")
 work=$(mktemp -d)
 trap 'rm -rf "$work"' EXIT
 cd "$work"
@@ -57,7 +58,7 @@ for row in 'c17 5 2' 'adder 12 7' 'mixed 4 3'; do
   for first in "${files[@]}"; do
     for second in "${files[@]}"; do
       python3 "$top/bench/account_of.py" "$first" "$second" account >/dev/null
-      printed=$("$top/npnp" check "$first" "$second" account) || true
+      printed=$("$npnp" check "$first" "$second" account) || true
       lines=$(wc -l <<<"$printed")
       if [ "${printed%%$'\n'*}" != 'accepted match' ] || [ "$lines" != $((1 + inputs + outputs)) ]; then
         echo "WRONG: $first against $second: $printed"
@@ -66,7 +67,7 @@ for row in 'c17 5 2' 'adder 12 7' 'mixed 4 3'; do
     done
     ports=$(tr ' ' '\n' <<<"$(sed -n 's/^\.inputs //p; s/^\.outputs //p' "$circuit.blif")" | tr '\n' ' ')
     python3 "$top/bench/account_of.py" "$first" "$first" account >/dev/null
-    printed=$("$top/npnp" check "$first" "$first" account) || true
+    printed=$("$npnp" check "$first" "$first" account) || true
     names=$(sed -n 's/^\(input\|output\) [0-9]* \(.*\) = .*/\2/p' <<<"$printed" | tr '\n' ' ')
     case $first in
       *named*) [ "$names" = "$ports" ] || { echo "WRONG: $first: the names $names"; failed=1; } ;;

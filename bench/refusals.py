@@ -1,13 +1,12 @@
 """Accounts of refusals for small netlists drawn by a seed, and the same accounts with one word changed, through the built program.
 
-    refusals.py PAIRS [SEED]
+    refusals.py PROGRAM PAIRS [SEED]
 
 For each pair without a match the account of refusal_of.py has to be accepted. For each pair, also one that has matches, the
 account with one word changed has to be refused, or to be still right: what is left of it is read again here, and each ban
-of it is held against all matchings. Prints how many there were of each. Needs the program (./npnp builds it).
+of it is held against all matchings. Prints how many there were of each.
 """
 import itertools
-import os
 import random
 import re
 import subprocess
@@ -15,8 +14,6 @@ import sys
 import tempfile
 
 from refusal_of import Circuit, refusal_of
-
-PROGRAM = os.path.join(os.path.dirname(os.path.abspath(__file__)), "..", "crates", "npnp", "out", "npnp")
 
 
 def drawn(draws, inputs, outputs):
@@ -59,8 +56,8 @@ def all_matches(first, second):
                 yield {f"i{i}{'+-'[signs[i]]}{places[i]}" for i in range(n)} | {f"o{k}{'+-'[flip]}{j}" for k, (j, flip) in enumerate(out)}
 
 
-def answer(*files):
-    ran = subprocess.run([PROGRAM, "check", *files], capture_output=True, text=True, timeout=60)
+def answer(program, *files):
+    ran = subprocess.run([program, "check", *files], capture_output=True, text=True, timeout=60)
     return ran.stdout.split("\n")[0]
 
 
@@ -85,7 +82,7 @@ def changed(draws, lines):
     return lines
 
 
-def main(pairs, seed=1):
+def main(program, pairs, seed=1):
     draws, counts = random.Random(seed), dict.fromkeys(("refusals accepted", "lines", "with a match", "changed and refused", "changed and still right"), 0)
     with tempfile.TemporaryDirectory() as folder:
         one, other, account = (f"{folder}/{it}" for it in ("one.aag", "other.aag", "account"))
@@ -97,7 +94,7 @@ def main(pairs, seed=1):
             written(other, inputs, *(moved(draws, inputs, gates, outs) if has_match else drawn(draws, inputs, outputs)))
             lines, _ = refusal_of(one, other, draws.randrange(1 << 30))
             matches = list(all_matches(Circuit(one), Circuit(other)))
-            told = lambda text: (open(account, "w").write("".join(line + "\n" for line in text)), answer(one, other, account))[1]
+            told = lambda text: (open(account, "w").write("".join(line + "\n" for line in text)), answer(program, one, other, account))[1]
             if matches:
                 counts["with a match"] += 1
                 assert told(lines) == f"rejected line {len(lines) + 1} truncated", (told(lines), lines)
@@ -123,4 +120,4 @@ def main(pairs, seed=1):
 
 
 if __name__ == "__main__":
-    main(*map(int, sys.argv[1:]))
+    main(sys.argv[1], *map(int, sys.argv[2:]))

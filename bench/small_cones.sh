@@ -11,7 +11,7 @@ work=$(mktemp -d)
 trap 'rm -rf "$work"' EXIT
 outputs=250
 questions=$((10 * outputs))
-"$top/npnp" --help >/dev/null
+npnp=$("$top/bench/program.sh")
 program=$("$top/bench/build_workbench.sh")
 
 # writes such a netlist with n gates that no output reaches
@@ -48,7 +48,7 @@ PYTHON
 echo "  gates  seconds   milliseconds a question"
 for beside in 0 10000 20000 50000 100000; do
   blocks "$beside" >"$work/blocks.aag"
-  seconds=$(/usr/bin/time -f '%U' "$top/npnp" info "$work/blocks.aag" 2>&1 >"$work/report" | tail -1)
+  seconds=$(/usr/bin/time -f '%U' "$npnp" info "$work/blocks.aag" 2>&1 >"$work/report" | tail -1)
   awk -v g="$((10 * outputs + beside))" -v s="$seconds" -v q="$questions" 'BEGIN { printf "%7d %8.2f   %.3f\n", g, s, 1000 * s / q }'
 done
 echo "  gates  seconds of 10,000 questions: user, system"

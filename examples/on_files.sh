@@ -1,8 +1,13 @@
 #!/usr/bin/env bash
-# Runs `./npnp` on files of the machine, and compares its status and its first line with what is wanted. Ends
-# with status 1 where one differs. Not part of the gate, which runs the same program on files in memory.
+# Runs the program on files of the machine, and compares its status, its first line and what it explains on standard error with what
+# is wanted. Words: the program, by default that of bench/program.sh. Ends with status 1 where one differs. Not part of the gate, which
+# runs the same program on files in memory.
 set -u
+unset NPNP_EXPLAIN NPNP_PROGRESS
 here=$(cd "$(dirname "${BASH_SOURCE[0]}")" && pwd)
+npnp=${1-$("$here/../bench/program.sh")}
+npnp=$(readlink -f -- "$npnp")
+. "$here/multiplier.sh"
 work=$(mktemp -d)
 trap 'rm -rf "$work"' EXIT
 cp "$here"/*.aag "$here"/*.aig "$here"/*.blif "$here"/*.account "$work"
@@ -20,17 +25,41 @@ mkdir folder
 printf 'aig 3 2 0 2 1\n6\n2\n\2\2' >a.aig
 failed=0
 
-wants() { # STATUS FIRST-LINE WORDS..
-  local status=$1 line=$2 printed
-  shift 2
-  printed=$("$here/../npnp" "$@" 2>/dev/null)
-  local ended=$?
-  if [ "$ended" = "$status" ] && [ "${printed%%$'\n'*}" = "$line" ]; then
-    echo "ok: npnp $*: $line, status $ended"
+# says that something is as it is wanted, or isn't
+tell() { # WHETHER WHAT WANTED SEEN
+  if [ "$1" -eq 0 ]; then
+    echo "ok: $2: $3"
   else
-    echo "WRONG: npnp $*: '$printed', status $ended; wanted '$line', status $status"
+    echo "WRONG: $2: '$4'; wanted '$3'"
     failed=1
   fi
+}
+
+# the status and the first line of what is printed
+wants() { # STATUS FIRST-LINE WORDS..
+  local wanted="$2, status $1" printed status
+  printed=$("$npnp" "${@:3}" 2>/dev/null)
+  status=$?
+  printed="${printed%%$'\n'*}, status $status"
+  [ "$printed" = "$wanted" ]
+  tell $? "npnp ${*:3}" "$wanted" "$printed"
+}
+
+# a text that is in what is explained on standard error; the report is the same as without
+explains() { # TEXT WORDS..
+  local report
+  report=$("$npnp" "${@:2}" 2>/dev/null)
+  NPNP_EXPLAIN=1 "$npnp" "${@:2}" 2>explained >explained.report
+  [[ $(<explained) == *"$1"* ]]
+  tell $? "npnp ${*:2} explains" "$1" "$(<explained)"
+  [ "$report" = "$(<explained.report)" ] || tell 1 "npnp ${*:2} with NPNP_EXPLAIN=1" "$report" "$(<explained.report)"
+}
+
+# nothing is explained where nobody asks
+silent() { # WORDS..
+  "$npnp" "$@" 2>explained >/dev/null
+  [ ! -s explained ]
+  tell $? "npnp $* on a standard error that is no terminal" '' "$(<explained)"
 }
 
 wants 0 'accepted match' check a.aag b.aag a-b.account
@@ -95,6 +124,98 @@ cat c17.blif >named_pipe &
 wants 0 'accepted match' check named_pipe c17_moved.aig c17.account
 wants 5 'malformed first 28 0' check /dev/null b.aag a-b.account
 wants 6 'read fault' check /dev/zero b.aag a-b.account
+
+# what the program says of itself
+wants 0 'npnp match FIRST SECOND ACCOUNT [BUDGET [SEED]]' --help
+wants 0 'npnp match FIRST SECOND ACCOUNT [BUDGET [SEED]]' -h
+wants 0 "npnp 0.4.0 ($(cat "$here/../release/KIT"))" --version
+
+# names that begin with `-` are names
+cp and.blif ./-and.blif
+cp xor.blif ./--help.blif
+wants 0 'inputs 2' info -and.blif
+wants 1 'no matching' match -and.blif --help.blif -made.account
+wants 1 'accepted refusal' check -and.blif --help.blif -made.account
+
+# on standard error a malformed netlist is explained with its line, and what to do about it
+printf '.model m\n.inputs a b\n.outputs y\n.names a b y\n111 1\n.end\n' >-row.blif
+explains '-row.blif:5:1: ' info -row.blif
+explains '111 1' info -row.blif
+silent info -row.blif
+printf '.model m\n.inputs a\n.outputs y\n.gate inv a=a y=y\n.end\n' >gate.blif
+explains 'gate.blif:4:1: ' info gate.blif
+explains 'unmap' info gate.blif
+printf '.model m\n.inputs a\n.outputs y\n.subckt n a=a y=y\n.end\n.model n\n.inputs a\n.outputs y\n.names a y\n1 1\n.end\n' >subckt.blif
+explains 'flatten' info subckt.blif
+sed 4s/.*/'.names a y\n1 1'/ subckt.blif >models.blif
+explains 'flatten' info models.blif
+printf '.model m\n.inputs a\n.outputs y\n.latch a y 0\n.end\n' >latch.blif
+explains 'cut it at the registers' info latch.blif
+printf 'aag 2 1 1 1 0\n2\n4 2\n4\n' >latch.aag
+explains 'cut it at the registers' info latch.aag
+printf '// a comment\nmodule m(input a, output y);\nassign y = a;\nendmodule\n' >module.v
+explains 'Verilog' info module.v
+printf 'library (cells) {\n}\n' >cells.lib
+explains 'Liberty' info cells.lib
+gzip -nc and.blif >and.blif.gz
+explains 'gzip' info and.blif.gz
+{ printf '\xef\xbb\xbf'; cat and.blif; } >mark.blif
+explains 'byte order mark' info mark.blif
+: >empty.blif
+explains 'empty' match and.blif empty.blif made.account
+# so are a rejected account, a file that isn't there or can't be read, and words of no form
+explains 'order.account:4: ' check and.blif or.blif order.account
+explains 'absent.aag: ' check a.aag absent.aag a-b.account
+explains 'folder: ' check a.aag folder a-b.account
+explains 'made.account' match a.aag b.aag made.account 1 2 made.account
+explains 'frobnicate' frobnicate a.aag
+# `no matching` is followed by one line of why: the port counts, or a port that has no partner
+explains 'output' match and.blif xor.blif made.account
+tell $(($(wc -l <explained) != 1)) 'why there is no matching is one line' 1 "$(wc -l <explained)"
+explains 'inputs' match and.blif c17.blif made.account
+silent match and.blif xor.blif made.account
+# names are printed without control characters
+cp ./-row.blif $'a\x1b[2Jb.blif'
+explains '2Jb.blif:5:1: ' info $'a\x1b[2Jb.blif'
+! grep -q $'\x1b' explained
+tell $? 'a name with a control character' '' "$(cat -v explained)"
+
+# a folder that isn't there is said at once, before the search, and the answer's status is that of a failed write
+wants 6 '' match a.aag b.aag absent/made.account
+explains 'absent' match a.aag b.aag absent/made.account
+multiplier 10 0 1 2 3 4 5 6 7 8 9 >up.blif
+multiplier 10 9 8 7 6 5 4 3 2 1 0 >down.blif
+NPNP_EXPLAIN=1 "$npnp" match up.blif down.blif absent/made.account 2>explained >/dev/null &
+sleep 1
+[[ $(<explained) == *absent* ]]
+tell $? "a folder that isn't there is said within a second" absent "$(<explained)"
+# TERM ends the program, and leaves none under the script
+kill %% && wait %% 2>/dev/null
+status=$?
+tell $((status != 143)) 'a run that TERM ends' 143 "$status"
+"$here/../npnp" match up.blif down.blif killed.account >/dev/null 2>&1 &
+started=$!
+sleep 1
+became=$(readlink "/proc/$started/exe")
+[[ $became == */release/* ]]
+tell $? 'the script became the program' release "$became"
+kill "$started" && wait "$started" 2>/dev/null
+[ ! -e "/proc/$started" ] && [ ! -s killed.account ]
+tell $? 'a script that TERM ends leaves no program' '' "$started"
+
+# a standard output that is closed or full is a failed write, also where a report is explained
+for explain in 0 1; do
+  NPNP_EXPLAIN=$explain "$npnp" info c17.blif >&- 2>/dev/null
+  status=$?
+  tell $((status != 6)) "a closed standard output, NPNP_EXPLAIN=$explain" 6 "$status"
+  NPNP_EXPLAIN=$explain "$npnp" info c17.blif >/dev/full 2>/dev/null
+  status=$?
+  tell $((status != 6)) "a full standard output, NPNP_EXPLAIN=$explain" 6 "$status"
+done
+# no temporary folder is needed
+TMPDIR=/nonexistent NPNP_EXPLAIN=1 "$here/../npnp" info c17.blif >/dev/null 2>&1
+status=$?
+tell $((status != 0)) 'the script without a temporary folder' 0 "$status"
 
 # the file that standard output goes to isn't made anew, whatever name leads to it; a file that the run made isn't either; and a
 # file that would pass the limit on its size is a failed write, and no signal

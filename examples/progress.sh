@@ -1,11 +1,12 @@
 #!/usr/bin/env bash
 # Shows what a long run says of what it is at: nothing where that isn't asked for, and about a line a second on standard error
-# where it is; the report is the same. Words: the program, by default the script `npnp`. Ends with status 1 where something
-# isn't as it is said. Not part of the gate, since it takes some seconds.
+# where it is, or where standard error is a terminal; the report is the same. Words: the program, by default that of bench/program.sh.
+# Ends with status 1 where something isn't as it is said. Not part of the gate, since it takes some seconds.
 set -u
-unset NPNP_PROGRESS
+unset NPNP_PROGRESS NPNP_EXPLAIN
 here=$(cd "$(dirname "${BASH_SOURCE[0]}")" && pwd)
-npnp=${1-$here/../npnp}
+npnp=${1-$("$here/../bench/program.sh")}
+. "$here/multiplier.sh"
 work=$(mktemp -d)
 trap 'rm -rf "$work"' EXIT
 failed=0
@@ -19,33 +20,6 @@ holds() { # WHAT COMMAND ..: whether the command ends with status 0
     echo "WRONG: $what"
     failed=1
   fi
-}
-
-multiplier() { # BITS ROW ..: a BLIF netlist of the product of two words, whose rows are added in this order
-  local bits=$1 row place x carry next=0
-  shift
-  local -a sum=()
-  echo ".model product"
-  echo ".inputs $(for ((i = 0; i < bits; i++)); do echo -n "a$i b$i "; done)"
-  echo ".outputs $(for ((i = 0; i < 2 * bits; i++)); do echo -n "y$i "; done)"
-  echo ".names zero"
-  for ((place = 0; place < 2 * bits; place++)); do sum[place]=zero; done
-  for row in "$@"; do
-    carry=zero
-    for ((place = row; place < 2 * bits; place++)); do
-      x=zero
-      if ((place < row + bits)); then
-        x=p$row.$place
-        printf '.names a%d b%d %s\n11 1\n' $((place - row)) "$row" "$x"
-      fi
-      next=$((next + 1))
-      printf '.names %s %s %s s%d\n100 1\n010 1\n001 1\n111 1\n' "$x" "${sum[place]}" "$carry" "$next"
-      printf '.names %s %s %s c%d\n11- 1\n1-1 1\n-11 1\n' "$x" "${sum[place]}" "$carry" "$next"
-      sum[place]=s$next carry=c$next
-    done
-  done
-  for ((place = 0; place < 2 * bits; place++)); do printf '.names %s y%d\n1 1\n' "${sum[place]}" "$place"; done
-  echo .end
 }
 
 # the rows of the two are added in opposite orders, so that few of their gates are equal, and the proof is long
@@ -62,4 +36,15 @@ holds 'the account is the same' cmp "$work/told.account" "$work/account"
 holds 'nothing is said where nobody asks' [ ! -s "$work/nothing" ]
 NPNP_PROGRESS=1 "$npnp" info "$here/full_adder.blif" >"$work/short" 2>"$work/nothing"
 holds 'a short run says nothing' [ ! -s "$work/nothing" ]
+if command -v script >/dev/null; then
+  # standard error is a terminal there, and standard output a file
+  on_terminal() { # VARIABLE=VALUE
+    script -qec "$1 '$npnp' match '$work/up.blif' '$work/down.blif' '$work/account' >'$work/told'" /dev/null >"$work/lines" </dev/null
+  }
+  on_terminal ''
+  holds 'on a terminal a long run says so by itself' grep -q '^npnp: [0-9]* s: ' "$work/lines"
+  holds 'the report is the same there' cmp "$work/told" "$work/untold"
+  on_terminal NPNP_PROGRESS=0
+  holds 'unless it is forbidden' [ "$(grep -c '^npnp: ' "$work/lines")" -eq 0 ]
+fi
 exit "$failed"
