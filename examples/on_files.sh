@@ -113,7 +113,6 @@ wants 6 '' match a.aag b.aag other.account
 wants 0 'accepted match' check a.aag b.aag a-b.account
 # a device or a pipe takes an account as it can
 wants 6 '' match a.aag b.aag /dev/full
-wants 0 'npnp 1' match a.aag b.aag /dev/stdout
 wants 4 'usage'
 wants 4 'usage' info c17.blif 18446744073709551616
 wants 6 'read fault' check folder b.aag a-b.account
@@ -217,4 +216,50 @@ done
 TMPDIR=/nonexistent NPNP_EXPLAIN=1 "$here/../npnp" info c17.blif >/dev/null 2>&1
 status=$?
 tell $((status != 0)) 'the script without a temporary folder' 0 "$status"
+
+# the file that standard output goes to isn't made anew, whatever name leads to it; a file that the run made isn't either; and a
+# file that would pass the limit on its size is a failed write, and no signal
+wants 6 '' match a.aag b.aag /dev/stdout
+wants 6 '' make 7 /dev/stdout made.blif
+
+# the status of a run whose standard output is added to a file, and whose files have at most so many blocks of 1,024 bytes
+ends() { # STATUS FILE BLOCKS WORDS..
+  local ended
+  (ulimit -f "$3" && exec "$npnp" "${@:4}") >>"$2" 2>/dev/null
+  ended=$?
+  [ "$ended" = "$1" ]
+  tell $? "npnp ${*:4} >>$2" "status $1" "status $ended"
+}
+
+# whether two files have the same bytes
+is_same() { # ONE OTHER
+  cmp -s "$1" "$2"
+  tell $? "$1 has what $2 has" same different
+}
+
+echo kept >output
+cp output kept
+ln -s output output_link
+ln output output_other
+for name in /dev/stdout output ./output output_link output_other; do
+  ends 6 output unlimited match a.aag b.aag "$name"
+done
+ends 6 output unlimited make 7 output made.blif
+is_same output kept
+ends 0 /dev/null unlimited match a.aag b.aag /dev/null
+wants 0 'made 64 32 2000' make 7 whole.aig whole.blif
+ln -s one.aig one_link
+: >two.aig
+ln two.aig two_other
+wants 6 '' make 7 one.aig one_link
+wants 6 '' make 7 two.aig two_other
+wants 6 '' make 7 three.aig ./three.aig
+for name in one two three; do
+  is_same "$name.aig" whole.aig
+done
+ends 6 report 1 match alu4.aig alu4_lost.aig large.account
+ends 0 report 1 match a.aag b.aag small.account
+: >empty
+ends 6 no_report 0 info c17.blif
+is_same no_report empty
 exit "$failed"
