@@ -222,26 +222,19 @@ tell $((status != 0)) 'the script without a temporary folder' 0 "$status"
 wants 6 '' match a.aag b.aag /dev/stdout
 wants 6 '' make 7 /dev/stdout made.blif
 
-ends() { # STATUS FILE BLOCKS WORDS.. ; standard output is added to FILE, and files have at most so many blocks of 1,024 bytes
-  local status=$1 file=$2 blocks=$3
-  shift 3
-  (ulimit -f "$blocks" && exec "$here/../npnp" "$@") >>"$file" 2>/dev/null
-  local ended=$?
-  if [ "$ended" = "$status" ]; then
-    echo "ok: npnp $* >>$file: status $ended"
-  else
-    echo "WRONG: npnp $* >>$file: status $ended; wanted status $status"
-    failed=1
-  fi
+# the status of a run whose standard output is added to a file, and whose files have at most so many blocks of 1,024 bytes
+ends() { # STATUS FILE BLOCKS WORDS..
+  local ended
+  (ulimit -f "$3" && exec "$npnp" "${@:4}") >>"$2" 2>/dev/null
+  ended=$?
+  [ "$ended" = "$1" ]
+  tell $? "npnp ${*:4} >>$2" "status $1" "status $ended"
 }
 
+# whether two files have the same bytes
 is_same() { # ONE OTHER
-  if cmp -s "$1" "$2"; then
-    echo "ok: $1 has what $2 has"
-  else
-    echo "WRONG: $1 hasn't what $2 has"
-    failed=1
-  fi
+  cmp -s "$1" "$2"
+  tell $? "$1 has what $2 has" same different
 }
 
 echo kept >output
