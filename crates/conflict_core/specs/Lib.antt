@@ -3,6 +3,7 @@ pub mod Resolutions
 pub mod Conflicts
 pub mod Justified
 pub mod Grounded
+pub mod Deletions
 pub mod Pivots
 pub use Rattle.class_refine.specs.Trails
 pub use Rattle.port_sides.specs.Held

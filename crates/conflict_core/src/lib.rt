@@ -2,6 +2,7 @@
 #![tactic(auto)]
 
 mod conflict;
+mod deletion;
 mod gather;
 mod learned;
 mod mismatch;
@@ -10,6 +11,7 @@ mod refer;
 mod resolution;
 
 pub use conflict::{Conflict, conflict_of_ban, cover_block, cover_port};
+pub use deletion::{Deletion, deletion_of};
 pub use learned::{Back, LearnedBan};
 pub use mismatch::Mismatches;
 pub use port::{Port, Resolved};

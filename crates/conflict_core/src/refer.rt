@@ -9,12 +9,13 @@ ghost use Rattle.conflict_core.specs.Grounded.{LearnsMore};
 ghost use Rattle.conflict_core.specs.Named.{AreAllGathered, IsGathered, IsLeftOutOr, IsNamedIn};
 ghost use Rattle.conflict_core.specs.Resolutions.{LeadsIntoBan, left_out};
 
+use crate::deletion::{Deletion, deletion_by};
 use crate::gather::is_impossible;
-use crate::mismatch::{Mismatches, hold_mismatch};
+use crate::mismatch::Mismatches;
 use crate::port::Resolved;
 use ban_book::BanBook;
 use circuits::Pair;
-use class_refine::{Domains, Reason};
+use class_refine::Domains;
 use items::Items;
 use port_sides::PairableGraphs;
 use std::alloc::{AllocError, Global};
@@ -111,14 +112,12 @@ fn ban_of_deleted(
     ensures covers { IfOk result (Covers book.new (way ∷ conflict.now)) }
 {
     let _lawful = domains.entries();
-    let _ = graphs;
     let _ = conflict;
-    match domains.reason(way) {
-        Some(Reason::Ban(number)) => Ok(number),
-        Some(Reason::Mismatch { with, fails, holds }) => {
-            hold_mismatch(alloc, way, with, fails, holds, made, book)
-        }
-        Some(Reason::Clash(_)) => unreachable!(),
-        None => unreachable!(),
+    let Some(reason) = domains.reason(way) else {
+        unreachable!()
+    };
+    match deletion_by(alloc, graphs, domains, way, reason, made, book)? {
+        Deletion::Ban(number) => Ok(number),
+        Deletion::Clash(_) => unreachable!(),
     }
 }

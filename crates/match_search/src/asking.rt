@@ -8,12 +8,12 @@ ghost use Rattle.match_search.specs.States.{GoesOn, MayGoOn, MayStep, Steps, len
 
 use crate::session::Session;
 use circuits::{Pair, PortKind};
-use class_refine::Domains;
 use cnf_core::Stop;
 use conflict_core::Port;
 use fact_bans::{mismatch, tally};
 use net_core::Side;
 use oracle_core::Oracle;
+use pair_refine::Domains;
 use pair_search::way_of;
 use port_sides::PairableGraphs;
 

@@ -1,5 +1,5 @@
 -- Where all pairs are settled, and no port is without a way.
-use Rattle.std.proofs.Common.{ℕ, ◌<◌, List, ◌∷◌, get_or, sym, subst, inl, inr}
+use Rattle.std.proofs.Common.{ℕ, ◌<◌, List, get_or, sym, subst, inl, inr}
 use Rattle.ban_book.specs.Covering.{Covers}
 use Rattle.conflict_core.specs.declared.conflict.Conflict.{Conflict}
 use Rattle.conflict_core.specs.Conflicts.{IsConflict}
@@ -14,32 +14,18 @@ use Rattle.conflict_core.proofs.PivotLemmas.{held_known}
 use Rattle.pair_refine.specs.declared.grounds.Grounds.{Grounds}
 use Rattle.pair_refine.specs.Refining.{Refines}
 use Rattle.pair_refine.specs.Rows.{decided}
-use Rattle.pair_refine.specs.Settling.{HasLeft, MaySettle, Settled}
-use Rattle.pair_refine.specs.Stable.{AreClean, HasRemaining, HaveNoBan, IsStable, Remains}
+use Rattle.pair_refine.specs.Settling.{IsClear, MaySettle, Settled}
+use Rattle.pair_refine.specs.Stable.{AreClean, HasLeft, HaveNoBan, IsStable, Remains}
 use Rattle.pair_refine.proofs.NothingLemmas.{nothing_held}
 use Rattle.pair_refine.proofs.RowsLemmas.{all_decided}
 use Rattle.pair_refine.proofs.TrailLemmas.{pair_of_same}
 
 module _ (g : Grounds) (bans more : List Ban) (before after : Domained) (may : MaySettle g bans before) (lawful : AreDomains before) (refines : Refines g.graphs.now (decided g) bans more before after) (settled : Settled g bans more before after (λ pair. IsPairOf before.inputs before.outputs pair)) (left : (side : Side) (kind : PortKind) (port : ℕ) → port < ports_of after.inputs after.outputs kind → HasLeft after side kind port) where
-  remaining_of : (side : Side) (kind : PortKind) (port : ℕ) → HasLeft after side kind port → HasRemaining after side kind port
-  remaining_of side kind port has = record {
-    pair = has.pair;
-    of_port = has.of_port;
-    remains = record {
-      known = has.known;
-      left = has.left;
-      possible = λ impossible. elim (settled.settled has.pair (pair_of_same before after has.pair refines.deletes has.known)) [
-        | inl gone ↦ has.left gone
-        | inr clear ↦ clear.possible impossible
-      ];
-    };
-  }
-
-  clean_beside : (pair : Pair) → Remains after pair → AreClean g.graphs.now (decided g) more (pair ∷ held_in after.entries)
-  clean_beside pair remains =
+  clear_of : (pair : Pair) → Remains after pair → IsClear g more (held_in after.entries) pair
+  clear_of pair remains =
       elim (settled.settled pair (pair_of_same before after pair refines.deletes remains.known)) [
         | inl gone ↦ absurd (remains.left gone)
-        | inr clear ↦ clear.clean
+        | inr clear ↦ clear
       ]
 
   held : AreHeld g.graphs.now (held_in before.entries)
@@ -53,8 +39,9 @@ module _ (g : Grounds) (bans more : List Ban) (before after : Domained) (may : M
       no_facts = nothing_held g.graphs.now (decided g) (held_in before.entries) g.inputs.now held may.inputs_are may.no_facts;
       no_swap = may.no_swap;
     });
-    beside = clean_beside;
-    ports = λ side kind port below. remaining_of side kind port (left side kind port below);
+    possible = λ pair remains. (clear_of pair remains).possible;
+    beside = λ pair remains. (clear_of pair remains).clean;
+    ports = left;
   }
 
 -- the ban of a conflict of held pairs is within them

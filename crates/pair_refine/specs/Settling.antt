@@ -1,15 +1,12 @@
 -- Pairs that are settled one after the other: each is deleted, or nothing excludes it beside the held ones.
 use Rattle.std.specs.Prelude.{◌⊎◌, ℕ, List, ◌∷◌, Option, Result, IfNone, IfOk, IfSome}
 use Rattle.circuits.specs.declared.port.Pair.{Pair}
-use Rattle.circuits.specs.declared.port.PortKind.{PortKind}
-use Rattle.net_core.specs.declared.graphs.Side.{Side}
 use Rattle.account_core.specs.Covers.{IsImpossible}
 use Rattle.account_core.specs.declared.step.Ban.{Ban}
 use Rattle.ban_book.specs.Covering.{Covers}
 use Rattle.claim_rows.specs.Shown.{IsShownBan}
-use Rattle.port_sides.specs.Held.{IsOf}
 use Rattle.class_refine.specs.declared.entry.Fate.TheVariants.{Deleted}
-use Rattle.class_refine.specs.Trails.{Domained, IsDeleted, IsPairOf, held_in}
+use Rattle.class_refine.specs.Trails.{Domained, IsDeleted, held_in}
 use Rattle.conflict_core.specs.Grounded.{IsGrounded}
 use Rattle.conflict_core.specs.Justified.{IsTrail}
 use Rattle.conflict_core.specs.Named.{AreNamed}
@@ -56,10 +53,3 @@ pub record Settles {E : Type 0} (grounds : Grounds) (bans more : List Ban) (befo
   pub refines : Refines grounds.graphs.now (decided grounds) bans more before after
   pub settled : IfOk result (λ dead. IfNone dead (Settled grounds bans more before after these))
   pub dead : IfOk result (λ dead. IfSome dead (Covers more (held_in after.entries)))
-
--- A port has a pair that isn't deleted.
-pub record HasLeft (domains : Domained) (side : Side) (kind : PortKind) (port : ℕ) : Type 0 where
-  pub pair : Pair
-  pub of_port : IsOf side kind port pair
-  pub known : IsPairOf domains.inputs domains.outputs pair
-  pub left : IsDeleted domains.entries pair → ⊥

@@ -53,27 +53,27 @@ pub record AreClean (graphs : Graphs) (facts : List Decided) (bans : List Ban) (
   pub no_facts : HaveNoFacts graphs facts pairs
   pub no_swap : HaveNoSwapMismatch graphs facts pairs
 
--- A pair isn't deleted, and clashes with no held one.
+-- A pair isn't deleted: it is open, or held.
 pub record Remains (domains : Domained) (pair : Pair) : Type 0 where
   pub known : IsPairOf domains.inputs domains.outputs pair
   pub left : IsDeleted domains.entries pair → ⊥
-  pub possible : IsImpossible (held_in domains.entries) pair → ⊥
 
--- A port has a pair that remains.
-pub record HasRemaining (domains : Domained) (side : Side) (kind : PortKind) (port : ℕ) : Type 0 where
+-- A port has a pair that isn't deleted.
+pub record HasLeft (domains : Domained) (side : Side) (kind : PortKind) (port : ℕ) : Type 0 where
   pub pair : Pair
   pub of_port : IsOf side kind port pair
   pub remains : Remains domains pair
 
--- The claims of one input are decided, nothing excludes the held pairs nor any one that remains beside them, and each port has
--- one.
+-- The claims of one input are decided, and nothing excludes the held pairs. Each pair that isn't deleted clashes with no held one,
+-- and nothing excludes it beside them. Each port has one.
 pub record IsStable (graphs : Graphs) (facts : List Decided) (bans : List Ban) (domains : Domained) : Type 0 where
   pub decided : AreOutputsDecided graphs facts
   pub alone : AreClean graphs facts bans (held_in domains.entries)
+  pub possible : (pair : Pair) → Remains domains pair → IsImpossible (held_in domains.entries) pair → ⊥
   pub beside : (pair : Pair) → Remains domains pair → AreClean graphs facts bans (pair ∷ held_in domains.entries)
   pub ports : (side : Side) (kind : PortKind) (port : ℕ)
       → port < ports_of domains.inputs domains.outputs kind
-      → HasRemaining domains side kind port
+      → HasLeft domains side kind port
 
 -- it is stable, or a ban is within the held pairs
 abbrev pub IsRefined : Graphs → List Decided → List Ban → Domained → Refined → Type 0

@@ -1,4 +1,5 @@
-//! Refining the signed pairs of two circuits until nothing that is held or told excludes one that remains.
+//! The signed pairs of two circuits, each open, held or deleted, and refining them until nothing that is held or told
+//! excludes one that isn't deleted.
 #![tactic(auto)]
 
 mod alone;
@@ -13,5 +14,7 @@ mod shown;
 mod swap_index;
 mod swaps;
 
+pub use class_refine::{Cause, Domains, Entry, Fate, Reason};
+pub use conflict_core::{Deletion, Mismatches, deletion_of};
 pub use refined::Refined;
 pub use refining::refine;

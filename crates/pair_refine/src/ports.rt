@@ -9,7 +9,7 @@ ghost use Rattle.conflict_core.specs.Grounded.{LearnsMore};
 ghost use Rattle.conflict_core.specs.Justified.{IsTrail};
 ghost use Rattle.conflict_core.specs.Named.{IsPortOf};
 ghost use Rattle.pair_search.specs.Impasses.{HasNoWay};
-ghost use Rattle.pair_refine.specs.Settling.{HasLeft};
+ghost use Rattle.pair_refine.specs.Stable.{HasLeft};
 
 use ban_book::BanBook;
 use circuits::PortKind;

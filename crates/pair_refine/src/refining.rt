@@ -30,15 +30,16 @@ use port_sides::PairableGraphs;
 use query_core::Ledger;
 use std::alloc::{AllocError, Global};
 
-/// Deletes, of two circuits' pairs, each that can't stand beside the held ones, until nothing excludes one that remains: no ban
-/// of the book is within them and it, and no mismatch and no tally is valid for them and it. The claims of one input of all
-/// outputs are decided first; of claims of two inputs only those count that are decided already. Each deletion has a reason, and
-/// no pair is held, so that one pass is enough.
+/// Deletes, of two circuits' pairs, each that can't stand beside the held ones, until nothing excludes one that isn't
+/// deleted: it clashes with no held pair, no ban of the book is within them and it, and no mismatch and no tally is valid
+/// for them and it. The claims of one input of all outputs are decided first; of claims of two inputs only those count
+/// that are decided already. Each deletion has a reason, of which `deletion_of` finds or makes the ban, and no pair is
+/// held, so that one pass is enough.
 ///
 /// Where a ban is within the held pairs alone, or a port has no way left, its ban is answered, and the pass ends there.
 ///
-/// It is complete, and expensive for it: each way is tried against all bans, all held pairs, and all facts of two inputs. The search propagates more
-/// cheaply, and refines whole matchings alone, of which no way is left to try.
+/// It is complete, and expensive for it: each way is tried against all bans, all held pairs, and all facts of two inputs.
+/// The search propagates more cheaply, and refines whole matchings alone, of which no way is left to try.
 ///
 /// # Errors
 ///

@@ -4,7 +4,7 @@ use Rattle.net_core.specs.declared.graphs.Side.{Side}
 use Rattle.net_core.specs.declared.graphs.Side.TheVariants.{First, Second}
 use Rattle.class_refine.specs.Trails.{Domained, ports_of}
 use Rattle.claim_rows.proofs.AlikeLemmas.{none_then}
-use Rattle.pair_refine.specs.Settling.{HasLeft}
+use Rattle.pair_refine.specs.Stable.{HasLeft}
 use Rattle.pair_refine.proofs.ports.empty_port.Goals as goal
 
 pub returns-in-None-clause-none : goal.returns-in-None-clause-none

@@ -1,5 +1,5 @@
 use Rattle.std.proofs.Common.{ℕ, ◌<◌}
-use Rattle.pair_refine.specs.Settling.{HasLeft}
+use Rattle.pair_refine.specs.Stable.{HasLeft}
 use Rattle.pair_refine.proofs.ports.empty_port_of.Given as goal
 
 abbrev pub invariant-loop-number : goal.invariant-loop-number

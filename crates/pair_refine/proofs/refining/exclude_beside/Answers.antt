@@ -4,8 +4,7 @@ use Rattle.net_core.specs.declared.graphs.Side.{Side}
 use Rattle.account_core.specs.declared.step.Ban.{Ban}
 use Rattle.class_refine.specs.Trails.{ports_of}
 use Rattle.pair_refine.specs.Rows.{decided}
-use Rattle.pair_refine.specs.Settling.{HasLeft}
-use Rattle.pair_refine.specs.Stable.{IsStable}
+use Rattle.pair_refine.specs.Stable.{HasLeft, IsStable}
 use Rattle.pair_refine.proofs.ResultLemmas.{both_none}
 use Rattle.pair_refine.proofs.StableLemmas.{stable_of}
 use Rattle.pair_refine.proofs.TrailLemmas.{refines_bans, refines_then, shown_learned}
