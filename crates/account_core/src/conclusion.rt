@@ -4,7 +4,7 @@ use circuits::Pair;
 use items::Items;
 
 /// What an account comes to.
-#[derive(Clone, Debug, Drop, PartialEq, Eq)]
+#[derive(Debug, Drop)]
 pub enum Conclusion {
     /// No match exists, since the circuits have different numbers of ports.
     NonePorts,

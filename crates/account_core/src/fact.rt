@@ -8,7 +8,7 @@ use claim_core::Claim;
 use cnf_core::Log;
 
 /// Why a claim fails, or why it holds.
-#[derive(Clone, Debug, Drop, PartialEq, Eq)]
+#[derive(Debug)]
 pub enum Evidence {
     /// The claim fails: this vector breaks it. It has one bit for each input of the claim's circuit.
     Fails(Bits),
@@ -16,11 +16,31 @@ pub enum Evidence {
     Holds(Log),
 }
 
+// By hand, and so one call wherever a value ends: a derived drop is expanded there, field by field, and makes proofs long.
+impl Drop for Evidence {
+    fn drop(self) {
+        match self {
+            Evidence::Fails(_vector) => {}
+            Evidence::Holds(_log) => {}
+        }
+    }
+}
+
 /// A claim that was decided.
-#[derive(Clone, Debug, Drop, PartialEq, Eq)]
+#[derive(Debug)]
 pub struct Fact {
     pub claim: Claim,
     pub evidence: Evidence,
+}
+
+// By hand too.
+impl Drop for Fact {
+    fn drop(self) {
+        let Fact {
+            claim: _claim,
+            evidence: _evidence,
+        } = self;
+    }
 }
 
 impl Fact {
@@ -36,7 +56,7 @@ impl Fact {
 }
 
 /// The line of an account that gives a fact. After a claim that holds, the lines of its log follow.
-#[derive(Clone, Debug, Drop, PartialEq, Eq)]
+#[derive(Debug, Drop)]
 pub enum FactHead {
     /// The claim fails: the vector of these bits breaks it.
     Fails { claim: Claim, bits: Bits },

@@ -4,7 +4,7 @@ use account_core::{Ban, Conclusion, FactHead};
 use cnf_core::LogLine;
 
 /// One line of an account.
-#[derive(Clone, Debug, Drop, PartialEq, Eq)]
+#[derive(Debug)]
 pub enum Record {
     /// The first line, which names the format.
     Header,
@@ -18,4 +18,18 @@ pub enum Record {
     Conclusion(Conclusion),
     /// The last line.
     End,
+}
+
+// By hand, and so one call wherever a value ends: a derived drop is expanded there, field by field, and makes proofs long.
+impl Drop for Record {
+    fn drop(self) {
+        match self {
+            Record::Header => {}
+            Record::Fact(_head) => {}
+            Record::Line(_line) => {}
+            Record::Ban(_ban) => {}
+            Record::Conclusion(_conclusion) => {}
+            Record::End => {}
+        }
+    }
 }

@@ -7,7 +7,7 @@ use crate::Lit;
 use items::Items;
 
 /// What one position of a row wants of its signal (the Berkeley Logic Interchange Format).
-#[derive(Clone, Copy, Debug, Drop, PartialEq, Eq, PartialOrd, Ord, Hash)]
+#[derive(Clone, Copy, Debug, Drop, PartialEq, Eq)]
 pub enum Trit {
     /// That it is 0.
     Zero,

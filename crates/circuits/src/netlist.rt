@@ -8,7 +8,7 @@ use std::marker::Model;
 
 /// A literal: a signal, plain or negated. Its number is twice the signal's, plus 1 where it is negated.
 /// Signal 0 is constantly false, so literal 0 is false and literal 1 is true (the AIGER format).
-#[derive(Clone, Copy, Debug, PartialEq, Eq, PartialOrd, Ord, Hash)]
+#[derive(Clone, Copy, Debug, PartialEq, Eq)]
 pub struct Lit(pub u32);
 
 impl Lit {
@@ -40,7 +40,7 @@ impl Lit {
 }
 
 /// An AND gate of two literals.
-#[derive(Clone, Copy, Debug, PartialEq, Eq, PartialOrd, Ord, Hash)]
+#[derive(Clone, Copy, Debug, PartialEq, Eq)]
 pub struct Gate {
     /// One operand.
     pub a: Lit,

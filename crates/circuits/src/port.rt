@@ -1,7 +1,7 @@
 //! The ports of a circuit, and pairs of ports of two circuits.
 
 /// An input or an output.
-#[derive(Clone, Copy, Debug, Default, PartialEq, Eq, PartialOrd, Ord, Hash)]
+#[derive(Clone, Copy, Debug, Default, PartialEq, Eq, Hash)]
 pub enum PortKind {
     #[default]
     Input,
@@ -9,7 +9,7 @@ pub enum PortKind {
 }
 
 /// A port of the first circuit goes to a port of the second, of the same kind, plain or inverted.
-#[derive(Clone, Copy, Debug, Default, PartialEq, Eq, PartialOrd, Ord, Hash)]
+#[derive(Clone, Copy, Debug, Default, PartialEq, Eq, Hash)]
 pub struct Pair {
     pub kind: PortKind,
     /// The first circuit's port: its position, from 0, in the file.

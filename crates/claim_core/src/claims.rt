@@ -14,7 +14,7 @@ pub enum Shape {
 }
 
 /// That an output never falls from 1 to 0 where the inputs of a shape go from its values to the opposite ones.
-#[derive(Clone, Copy, Debug, Drop, PartialEq, Eq, PartialOrd, Ord, Hash)]
+#[derive(Clone, Copy, Debug, Drop, PartialEq, Eq, Hash)]
 pub struct Claim {
     pub side: Side,
     pub output: u32,

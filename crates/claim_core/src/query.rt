@@ -7,7 +7,7 @@ use net_core::Side;
 use std::alloc::AllocError;
 
 /// What an input of a cone gets: a fixed bit, or a bit of the vector that is looked for.
-#[derive(Clone, Copy, Debug, PartialEq, Eq, PartialOrd, Ord, Hash)]
+#[derive(Clone, Copy, Debug, PartialEq, Eq, Hash)]
 pub enum Feed {
     Fixed(bool),
     /// Bit `place` of the vector, inverted where `flip` says so.

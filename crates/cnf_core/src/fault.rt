@@ -1,7 +1,7 @@
 //! What is wrong with a line of a log.
 
 /// The first thing that is wrong with a line of a log, in the order in which the tests are made.
-#[derive(Clone, Copy, Debug, PartialEq, Eq, PartialOrd, Ord, Hash)]
+#[derive(Clone, Copy, Debug, PartialEq, Eq)]
 pub enum LineFault {
     /// An empty line was taken before.
     Closed,

@@ -3,10 +3,12 @@
 ghost use Rattle.std.specs.Prelude.{◌∷◌, [], All, IfOk, IfSome};
 ghost use Rattle.circuits.specs.declared.port.PortKind.TheVariants.{Output};
 ghost use Rattle.account_core.specs.Shown.{IsEmptyBan};
+ghost use Rattle.account_core.specs.Ports.{ports_in};
 ghost use Rattle.ban_book.specs.Covering.{Covers};
 ghost use Rattle.fact_bans.specs.Carrying.{IsPairOf};
 ghost use Rattle.fact_bans.specs.Referred.{AreReferred};
 ghost use Rattle.fact_bans.specs.Serving.{HoldsBans, MayHold};
+ghost use Rattle.port_covers.specs.Ways.{IsBlock, ways_in};
 
 use crate::classes::Classes;
 use crate::seen::Seen;
@@ -20,7 +22,7 @@ use port_covers::block::{Block, marked, ways_in};
 use port_covers::cover::hold_cover;
 use port_sides::PairableGraphs;
 use query_core::Ledger;
-use std::alloc::Global;
+use std::alloc::{AllocError, Global};
 
 /// Where one of two circuits with as many ports has more outputs that depend on this many inputs and are binate in this many:
 /// holds a ban without pairs, and answers its number. None where none was shown.
@@ -73,6 +75,21 @@ fn refuse_by<O: Oracle>(
     ensures holds { HoldsBans graphs.now (O.known oracle.old) (O.known oracle.new) ledger.old ledger.new book.old book.new result }
     ensures empty { IfOk result (λ found. IfSome found (IsEmptyBan book.new)) }
 {
+    let Some(block) = block_of(alloc, graphs, classes)? else {
+        return Ok(None);
+    };
+    refuse_block(alloc, graphs, oracle, block, seen, book, ledger)
+}
+
+// The block of outputs of these classes. None where they aren't more than a circuit has.
+fn block_of(
+    alloc: Global,
+    graphs: &PairableGraphs<'_>,
+    classes: &Classes,
+) -> Result<Option<Block>, AllocError>
+    ensures block { IfOk result (λ found. IfSome found (λ block. IsBlock (ports_in graphs.now.second block.kind) block)) }
+    ensures outputs { IfOk result (λ found. IfSome found (λ block. All (IsPairOf graphs.now Output) (ways_in block))) }
+{
     let kind = PortKind::Output;
     let outputs = graphs.ports(kind);
     let from = marked(alloc, &classes.from, outputs)?;
@@ -80,13 +97,49 @@ fn refuse_by<O: Oracle>(
     if from.len() + to.len() <= outputs as usize {
         return Ok(None);
     }
-    let block = Block { kind, from, to };
-    let ways = ways_in(alloc, &block)?;
-    let Some(refs) = bans_of(alloc, graphs, oracle, &ways, seen, book, ledger)? else {
+    Ok(Some(Block { kind, from, to }))
+}
+
+// Holds the ban that a block of outputs is for.
+fn refuse_block<O: Oracle>(
+    alloc: Global,
+    graphs: &PairableGraphs<'_>,
+    oracle: &mut O,
+    block: Block,
+    seen: &mut Seen,
+    book: &mut BanBook,
+    ledger: &mut Ledger,
+) -> Result<Option<u64>, Stop>
+    requires may { MayHold graphs.now (O.known oracle.old) ledger.old book.old }
+    requires block { IsBlock (ports_in graphs.now.second block.kind) block }
+    requires outputs { All (IsPairOf graphs.now Output) (ways_in block) }
+    ensures holds { HoldsBans graphs.now (O.known oracle.old) (O.known oracle.new) ledger.old ledger.new book.old book.new result }
+    ensures empty { IfOk result (λ found. IfSome found (IsEmptyBan book.new)) }
+{
+    let Some(refs) = bans_in(alloc, graphs, oracle, &block, seen, book, ledger)? else {
         return Ok(None);
     };
     let number = hold_cover(alloc, graphs, &[], block, refs, book)?;
     Ok(Some(number))
+}
+
+// The bans of all ways in a block of outputs. None where one of them has none.
+fn bans_in<O: Oracle>(
+    alloc: Global,
+    graphs: &PairableGraphs<'_>,
+    oracle: &mut O,
+    block: &Block,
+    seen: &mut Seen,
+    book: &mut BanBook,
+    ledger: &mut Ledger,
+) -> Result<Option<Items<Option<u64>>>, Stop>
+    requires may { MayHold graphs.now (O.known oracle.old) ledger.old book.old }
+    requires outputs { All (IsPairOf graphs.now Output) (ways_in block.now) }
+    ensures holds { HoldsBans graphs.now (O.known oracle.old) (O.known oracle.new) ledger.old ledger.new book.old book.new result }
+    ensures referred { IfOk result (λ found. IfSome found (AreReferred book.new (ways_in block.now))) }
+{
+    let ways = ways_in(alloc, block)?;
+    bans_of(alloc, graphs, oracle, &ways, seen, book, ledger)
 }
 
 // The bans of these ways to pair outputs. None where one of them has none.

@@ -8,7 +8,7 @@ use crate::graph::Graph;
 use std::marker::Model;
 
 /// One of two circuits.
-#[derive(Clone, Copy, Debug, Drop, PartialEq, Eq, PartialOrd, Ord, Hash)]
+#[derive(Clone, Copy, Debug, Drop, PartialEq, Eq, Hash)]
 pub enum Side {
     First,
     Second,

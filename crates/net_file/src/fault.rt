@@ -4,91 +4,65 @@ ghost use Rattle.std.specs.Prelude.{◌≡◌};
 ghost use Rattle.net_file.specs.Kinds.{kind_number};
 
 use std::alloc::{AllocError, AllocFailed};
+use std::fmt;
 use thiserror::Error;
 
 /// What is wrong with a netlist's file. Each kind has a number, which the program prints.
-#[derive(Clone, Copy, Debug, Drop, PartialEq, Eq, PartialOrd, Ord, Hash, Error)]
+#[derive(Clone, Copy, Debug, Drop, PartialEq, Eq)]
 pub enum NetKind {
     /// 1: the file doesn't begin with a header of either AIGER form.
-    #[error("no header of either AIGER form")]
     Header,
     /// 2: the AIGER file has latches.
-    #[error("latches in an AIGER file")]
     Sequential,
     /// 3: the AIGER file has bad states, constraints, justice or fairness properties.
-    #[error("properties in an AIGER file")]
     Property,
     /// 4: there are more inputs than the limit.
-    #[error("too many inputs")]
     TooManyInputs,
     /// 5: there are more outputs than the limit.
-    #[error("too many outputs")]
     TooManyOutputs,
     /// 6: there are more gates, or AIGER variables, than the limit.
-    #[error("too many gates")]
     TooManyGates,
     /// 7: an AIGER line hasn't exactly the wanted number of words, or a word isn't a number.
-    #[error("a malformed AIGER line")]
     BadLine,
     /// 8: an AIGER literal is above the greatest one; or what a line defines is odd, or the constant.
-    #[error("an AIGER literal that is out of range or may not be defined")]
     BadLiteral,
     /// 9: the AIGER variable was defined before.
-    #[error("an AIGER variable that is defined twice")]
     Redefined,
     /// 10: an AIGER operand or output isn't defined anywhere.
-    #[error("an AIGER literal that is not defined")]
     Undefined,
     /// 11: a delta of the binary AIGER form is cut off, too long or out of range.
-    #[error("a malformed delta of the binary AIGER form")]
     Delta,
     /// 12: an AIGER definition is on a cycle or above one.
-    #[error("an AIGER definition on a cycle or above one")]
     Cycle,
     /// 13: an AIGER symbol line isn't one, or names no port, or a port that has a name already.
-    #[error("a malformed AIGER symbol line")]
     BadSymbol,
     /// 14: the AIGER file ends where a line is wanted.
-    #[error("an AIGER file that is cut off")]
     Truncated,
     /// 20: a BLIF directive isn't known, a `.names` line has no word after it, or a line stands after `.end`.
-    #[error("a BLIF directive that is not known or out of place")]
     Directive,
     /// 21: the BLIF file has a latch.
-    #[error("a latch in a BLIF file")]
     Latch,
     /// 22: the BLIF file gives don't-cares.
-    #[error("don't-cares in a BLIF file")]
     DontCare,
     /// 23: the BLIF file has a second model.
-    #[error("a second model in a BLIF file")]
     SecondModel,
     /// 24: a row of a BLIF cover has a wrong number of words, or a word of a wrong length.
-    #[error("a row of a BLIF cover of a wrong width")]
     RowWidth,
     /// 25: a row of a BLIF cover has a byte that may not stand at its place.
-    #[error("a byte out of place in a row of a BLIF cover")]
     RowChar,
     /// 26: a row of a BLIF cover is of the on-set where an earlier one is of the off-set, or the other way round.
-    #[error("rows of both the on-set and the off-set in a BLIF cover")]
     MixedCover,
     /// 27: a row of the BLIF file is in no cover.
-    #[error("a row outside a BLIF cover")]
     RowOutside,
     /// 28: the BLIF file has no `.inputs` line or no `.outputs` line.
-    #[error("no inputs line or no outputs line in a BLIF file")]
     NoPortLine,
     /// 29: a name is given to two inputs of the BLIF file, or to two outputs.
-    #[error("a name of two ports of a BLIF file")]
     DuplicatePort,
     /// 30: a BLIF cover defines an input, or a name that an earlier one defines.
-    #[error("a name of a BLIF file that is defined twice")]
     NameRedefined,
     /// 31: a name that a BLIF file reads is neither an input nor defined by a cover.
-    #[error("a name of a BLIF file that is not defined")]
     NameUndefined,
     /// 32: a BLIF cover is on a cycle or above one.
-    #[error("a BLIF cover on a cycle or above one")]
     CoverCycle,
 }
 
@@ -127,10 +101,51 @@ impl NetKind {
             NetKind::CoverCycle => 32,
         }
     }
+
+    /// What is wrong, in words.
+    fn words(self) -> &'static str {
+        match self {
+            NetKind::Header => "no header of either AIGER form",
+            NetKind::Sequential => "latches in an AIGER file",
+            NetKind::Property => "properties in an AIGER file",
+            NetKind::TooManyInputs => "too many inputs",
+            NetKind::TooManyOutputs => "too many outputs",
+            NetKind::TooManyGates => "too many gates",
+            NetKind::BadLine => "a malformed AIGER line",
+            NetKind::BadLiteral => "an AIGER literal that is out of range or may not be defined",
+            NetKind::Redefined => "an AIGER variable that is defined twice",
+            NetKind::Undefined => "an AIGER literal that is not defined",
+            NetKind::Delta => "a malformed delta of the binary AIGER form",
+            NetKind::Cycle => "an AIGER definition on a cycle or above one",
+            NetKind::BadSymbol => "a malformed AIGER symbol line",
+            NetKind::Truncated => "an AIGER file that is cut off",
+            NetKind::Directive => "a BLIF directive that is not known or out of place",
+            NetKind::Latch => "a latch in a BLIF file",
+            NetKind::DontCare => "don't-cares in a BLIF file",
+            NetKind::SecondModel => "a second model in a BLIF file",
+            NetKind::RowWidth => "a row of a BLIF cover of a wrong width",
+            NetKind::RowChar => "a byte out of place in a row of a BLIF cover",
+            NetKind::MixedCover => "rows of both the on-set and the off-set in a BLIF cover",
+            NetKind::RowOutside => "a row outside a BLIF cover",
+            NetKind::NoPortLine => "no inputs line or no outputs line in a BLIF file",
+            NetKind::DuplicatePort => "a name of two ports of a BLIF file",
+            NetKind::NameRedefined => "a name of a BLIF file that is defined twice",
+            NetKind::NameUndefined => "a name of a BLIF file that is not defined",
+            NetKind::CoverCycle => "a BLIF cover on a cycle or above one",
+        }
+    }
 }
 
+impl fmt::Display for NetKind {
+    fn fmt<W: fmt::Write>(&self, f: &mut fmt::Formatter<W>) -> fmt::Result {
+        f.write_str(self.words())
+    }
+}
+
+impl std::error::Error for NetKind {}
+
 /// The first fault of a netlist's file.
-#[derive(Clone, Copy, Debug, Drop, PartialEq, Eq, PartialOrd, Ord, Hash, Error)]
+#[derive(Clone, Copy, Debug, Drop, PartialEq, Eq, Error)]
 #[error("{kind}, at offset {at}")]
 pub struct NetFault {
     pub kind: NetKind,

@@ -6,7 +6,7 @@ ghost use Rattle.word_sim.specs.ThreeValues.{tri_not};
 use net_core::SignalValue;
 
 /// A bit, or X, which stands for either.
-#[derive(Clone, Copy, Debug, Drop, PartialEq, Eq, Hash)]
+#[derive(Clone, Copy, Debug, Drop, PartialEq, Eq)]
 pub enum Tri {
     /// The bit 0.
     Zero,
