@@ -1,9 +1,14 @@
 //! The program `npnp`: a run over the machine's files and its standard output, on the words of the command line.
 #![tactic(auto)]
 
+mod asked;
+mod folders;
+mod people;
 mod progress;
 
+use crate::people::People;
 use crate::progress::Progress;
+use explain::Notice;
 use npnp::outcome::Outcome;
 use npnp::run::run;
 use shelf_core::{DiskShelf, StdSink};
@@ -16,20 +21,40 @@ const NO_MEMORY: u8 = 7;
 
 fn main(rt: HostRuntime) -> ExitCode {
     match run_words(rt) {
-        Ok(outcome) => ExitCode::from(outcome.status()),
+        Ok(status) => ExitCode::from(status),
         Err(_) => ExitCode::from(NO_MEMORY),
     }
 }
 
-/// Runs the program on the words of the command line. An error comes before the run begins: memory is refused, or a word
-/// isn't UTF-8.
-fn run_words(rt: HostRuntime) -> io::Result<Outcome> {
+/// Does what the words of the command line ask for, and answers the status. An error comes before the run begins: memory is
+/// refused, or a word isn't UTF-8.
+fn run_words(rt: HostRuntime) -> io::Result<u8> {
     let words = words_after_name(&rt)?;
+    match Notice::asked(&words) {
+        Some(notice) => Ok(put_notice(&rt, notice)),
+        None => Ok(run_told(rt, &words)?.status()),
+    }
+}
+
+/// Runs the program on the words, and tells people what they mean and what came of them.
+fn run_told(rt: HostRuntime, words: &[String]) -> io::Result<Outcome> {
+    let people = People::new(rt.clone()?);
+    people.warn(words);
     let mut shelf = DiskShelf::new(rt.clone()?);
-    let progress = Progress::new(rt.clone()?);
+    let progress = Progress::new(&rt)?;
     let alloc = rt.alloc();
     let mut out = StdSink::watched(rt, progress);
-    Ok(run(alloc, words.as_slice(), &mut shelf, &mut out))
+    let outcome = run(alloc, words, &mut shelf, &mut out);
+    people.explain(words, &outcome, None);
+    Ok(outcome)
+}
+
+/// Prints what the program says of itself, and answers the status.
+fn put_notice<R: Print>(rt: &R, notice: Notice) -> u8 {
+    match print!(rt; "{notice}") {
+        Ok(()) => 0,
+        Err(_) => Outcome::WriteFault.status(),
+    }
 }
 
 /// The words of the command line after the program's name.

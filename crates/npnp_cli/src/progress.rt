@@ -1,13 +1,13 @@
 //! What a long run is at, told on standard error.
 
+use crate::asked::is_asked;
 use std::cell::Cell;
-use std::rt::{Clock, Env};
+use std::io;
+use std::rt::Clock;
 use std::time::{Duration, Instant};
-use std::{env, io};
 use watch_core::{Stage, Watch};
 
-/// The variable of the environment that asks for it, by the value 1. The script `npnp` sets it where standard error is a
-/// terminal.
+/// The variable of the environment that asks for it, by the value 1, or forbids it by 0.
 const VARIABLE: &str = "NPNP_PROGRESS";
 
 /// Nothing is told before a run has taken this many seconds, since most runs are over then; and after that once in each.
@@ -29,29 +29,21 @@ pub(crate) struct Progress<R> {
     learned: Cell<u64>,
 }
 
-impl<R: Env + Clock + AllocGlobal> Progress<R> {
-    /// It tells where the environment asks for it.
-    pub(crate) fn new(rt: R) -> Progress<R> {
-        let start = if is_wanted(&rt) {
-            Instant::now(&rt).ok()
+impl Progress<HostRuntime> {
+    /// It tells where standard error is a terminal, or the environment asks for it.
+    pub(crate) fn new(rt: &HostRuntime) -> io::Result<Progress<HostRuntime>> {
+        let start = if is_asked(rt, VARIABLE) {
+            Instant::now(rt).ok()
         } else {
             None
         };
-        Progress {
-            rt,
+        Ok(Progress {
+            rt: rt.clone()?,
             start,
             due: Cell::new(Duration::from_secs(FIRST)),
             stage: Cell::new(Stage::Reading { file: 1 }),
             learned: Cell::new(0),
-        }
-    }
-}
-
-/// Whether the environment asks for progress.
-fn is_wanted<R: Env + AllocGlobal>(rt: &R) -> bool {
-    match env::var(rt, VARIABLE) {
-        Ok(value) => value.as_str() == "1",
-        Err(_) => false,
+        })
     }
 }
 

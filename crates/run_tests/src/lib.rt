@@ -6,6 +6,8 @@ mod alterations;
 #[cfg(test)]
 mod checks;
 #[cfg(test)]
+mod explaining;
+#[cfg(test)]
 mod faults;
 #[cfg(test)]
 mod files;

@@ -1,0 +1,62 @@
+//! A line of an account by its number.
+
+use refusal_words::{Seek, Wanted};
+use shelf_files::ReadStop;
+use std::alloc::Global;
+use text_core::line_length;
+
+/// The most bytes of a line that are kept: more than are shown.
+const MOST: usize = 640;
+
+/// Looks for a line of a text by its number.
+#[derive(Drop)]
+pub(crate) struct LineSearch {
+    /// How many lines come before it.
+    before: u64,
+    line: Vec<u8>,
+}
+
+impl LineSearch {
+    /// Looks for the line of a number, from 1.
+    pub(crate) fn new(alloc: Global, number: u64) -> LineSearch {
+        LineSearch {
+            before: number.saturating_sub(1),
+            line: Vec::new(alloc),
+        }
+    }
+
+    /// The first bytes of the line, as far as it was found.
+    pub(crate) fn line(&self) -> &[u8] {
+        &self.line
+    }
+
+    /// Takes the bytes up to a line feed or the end, and answers whether it was that of the line.
+    fn take_part(&mut self, part: &[u8], whole: bool) -> Result<Wanted, ReadStop> {
+        if self.before > 0 {
+            self.before -= u64::from(whole);
+            return Ok(Wanted::More);
+        }
+        let room = MOST.saturating_sub(self.line.len());
+        self.line.extend_from_slice(&part[..room.min(part.len())])?;
+        Ok(if whole { Wanted::Nothing } else { Wanted::More })
+    }
+}
+
+impl Seek for LineSearch {
+    fn take(&mut self, _alloc: Global, piece: &[u8]) -> Result<Wanted, ReadStop> {
+        let mut rest = piece;
+        // each turn but the last takes a line feed
+        for _ in 0..=piece.len() {
+            let end = line_length(rest);
+            let whole = end < rest.len();
+            if self.take_part(&rest[..end], whole)? == Wanted::Nothing {
+                return Ok(Wanted::Nothing);
+            }
+            if !whole {
+                break;
+            }
+            rest = &rest[end + 1..];
+        }
+        Ok(Wanted::More)
+    }
+}

@@ -1,0 +1,195 @@
+//! What the end of a run means, for people.
+
+ghost use Rattle.std.specs.Prelude.{ℕ, ◌≡◌, List};
+ghost use Rattle.shelf_core.specs.State.{Closed};
+
+use crate::account_lines::LineSearch;
+use crate::faults::FileFault;
+use crate::malformed::{put_malformed, put_unread};
+use crate::meanings::meaning_of_line;
+use crate::notice::FORMS;
+use crate::word_fault::fault_of_words;
+use account_check::Why;
+use command_words::{Command, command_asked};
+use net_file::NetFault;
+use refusal_words::{Shown, put_refusal, seek_in};
+use run_steps::{Outcome, Which};
+use shelf_core::Shelf;
+use shelf_files::ReadStop;
+use std::alloc::Global;
+
+/// What is known of a run that ended.
+#[derive(Clone, Copy, Debug)]
+pub struct Told<'a> {
+    /// The words of the command line.
+    pub words: &'a [String],
+    /// How the run ended.
+    pub outcome: &'a Outcome,
+    /// The file that failed, where one did.
+    pub fault: Option<FileFault<'a>>,
+    /// Whether the files of `files_read_again` may be read once more: a pipe gives its bytes only once.
+    pub readable: bool,
+}
+
+/// What the end of a run means, in lines that end with a line feed; nothing where the report says it all. Files are read again
+/// for it, and none is changed. Where that fails, or there is no memory, less is said.
+pub fn explain<S: Shelf>(alloc: Global, told: &Told<'_>, shelf: &mut S) -> String
+    requires { (S.state shelf.old).mode ≡ Closed }
+    ensures { (name : List ℕ) → (S.state shelf.new).held name ≡ (S.state shelf.old).held name }
+{
+    let mut text = String::new(alloc);
+    // what can't be said is left out
+    let _ = put_explanation(alloc, told, shelf, &mut text);
+    text
+}
+
+/// The files that an explanation reads again.
+pub fn files_read_again<'a>(words: &'a [String], outcome: &Outcome) -> [Option<&'a str>; 3] {
+    match outcome {
+        Outcome::Malformed { which, .. } => [name_of(words, *which), None, None],
+        Outcome::Rejected { .. } => [name_of(words, Which::Account), None, None],
+        Outcome::NoMatching => [Which::First, Which::Second, Which::Account].map(|which| name_of(
+            words, which,
+        )),
+        _ => [None, None, None],
+    }
+}
+
+/// The name of a file by its place among the words, where they name one there.
+fn name_of(words: &[String], which: Which) -> Option<&str> {
+    match (command_asked(words)?, which) {
+        (Command::Match(asked), Which::First) => Some(asked.first),
+        (Command::Match(asked), Which::Second) => Some(asked.second),
+        (Command::Match(asked), Which::Account) => Some(asked.account),
+        (Command::Check(check), Which::First) => Some(check.first),
+        (Command::Check(check), Which::Second) => Some(check.second),
+        (Command::Check(check), Which::Account) => Some(check.account),
+        (Command::Info(info), Which::First) => Some(info.file),
+        _ => None,
+    }
+}
+
+fn put_explanation<S: Shelf>(
+    alloc: Global,
+    told: &Told<'_>,
+    shelf: &mut S,
+    text: &mut String,
+) -> Result<(), ReadStop>
+    requires { (S.state shelf.old).mode ≡ Closed }
+    ensures { (n : List ℕ) → (S.state shelf.new).held n ≡ (S.state shelf.old).held n }
+{
+    match told.outcome {
+        Outcome::Usage => put_usage(told.words, text),
+        Outcome::Absent(which) => put_file(told, *which, "there is no such file", text),
+        Outcome::TooLarge(which) => put_file(told, *which, "longer than 67,108,864 bytes", text),
+        Outcome::ReadFault => put_fault(told.fault, "a file couldn't be read", text),
+        Outcome::WriteFault => put_fault(told.fault, "the report couldn't be written", text),
+        Outcome::Malformed { which, kind, at } => {
+            let fault = NetFault {
+                kind: *kind,
+                at: *at,
+            };
+            put_netlist_fault(alloc, told, *which, fault, shelf, text)
+        }
+        Outcome::Rejected { line, why } => { put_rejected(alloc, told, *line, *why, shelf, text) }
+        Outcome::NoMatching => put_no_matching(alloc, told, shelf, text),
+        _ => Ok(()),
+    }
+}
+
+fn put_usage(words: &[String], text: &mut String) -> Result<(), ReadStop> {
+    if let Some(fault) = fault_of_words(words) {
+        writeln!(text, "npnp: {fault}")?;
+    }
+    Ok(text.push_str(FORMS)?)
+}
+
+/// Says something of a file.
+fn put_file(told: &Told<'_>, which: Which, what: &str, text: &mut String) -> Result<(), ReadStop> {
+    match name_of(told.words, which) {
+        Some(name) => Ok(writeln!(text, "{}: {what}", Shown::name(name))?),
+        None => Ok(()),
+    }
+}
+
+/// Says which file failed, and why, or what failed where it wasn't a file.
+fn put_fault(
+    fault: Option<FileFault<'_>>,
+    otherwise: &str,
+    text: &mut String,
+) -> Result<(), ReadStop> {
+    match fault {
+        Some(fault) => Ok(writeln!(text, "{fault}")?),
+        None => Ok(writeln!(text, "npnp: {otherwise}")?),
+    }
+}
+
+fn put_netlist_fault<S: Shelf>(
+    alloc: Global,
+    told: &Told<'_>,
+    which: Which,
+    fault: NetFault,
+    shelf: &mut S,
+    text: &mut String,
+) -> Result<(), ReadStop>
+    requires { (S.state shelf.old).mode ≡ Closed }
+    ensures { (n : List ℕ) → (S.state shelf.new).held n ≡ (S.state shelf.old).held n }
+{
+    match name_of(told.words, which) {
+        Some(name) if told.readable => put_malformed(alloc, name, fault, shelf, text),
+        Some(name) => put_unread(name, fault, text),
+        None => Ok(()),
+    }
+}
+
+/// Says of a rejected account which line is wrong, and what the line is.
+fn put_rejected<S: Shelf>(
+    alloc: Global,
+    told: &Told<'_>,
+    line: u64,
+    why: Why,
+    shelf: &mut S,
+    text: &mut String,
+) -> Result<(), ReadStop>
+    requires { (S.state shelf.old).mode ≡ Closed }
+    ensures { (n : List ℕ) → (S.state shelf.new).held n ≡ (S.state shelf.old).held n }
+{
+    let Some(name) = name_of(told.words, Which::Account) else {
+        return Ok(());
+    };
+    writeln!(
+        text,
+        "{}:{line}: {}",
+        Shown::name(name),
+        meaning_of_line(why)
+    )?;
+    if !told.readable {
+        return Ok(());
+    }
+    let mut search = LineSearch::new(alloc, line);
+    seek_in(alloc, shelf, name, &mut search)?;
+    put_line(search.line(), text)
+}
+
+/// Shows a line, where it isn't empty.
+fn put_line(line: &[u8], text: &mut String) -> Result<(), ReadStop> {
+    if line.is_empty() {
+        return Ok(());
+    }
+    Ok(writeln!(text, "  {}", Shown(line))?)
+}
+
+fn put_no_matching<S: Shelf>(
+    alloc: Global,
+    told: &Told<'_>,
+    shelf: &mut S,
+    text: &mut String,
+) -> Result<(), ReadStop>
+    requires { (S.state shelf.old).mode ≡ Closed }
+    ensures { (n : List ℕ) → (S.state shelf.new).held n ≡ (S.state shelf.old).held n }
+{
+    match command_asked(told.words) {
+        Some(Command::Match(asked)) if told.readable => put_refusal(alloc, &asked, shelf, text),
+        _ => Ok(()),
+    }
+}

@@ -1,0 +1,20 @@
+//! Files that couldn't be read or written.
+
+use refusal_words::Shown;
+use std::fmt;
+
+/// A file of which a call failed.
+#[derive(Clone, Copy, Debug)]
+pub struct FileFault<'a> {
+    pub name: &'a str,
+    /// Why, in the system's words.
+    pub reason: &'a str,
+}
+
+/// As `NAME: reason`.
+impl fmt::Display for FileFault<'_> {
+    fn fmt<W: fmt::Write>(&self, f: &mut fmt::Formatter<W>) -> fmt::Result {
+        let FileFault { name, reason } = self;
+        write!(f, "{}: {}", Shown::name(name), Shown::name(reason))
+    }
+}

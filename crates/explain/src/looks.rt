@@ -1,0 +1,124 @@
+//! What a file that is no netlist looks like.
+
+use std::fmt;
+
+/// What a file looks like, by its first bytes.
+#[derive(Clone, Copy, Debug, PartialEq, Eq)]
+pub(crate) enum Look {
+    Empty,
+    ByteOrderMark,
+    Gzip,
+    Xz,
+    Bzip2,
+    Zstd,
+    Verilog,
+    Liberty,
+}
+
+/// The first bytes that tell a file by themselves: the magic numbers of compressed files, and the byte order marks of UTF-8 and
+/// UTF-16.
+static MARKS: [(&[u8], Look); 7] = [
+    (b"\x1f\x8b", Look::Gzip),
+    (b"\xfd7zXZ\x00", Look::Xz),
+    (b"BZh", Look::Bzip2),
+    (b"\x28\xb5\x2f\xfd", Look::Zstd),
+    (b"\xef\xbb\xbf", Look::ByteOrderMark),
+    (b"\xff\xfe", Look::ByteOrderMark),
+    (b"\xfe\xff", Look::ByteOrderMark),
+];
+
+/// The words with which a text of Verilog or of Liberty begins.
+static WORDS: [(&[u8], Look); 6] = [
+    (b"module", Look::Verilog),
+    (b"`timescale", Look::Verilog),
+    (b"`define", Look::Verilog),
+    (b"`include", Look::Verilog),
+    (b"(*", Look::Verilog),
+    (b"library", Look::Liberty),
+];
+
+impl Look {
+    /// What a file looks like, where its first bytes tell it.
+    pub(crate) fn of(bytes: &[u8]) -> Option<Look> {
+        if bytes.is_empty() {
+            return Some(Look::Empty);
+        }
+        match look_among(&MARKS, bytes) {
+            Some(look) => Some(look),
+            None => look_among(&WORDS, text_after_comments(bytes)),
+        }
+    }
+
+    /// Whether its lines say something to people.
+    pub(crate) fn is_text(self) -> bool {
+        matches!(self, Look::Verilog | Look::Liberty)
+    }
+}
+
+/// What it is, and what to do about it.
+impl fmt::Display for Look {
+    fn fmt<W: fmt::Write>(&self, f: &mut fmt::Formatter<W>) -> fmt::Result {
+        f.write_str(match self {
+            Look::Empty => "the file is empty",
+            Look::ByteOrderMark => {
+                "the file begins with a byte order mark: write it without one, as ASCII or UTF-8"
+            }
+            Look::Gzip => "this looks like a file compressed by gzip: `gzip -dc F > G`",
+            Look::Xz => "this looks like a file compressed by xz: `xz -dc F > G`",
+            Look::Bzip2 => "this looks like a file compressed by bzip2: `bzip2 -dc F > G`",
+            Look::Zstd => "this looks like a file compressed by zstd: `zstd -dc F > G`",
+            Look::Verilog => {
+                "this looks like Verilog: `yosys -p 'read_verilog F; synth -flatten; write_blif G'`"
+            }
+            Look::Liberty => {
+                "this looks like a Liberty library, not a netlist: of a cell, `yosys -p 'read_liberty F; prep -top CELL; techmap; \
+                 write_blif G'`"
+            }
+        })
+    }
+}
+
+fn look_among(table: &[(&[u8], Look)], bytes: &[u8]) -> Option<Look> {
+    for (mark, look) in table {
+        if bytes.starts_with(mark) {
+            return Some(*look);
+        }
+    }
+    None
+}
+
+/// The text after blanks, line feeds and comments, as Verilog and Liberty have them.
+fn text_after_comments(text: &[u8]) -> &[u8] {
+    let mut rest = text;
+    // each turn but the last takes a byte at least
+    for _ in 0..=text.len() {
+        let after = after_comment(rest.trim_ascii_start());
+        if after.len() == rest.len() {
+            return rest;
+        }
+        rest = after;
+    }
+    rest
+}
+
+/// The text after the comment with which it begins, if it begins with one.
+fn after_comment(text: &[u8]) -> &[u8] {
+    if text.starts_with(b"//") {
+        return after_first(text, b"\n");
+    }
+    if text.starts_with(b"/*") {
+        return after_first(&text[2..], b"*/");
+    }
+    text
+}
+
+/// The text after the first place where a mark stands, or none of it.
+fn after_first<'a>(text: &'a [u8], mark: &[u8]) -> &'a [u8] {
+    for at in 0..text.len() {
+        let rest = &text[at..];
+        if rest.starts_with(mark) {
+            return rest.get(mark.len()..).unwrap_or(&[]);
+        }
+    }
+    &[]
+}

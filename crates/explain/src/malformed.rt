@@ -1,0 +1,87 @@
+//! Where a netlist is malformed, and what it is instead.
+
+ghost use Rattle.std.specs.Prelude.{ℕ, ◌≡◌, List};
+ghost use Rattle.shelf_core.specs.State.{Closed};
+
+use crate::looks::Look;
+use crate::meanings::meaning_of_kind;
+use crate::places::{line_around, place_of};
+use crate::remedies::Remedy;
+use net_file::{NetFault, NetKind};
+use refusal_words::Shown;
+use shelf_core::Shelf;
+use shelf_files::{File, ReadStop, read_file};
+use std::alloc::Global;
+
+/// The most bytes of a netlist that is read.
+const NETLIST_LIMIT: u64 = 67_108_864;
+
+/// Says of a malformed netlist where its first fault stands, what its kind means, what the line is, and what helps.
+pub(crate) fn put_malformed<S: Shelf>(
+    alloc: Global,
+    name: &str,
+    fault: NetFault,
+    shelf: &mut S,
+    text: &mut String,
+) -> Result<(), ReadStop>
+    requires { (S.state shelf.old).mode ≡ Closed }
+    ensures { (n : List ℕ) → (S.state shelf.new).held n ≡ (S.state shelf.old).held n }
+{
+    match read_file(alloc, shelf, name, NETLIST_LIMIT)? {
+        File::Bytes(bytes) => put_fault(name, &bytes, fault, text),
+        _ => put_unread(name, fault, text),
+    }
+}
+
+/// Says of a malformed netlist that can't be read again what its fault means.
+pub(crate) fn put_unread(name: &str, fault: NetFault, text: &mut String) -> Result<(), ReadStop> {
+    let (name, meaning) = (Shown::name(name), meaning_of_kind(fault.kind));
+    let at = fault.at;
+    Ok(writeln!(text, "{name}: byte {at}: {meaning}")?)
+}
+
+fn put_fault(name: &str, bytes: &[u8], fault: NetFault, text: &mut String) -> Result<(), ReadStop> {
+    let at = fault.at.min(bytes.len() as u64) as usize;
+    let line = line_around(bytes, at);
+    let look = Look::of(bytes);
+    if is_binary(fault.kind, bytes) {
+        put_unread(name, fault, text)?;
+    } else {
+        let (meaning, place) = (meaning_of_kind(fault.kind), place_of(bytes, at));
+        writeln!(text, "{}:{place}: {meaning}", Shown::name(name))?;
+    }
+    if shows_line(fault.kind, look, line) {
+        writeln!(text, "  {}", Shown(line))?;
+    }
+    put_help(name, look, Remedy::of(fault.kind, bytes, line), text)
+}
+
+/// Whether a fault stands in the part of a binary AIGER file that has no lines, or after it.
+fn is_binary(kind: NetKind, bytes: &[u8]) -> bool {
+    bytes.starts_with(b"aig ") & matches!(kind, NetKind::Delta | NetKind::BadSymbol)
+}
+
+/// Whether the line of a fault is text that says something.
+fn shows_line(kind: NetKind, look: Option<Look>, line: &[u8]) -> bool {
+    let is_text = match look {
+        Some(look) => look.is_text(),
+        None => true,
+    };
+    is_text & !line.is_empty() & (kind != NetKind::Delta)
+}
+
+fn put_help(
+    name: &str,
+    look: Option<Look>,
+    remedy: Option<Remedy>,
+    text: &mut String,
+) -> Result<(), ReadStop> {
+    let name = Shown::name(name);
+    if let Some(look) = look {
+        writeln!(text, "{name}: {look}")?;
+    }
+    if let Some(remedy) = remedy {
+        writeln!(text, "{name}: {remedy}")?;
+    }
+    Ok(())
+}

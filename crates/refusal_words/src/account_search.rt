@@ -1,0 +1,238 @@
+//! What an account's conclusion rests on, found in the account's text.
+
+ghost use Rattle.std.specs.Prelude.{◌≡◌, false};
+
+use crate::pieces::{Seek, Wanted};
+use account_core::{Ban, Conclusion, FactHead, Step};
+use account_file::{FileStop, Reader, Record};
+use claim_core::Claim;
+use shelf_files::ReadStop;
+use std::alloc::Global;
+
+/// Takes an account's records, one after another.
+pub(crate) trait Search {
+    /// Takes the next record, and says whether those after it are wanted too.
+    fn next(&mut self, record: Record) -> Wanted;
+}
+
+/// Goes over an account's records as its bytes come.
+#[derive(Drop)]
+pub(crate) struct Records<T: Search + Drop> {
+    text: Text,
+    search: T,
+}
+
+impl<T: Search + Drop> Records<T> {
+    pub(crate) fn new(alloc: Global, search: T) -> Records<T> {
+        Records {
+            text: Text::new(alloc),
+            search,
+        }
+    }
+
+    /// What was looked for, as far as it was found.
+    pub(crate) fn search(&self) -> &T {
+        &self.search
+    }
+}
+
+impl<T: Search + Drop> Seek for Records<T> {
+    fn take(&mut self, alloc: Global, piece: &[u8]) -> Result<Wanted, ReadStop> {
+        if self.text.feed(piece)? == Wanted::Nothing {
+            return Ok(Wanted::Nothing);
+        }
+        // no piece has as many records
+        for _ in 0..u64::MAX {
+            let Some(record) = self.text.next(alloc)? else {
+                return Ok(Wanted::More);
+            };
+            if self.search.next(record) == Wanted::Nothing {
+                return Ok(Wanted::Nothing);
+            }
+        }
+        Ok(Wanted::Nothing)
+    }
+}
+
+/// An account's text, of which more may come.
+#[derive(Drop)]
+struct Text {
+    reader: Reader,
+    /// How many bytes came.
+    fed: u64,
+    ghost unfinished: { reader.finished ≡ false },
+    ghost counted: { reader.total ≡ fed },
+}
+
+impl Text {
+    fn new(alloc: Global) -> Text {
+        Text {
+            reader: Reader::new(alloc),
+            fed: 0,
+        }
+    }
+
+    /// Takes the next bytes, but for those of an account that is too long to be counted.
+    fn feed(&mut self, piece: &[u8]) -> Result<Wanted, ReadStop> {
+        let Some(fed) = self.fed.checked_add(piece.len() as u64) else {
+            return Ok(Wanted::Nothing);
+        };
+        self.reader.feed(piece)?;
+        self.fed = fed;
+        Ok(Wanted::More)
+    }
+
+    /// The next record; None where more bytes are wanted first, or a line isn't good.
+    fn next(&mut self, alloc: Global) -> Result<Option<Record>, ReadStop> {
+        match self.reader.next(alloc) {
+            Ok(record) => Ok(record),
+            Err(FileStop::Fault(_)) => Ok(None),
+            Err(FileStop::Memory) => Err(ReadStop::Memory),
+        }
+    }
+}
+
+/// Looks for the ban that the conclusion names.
+#[derive(Drop)]
+pub(crate) struct ConclusionSearch {
+    /// How many bans came.
+    bans: u64,
+    /// The last ban without pairs, by its number.
+    last: Option<(u64, Step)>,
+    found: bool,
+}
+
+impl ConclusionSearch {
+    pub(crate) fn new() -> ConclusionSearch {
+        ConclusionSearch {
+            bans: 0,
+            last: None,
+            found: false,
+        }
+    }
+
+    /// The step of the ban that the conclusion names.
+    pub(crate) fn step(&self) -> Option<&Step> {
+        match &self.last {
+            Some((_, step)) if self.found => Some(step),
+            _ => None,
+        }
+    }
+
+    fn note_ban(&mut self, ban: Ban) {
+        if ban.pairs.is_empty() {
+            self.last = Some((self.bans, ban.step));
+        }
+        self.bans = self.bans.saturating_add(1);
+    }
+
+    fn is_last(&self, number: u64) -> bool {
+        match &self.last {
+            Some((last, _)) => *last == number,
+            None => false,
+        }
+    }
+}
+
+impl Search for ConclusionSearch {
+    fn next(&mut self, record: Record) -> Wanted {
+        match record {
+            Record::Ban(ban) => self.note_ban(ban),
+            Record::Conclusion(Conclusion::NoneBan(number)) => {
+                self.found = self.is_last(number);
+                return Wanted::Nothing;
+            }
+            Record::Conclusion(_) => return Wanted::Nothing,
+            _ => {}
+        }
+        Wanted::More
+    }
+}
+
+/// Looks for the ban of a number.
+#[derive(Drop)]
+pub(crate) struct BanSearch {
+    /// How many bans come before it.
+    before: u64,
+    ban: Option<Ban>,
+}
+
+impl BanSearch {
+    pub(crate) fn new(number: u64) -> BanSearch {
+        BanSearch {
+            before: number,
+            ban: None,
+        }
+    }
+
+    /// The ban, if it was found.
+    pub(crate) fn ban(&self) -> Option<&Ban> {
+        self.ban.as_ref()
+    }
+}
+
+impl Search for BanSearch {
+    fn next(&mut self, record: Record) -> Wanted {
+        let Record::Ban(ban) = record else {
+            return Wanted::More;
+        };
+        if self.before == 0 {
+            self.ban = Some(ban);
+            return Wanted::Nothing;
+        }
+        self.before -= 1;
+        Wanted::More
+    }
+}
+
+/// Looks for the claims of two facts.
+#[derive(Drop)]
+pub(crate) struct ClaimSearch {
+    /// The facts' numbers.
+    numbers: (u64, u64),
+    /// How many facts came.
+    facts: u64,
+    claims: (Option<Claim>, Option<Claim>),
+}
+
+impl ClaimSearch {
+    pub(crate) fn new(numbers: (u64, u64)) -> ClaimSearch {
+        ClaimSearch {
+            numbers,
+            facts: 0,
+            claims: (None, None),
+        }
+    }
+
+    /// The claims, if both were found.
+    pub(crate) fn claims(&self) -> Option<(Claim, Claim)> {
+        self.claims.0.zip(self.claims.1)
+    }
+}
+
+impl Search for ClaimSearch {
+    fn next(&mut self, record: Record) -> Wanted {
+        let Record::Fact(head) = record else {
+            return Wanted::More;
+        };
+        let claim = claim_of(&head);
+        if self.facts == self.numbers.0 {
+            self.claims.0 = Some(claim);
+        }
+        if self.facts == self.numbers.1 {
+            self.claims.1 = Some(claim);
+        }
+        self.facts = self.facts.saturating_add(1);
+        if self.claims.0.is_some() & self.claims.1.is_some() {
+            return Wanted::Nothing;
+        }
+        Wanted::More
+    }
+}
+
+fn claim_of(head: &FactHead) -> Claim {
+    match head {
+        FactHead::Fails { claim, .. } => *claim,
+        FactHead::Holds { claim } => *claim,
+    }
+}

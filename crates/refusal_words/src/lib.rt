@@ -1,0 +1,14 @@
+//! Why there is no match, in words: by the numbers of ports, or by what the account's last exclusion is about.
+#![tactic(auto)]
+
+mod account_search;
+mod cover;
+mod exclusion;
+mod netlists;
+mod pieces;
+mod refusal;
+mod shown;
+
+pub use pieces::{Seek, Wanted, seek_in};
+pub use refusal::put_refusal;
+pub use shown::Shown;

@@ -1,0 +1,77 @@
+//! Files that are gone over in pieces, and are never whole in memory.
+
+ghost use Rattle.std.specs.Prelude.{ℕ, ◌≡◌, List, OnOk};
+ghost use Rattle.shelf_core.specs.State.{Closed, Reading};
+
+use shelf_core::Shelf;
+use shelf_files::{PIECE, ReadStop, zeros};
+use std::alloc::Global;
+
+/// Whether more of a file is wanted.
+#[derive(Clone, Copy, Debug, PartialEq, Eq)]
+pub enum Wanted {
+    More,
+    Nothing,
+}
+
+/// Whoever looks for something in a file that comes in pieces.
+pub trait Seek {
+    /// Takes the next bytes of the file, and says whether those after them are wanted too.
+    fn take(&mut self, alloc: Global, piece: &[u8]) -> Result<Wanted, ReadStop>;
+}
+
+/// Hands what a name holds to whoever looks for something there, up to the piece after which nothing more is wanted. A file that
+/// isn't there has no bytes.
+pub fn seek_in<S: Shelf, K: Seek>(
+    alloc: Global,
+    shelf: &mut S,
+    name: &str,
+    seeker: &mut K,
+) -> Result<(), ReadStop>
+    requires { (S.state shelf.old).mode ≡ Closed }
+    ensures files { (n : List ℕ) → (S.state shelf.new).held n ≡ (S.state shelf.old).held n }
+    ensures closed { OnOk result ((S.state shelf.new).mode ≡ Closed) }
+{
+    if shelf.open(name)?.is_none() {
+        return Ok(());
+    }
+    seek_in_open(alloc, shelf, seeker)?;
+    Ok(shelf.close()?)
+}
+
+/// Hands what is unread of the open file to a seeker.
+fn seek_in_open<S: Shelf, K: Seek>(
+    alloc: Global,
+    shelf: &mut S,
+    seeker: &mut K,
+) -> Result<(), ReadStop>
+    requires { (S.state shelf.old).mode ≡ Reading }
+    ensures files { (n : List ℕ) → (S.state shelf.new).held n ≡ (S.state shelf.old).held n }
+    ensures reading { OnOk result ((S.state shelf.new).mode ≡ Reading) }
+{
+    let mut piece = zeros(alloc, PIECE)?;
+    for _ in 0..u64::MAX {
+        if seek_in_next(alloc, shelf, &mut piece, seeker)? == Wanted::Nothing {
+            break;
+        }
+    }
+    Ok(())
+}
+
+/// Reads once, and hands what came to a seeker.
+fn seek_in_next<S: Shelf, K: Seek>(
+    alloc: Global,
+    shelf: &mut S,
+    piece: &mut [u8],
+    seeker: &mut K,
+) -> Result<Wanted, ReadStop>
+    requires { (S.state shelf.old).mode ≡ Reading }
+    ensures files { (n : List ℕ) → (S.state shelf.new).held n ≡ (S.state shelf.old).held n }
+    ensures reading { (S.state shelf.new).mode ≡ Reading }
+{
+    let count = shelf.read(piece)?;
+    if count == 0 {
+        return Ok(Wanted::Nothing);
+    }
+    seeker.take(alloc, &piece[..count])
+}
