@@ -8,8 +8,8 @@ use std::alloc::{AllocError, Global};
 use std::fs;
 use std::test::Fail;
 
-/// The soft limit is the first column after the name of its line; a table without such a line sets no limit, nor does one
-/// whose column is no number of 64 bits.
+/// The soft limit is the first column after the name of its line. A table without such a line sets no limit, nor does
+/// one whose column is no number of 64 bits.
 #[test]
 fn reads_the_limit_on_the_size_of_a_file(rt: HostRuntime) {
     let table = [
@@ -98,11 +98,13 @@ fn makes_no_file_twice(rt: HostRuntime) -> Result<(), Fail> {
     write_letter(&mut shelf, name)?;
     assert!(rt; shelf.last_error().is_none());
     fs::hard_link(&rt, name, link)?;
-    for other in [name, "./shelf_core_made_by_a_test", link] {
-        assert!(rt; keeps_what_it_made(rt, &mut shelf, name, other)?);
-        assert!(rt; tells(rt.alloc(), &shelf, other, USED)?, "of {other}");
-    }
-    write_letter(&mut DiskShelf::new(rt), link)?;
+    let path = "./shelf_core_made_by_a_test";
+    assert!(rt; keeps_what_it_made(rt, &mut shelf, name, name)?);
+    assert!(rt; keeps_what_it_made(rt, &mut shelf, name, path)?);
+    assert!(rt; keeps_what_it_made(rt, &mut shelf, name, link)?);
+    assert!(rt; tells(rt.alloc(), &shelf, link, USED)?);
+    let mut another = DiskShelf::new(rt);
+    write_letter(&mut another, link)?;
     fs::remove_file(&rt, name)?;
     fs::remove_file(&rt, link)?;
     Ok(())
