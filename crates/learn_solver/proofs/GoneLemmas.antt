@@ -1,9 +1,9 @@
 -- A search goes back with a learned line.
-use Rattle.std.proofs.Common.{◌≡◌, ℕ, zero, suc, ◌*◌, ◌<◌, ◌≤◌, cond, Bool, true, List, [], ◌∷◌, ◌++◌, length, filter, take, nat_le, slice_index_or, inl, inr, refl, sym, ◌∙◌, ap, subst, arith}
+use Rattle.std.proofs.Common.{◌≡◌, ℕ, ◌*◌, ◌<◌, true, List, [], ◌∷◌, ◌++◌, length, inl, inr, refl, sym, ◌∙◌, ap, subst, arith}
 use Rattle.std.specs.List.{list_all}
-use Rattle.std.proofs.lemmas.Bool.{cases_Bool, cases_eq, cases_lt, le-leb, leb-true}
-use Rattle.std.proofs.lemmas.List.{get_or_append_left, get_or_at, get_or-take, length-append, length-take, take-map, take-take}
-use Rattle.std.proofs.lemmas.List.Elements.{All-contains, filter_passes}
+use Rattle.std.proofs.lemmas.Bool.{cases_eq, cases_lt}
+use Rattle.std.proofs.lemmas.List.{get_or_append_left, get_or_at, length-append}
+use Rattle.std.proofs.lemmas.List.Elements.{All-contains}
 use Rattle.std.proofs.lemmas.List.Recursion.{and_at}
 use Rattle.std.proofs.lemmas.Map.Views.{Contains-from_any}
 use Rattle.cnf_core.specs.declared.literal.SatLit.{SatLit}
@@ -11,51 +11,18 @@ use Rattle.cnf_core.specs.Clauses.{clause_at, opposite, variable_of}
 use Rattle.cnf_core.specs.declared.effect.Effect.TheVariants.{Conflict}
 use Rattle.cnf_core.specs.Derivations.{effect_of, is_false, is_true}
 use Rattle.trail_core.specs.declared.assigned.Assigned.{Assigned}
-use Rattle.trail_core.specs.Trails.{IsTrail, Trailing, entry_at, literals, nothing}
+use Rattle.trail_core.specs.Trails.{IsBack, IsTrail, Trailing, entry_at, literals}
+use Rattle.trail_core.proofs.BackLemmas.{front_at, front_within, kept_at, low_at}
 use Rattle.trail_core.proofs.TrailLemmas.{place_of_true, same_place}
 use Rattle.watch_lists.specs.Feet.{IsReached}
-use Rattle.watch_lists.specs.Propagations.{IsGrown, IsJustified, IsSound, before}
+use Rattle.watch_lists.specs.Propagations.{AreImplied, IsGrown, IsJustified, IsSound, before}
 use Rattle.watch_lists.specs.Watched.{Fits, IsCovered, IsPresent, IsRewatched, IsRooted, Watching, loose_watch, with_clause}
 use Rattle.watch_lists.proofs.AttachLemmas.{attached_longer}
 use Rattle.watch_lists.proofs.EffectLemmas.{conflict_says, same_literal}
+use Rattle.watch_lists.proofs.GrowLemmas.{before_take, grown_at, sound_rewatched}
+use Rattle.watch_lists.proofs.KeepLemmas.{fits_back}
 use Rattle.learn_solver.specs.Analyses.{IsAsserting}
-use Rattle.learn_solver.specs.Starts.{IsBack, IsFitting}
-
--- what stands before a place of the front
-before_front : (es : List Assigned) (n k : ℕ) → k ≤ n → before (take n es) k ≡ before es k
-before_front es n k low = ap (take k) (sym (take-map (λ (e : Assigned). e.literal) n es)) ∙ take-take k n (literals es) low
-
--- what passes a test is kept by a filter
-filter_keeps : {X : Type 0} (p : X → Bool) (xs : List X) (i : ℕ) (d : X) → i < length xs → p (slice_index_or xs i d) ≡ true → (k : ℕ) × (k < length (filter p xs)) × (slice_index_or (filter p xs) k d ≡ slice_index_or xs i d)
-filter_keeps {X} p [] i d within passes = absurd (omega (arith, within))
-filter_keeps {X} p (x ∷ xs) zero d within passes =
-    (0, subst (λ ys. 0 < length ys) (sym (ap (λ b. cond b (x ∷ filter p xs) (filter p xs)) passes)) (omega arith), ap (λ b. slice_index_or (cond b (x ∷ filter p xs) (filter p xs)) 0 d) passes)
-filter_keeps {X} p (x ∷ xs) (suc i) d within passes =
-    let rest = filter_keeps p xs i d (omega (arith, within)) passes in
-    elim (cases_Bool (p x)) [
-      | inl yes_x ↦ (suc rest.0, subst (λ ys. suc rest.0 < length ys) (sym (ap (λ b. cond b (x ∷ filter p xs) (filter p xs)) yes_x)) (omega (arith, rest.1)), ap (λ b. slice_index_or (cond b (x ∷ filter p xs) (filter p xs)) (suc rest.0) d) yes_x ∙ rest.2)
-      | inr no_x ↦ (rest.0, subst (λ ys. rest.0 < length ys) (sym (ap (λ b. cond b (x ∷ filter p xs) (filter p xs)) no_x)) rest.1, ap (λ b. slice_index_or (cond b (x ∷ filter p xs) (filter p xs)) rest.0 d) no_x ∙ rest.2)
-    ]
-
--- what stands after going back stood there before, at a level that isn't greater
-pub front_at : (old back : Trailing) (level : ℕ) → IsBack old back level → (k : ℕ) → k < length back.entries → entry_at back.entries k ≡ entry_at old.entries k
-front_at old back level is k within =
-    ap (λ es. entry_at es k) is.front ∙ get_or-take (length back.entries) old.entries k nothing within
-
-pub front_within : (old back : Trailing) (level : ℕ) → IsBack old back level → (k : ℕ) → k < length back.entries → k < length old.entries
-front_within old back level is k within =
-    omega (arith, within, ap length is.front, length-take (length back.entries) old.entries)
-
-pub low_at : (old back : Trailing) (level : ℕ) → IsBack old back level → (k : ℕ) → k < length back.entries → (entry_at back.entries k).level ≤ level
-low_at old back level is k within =
-    let passes = filter_passes (λ (e : Assigned). nat_le e.level level) old.entries k nothing (subst (λ (es : List Assigned). k < length es) is.entries within) in
-    leb-true (entry_at back.entries k).level level (ap (λ (es : List Assigned). nat_le (entry_at es k).level level) is.entries ∙ passes)
-
--- and what is of such a level still stands
-pub kept_at : (old back : Trailing) (level : ℕ) → IsBack old back level → (i : ℕ) → i < length old.entries → (entry_at old.entries i).level ≤ level → (k : ℕ) × (k < length back.entries) × (entry_at back.entries k ≡ entry_at old.entries i)
-kept_at old back level is i within low =
-    let found = filter_keeps (λ (e : Assigned). nat_le e.level level) old.entries i nothing within (le-leb (entry_at old.entries i).level level low) in
-    (found.0, subst (λ (es : List Assigned). found.0 < length es) (sym is.entries) found.1, ap (λ es. entry_at es found.0) is.entries ∙ found.2)
+use Rattle.learn_solver.specs.Starts.{IsFitting}
 
 -- all is walked, since what isn't is of the level that is left
 pub back_walked : (old back : Trailing) (level : ℕ) → IsBack old back level → IsPresent old → level < old.level → back.walked ≡ length back.entries
@@ -69,23 +36,6 @@ back_walked old back level is present lower = elim (cases_lt old.walked (length 
 pub back_present : (old back : Trailing) (level : ℕ) → IsBack old back level → IsPresent old → level < old.level → IsPresent back
 back_present old back level is present lower = record {
   present = λ k late within. absurd (omega (arith, late, within, back_walked old back level is present lower));
-}
-
--- what fits a trail fits it after going back
-pub back_fits : (watching : Watching) (old back : Trailing) (level : ℕ) → IsBack old back level → Fits watching old → Fits watching back
-back_fits watching old back level is fits = record {
-  variables = is.variables ∙ fits.variables;
-  watched = λ s within attached j early inside at.
-      let same = front_at old back level is j inside in
-      let held = fits.watched s within attached j (omega (arith, early, is.walked)) (front_within old back level is j inside) (sym (ap (λ (e : Assigned). e.literal.0) same) ∙ at) in
-      let low = low_at old back level is j inside in
-      let still = kept_at old back level is held.at held.within (omega (arith, held.low, low, ap (λ (e : Assigned). e.level) same)) in
-      record {
-        at = still.0;
-        within = still.1;
-        is = ap (λ (e : Assigned). e.literal.0) still.2 ∙ held.is;
-        low = omega (arith, held.low, ap (λ (e : Assigned). e.level) still.2, ap (λ (e : Assigned). e.level) same);
-      };
 }
 
 -- a literal that is true at level 0 stays so
@@ -115,7 +65,7 @@ back_reached old back level clause is asserting above =
 
 pub rooted_grown : (old new : Trailing) (clause : List SatLit) → IsGrown old new → IsRooted old.entries clause → IsRooted new.entries clause
 rooted_grown old new clause grown rooted =
-    let same : entry_at new.entries rooted.at ≡ entry_at old.entries rooted.at = sym (get_or-take (length old.entries) new.entries rooted.at nothing rooted.within) ∙ ap (λ es. entry_at es rooted.at) grown.kept in
+    let same = grown_at old new grown rooted.at rooted.within in
     record {
       at = rooted.at;
       within = omega (arith, rooted.within, grown.longer);
@@ -159,11 +109,11 @@ back_covered w clause old back level id size is there (inr rooted) =
     inr (subst (IsRooted back.entries) (sym (get_or_append_left w.clauses (clause ∷ []) [] id there)) (back_rooted old back level (clause_at w.clauses id) is rooted))
 
 -- a search that went back
-pub gone : (w after : Watching) (clause : List SatLit) (old back new : Trailing) (level : ℕ) → IsFitting w old → length w.watches ≡ 2 * length w.clauses → IsBack old back level → IsRewatched (with_clause clause w) after → Fits after new → IsPresent new → IsSound after.clauses new → IsGrown back new → IsCovered after new.entries (length w.clauses) → IsFitting after new
-gone w after clause old back new level fitting size is rewatched fits present sound grown last = record {
+pub gone : (w after : Watching) (clause : List SatLit) (old back new : Trailing) (level : ℕ) → IsFitting w old → length w.watches ≡ 2 * length w.clauses → IsBack old back level → IsRewatched (with_clause clause w) after → Fits after new → IsPresent new → IsSound (with_clause clause w).clauses back → AreImplied (with_clause clause w).clauses back new → IsGrown back new → IsCovered after new.entries (length w.clauses) → IsFitting after new
+gone w after clause old back new level fitting size is rewatched fits present sound implied grown last = record {
   fits = fits;
   present = present;
-  sound = sound;
+  sound = sound_rewatched (with_clause clause w) after back new rewatched sound grown implied;
   covered = λ id within.
       let count = length-append w.clauses (clause ∷ []) in
       elim (cases_eq id (length w.clauses)) [
@@ -179,7 +129,7 @@ gone w after clause old back new level fitting size is rewatched fits present so
 -- what is justified stays so after going back
 pub justified_back : (clauses : List (List SatLit)) (old back : Trailing) (level : ℕ) → IsBack old back level → (k : ℕ) → k < length back.entries → IsJustified clauses (before old.entries k) (entry_at old.entries k).literal (entry_at old.entries k).reason → IsJustified clauses (before back.entries k) (entry_at back.entries k).literal (entry_at back.entries k).reason
 justified_back clauses old back level is k within justified =
-    let made : before back.entries k ≡ before old.entries k = ap (λ es. before es k) is.front ∙ before_front old.entries (length back.entries) k (omega (arith, within)) in
+    let made : before back.entries k ≡ before old.entries k = ap (λ es. before es k) is.front ∙ before_take old.entries (length back.entries) k (omega (arith, within)) in
     let e = entry_at old.entries k in
     subst (λ (x : Assigned). IsJustified clauses (before back.entries k) x.literal x.reason) (sym (front_at old back level is k within)) (subst (λ m. IsJustified clauses m e.literal e.reason) (sym made) justified)
 
@@ -190,7 +140,7 @@ back_sound clauses old back level is sound = record {
 
 pub fitting_back : (w : Watching) (old back : Trailing) (level : ℕ) → IsFitting w old → IsBack old back level → level < old.level → IsFitting w back
 fitting_back w old back level fitting is lower = record {
-  fits = back_fits w old back level is fitting.fits;
+  fits = fits_back w old back level fitting.fits is;
   present = back_present old back level is fitting.present lower;
   sound = back_sound w.clauses old back level is fitting.sound;
   covered = λ id there. elim (fitting.covered id there) [

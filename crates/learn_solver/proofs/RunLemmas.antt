@@ -9,14 +9,15 @@ use Rattle.cnf_core.specs.declared.effect.Effect.TheVariants.{Neither}
 use Rattle.cnf_core.specs.Clauses.{clause_at, AreKnown}
 use Rattle.cnf_core.specs.Derivations.{clauses_of, effect_of, is_empty, is_true, line_fault}
 use Rattle.trail_core.specs.declared.assigned.Assigned.{Assigned}
-use Rattle.trail_core.specs.Trails.{IsTrail, Trailing, entry_at, literals, nothing}
+use Rattle.trail_core.specs.Trails.{IsTrail, Trailing, entry_at, literals, nothing, with_decision}
+use Rattle.trail_core.proofs.BackLemmas.{front_at, front_within, low_at}
 use Rattle.trail_core.proofs.TrailLemmas.{true_at}
-use Rattle.watch_lists.specs.Propagations.{IsGrown, IsJustified, IsQuiet, IsSound, before}
+use Rattle.watch_lists.specs.Propagations.{AreImplied, IsGrown, IsJustified, IsQuiet, before}
 use Rattle.watch_lists.specs.Watched.{AreQuiet, Fits, IsCovered, IsPresent, IsRewatched, Watching}
-use Rattle.watch_lists.proofs.AttachLemmas.{fits_grown}
 use Rattle.watch_lists.proofs.EffectLemmas.{neither_true}
 use Rattle.watch_lists.proofs.FitLemmas.{true_not_false}
-use Rattle.watch_lists.proofs.GrowLemmas.{sound_more}
+use Rattle.watch_lists.proofs.GrowLemmas.{sound_more, sound_rewatched}
+use Rattle.watch_lists.proofs.KeepLemmas.{fits_decided}
 use Rattle.learn_solver.specs.declared.focus.Focus.{Focus}
 use Rattle.learn_solver.specs.declared.restarts.Restarts.{Restarts}
 use Rattle.learn_solver.specs.declared.search.Search.{Search}
@@ -26,7 +27,7 @@ use Rattle.learn_solver.specs.Searches.{CanReturn, CanTurn, HasReturned, HasTurn
 use Rattle.learn_solver.specs.Solvers.{IsSolver, Solving, active}
 use Rattle.learn_solver.specs.Starts.{IsFitting, IsSoundBack, StayTools}
 use Rattle.learn_solver.proofs.AdvanceLemmas.{running_from, unrefuted_more}
-use Rattle.learn_solver.proofs.GoneLemmas.{covered_grown, front_at, front_within, justified_back, low_at}
+use Rattle.learn_solver.proofs.GoneLemmas.{covered_grown, justified_back}
 use Rattle.learn_solver.proofs.SolverLemmas.{line_known, solver_more}
 
 -- where the attached clauses are quiet, all are
@@ -42,11 +43,11 @@ all_quiet_if watching t None trail covered quiet = λ k d within.
     ])
 
 -- what was propagated fits
-pub fitting_on : (before after : Watching) (old new : Trailing) → IsFitting before old → IsRewatched before after → Fits after new → IsPresent new → IsSound after.clauses new → IsGrown old new → IsFitting after new
-fitting_on before after old new is rewatched fits present sound grown = record {
+pub fitting_on : (before after : Watching) (old new : Trailing) → IsFitting before old → IsRewatched before after → Fits after new → IsPresent new → AreImplied before.clauses old new → IsGrown old new → IsFitting after new
+fitting_on before after old new is rewatched fits present implied grown = record {
   fits = fits;
   present = present;
-  sound = sound;
+  sound = sound_rewatched before after old new rewatched is.sound grown implied;
   covered = λ id within. covered_grown before after old new id (omega (arith, within, ap length rewatched.clauses)) rewatched grown (is.covered id (omega (arith, within, ap length rewatched.clauses)));
 }
 
@@ -81,10 +82,10 @@ running_same s old new is same = running_again s old new is (record {
 })
 
 -- after a decision
-pub decided_on : (s : Solving) (old new : Trailing) (w : Watching) (tools tools_new : Tools) (l : SatLit) → IsRunning s old w tools → StayTools tools tools_new → IsQuiet (active s.formula s.ids s.lines) (literals old.entries) → old.walked ≡ length old.entries → new ≡ record old { entries = old.entries ++ record { literal = l; level = old.level + 1; reason = None } ∷ []; level = old.level + 1 } → length old.entries < old.variables → IsDecided s old new w tools_new
+pub decided_on : (s : Solving) (old new : Trailing) (w : Watching) (tools tools_new : Tools) (l : SatLit) → IsRunning s old w tools → StayTools tools tools_new → IsQuiet (active s.formula s.ids s.lines) (literals old.entries) → old.walked ≡ length old.entries → new ≡ with_decision old l → length old.entries < old.variables → IsDecided s old new w tools_new
 decided_on s old new w tools tools_new l is stay quiet walked new_is room = subst (λ (t : Trailing). IsDecided s old t w tools_new) (sym new_is) (record {
   running = running_from s (record { trail = decided; watches = w; tools = tools_new }) (record {
-    fits = record { variables = fits.variables; watched = fits.watched };
+    fits = fits_decided w old l is.fitting.fits (omega (arith, walked));
     present = record {
       present = λ k late within. ap (λ (x : Assigned). x.level) (get_or_at old.entries e [] nothing k (omega (arith, late, within, size, walked)));
     };
@@ -109,13 +110,10 @@ decided_on s old new w tools tools_new l is stay quiet walked new_is room = subs
     e = record { literal = l; level = old.level + 1; reason = None }
 
     decided : Trailing
-    decided = record old { entries = old.entries ++ e ∷ []; level = old.level + 1 }
+    decided = with_decision old l
 
     size : length (old.entries ++ e ∷ []) ≡ length old.entries + 1
     size = length-append old.entries (e ∷ [])
-
-    fits : Fits w (record old { entries = old.entries ++ e ∷ [] })
-    fits = fits_grown w old (record old { entries = old.entries ++ e ∷ [] }) e is.fitting.fits (omega (arith, walked)) refl
 
 -- ---- going back with a learned line
 

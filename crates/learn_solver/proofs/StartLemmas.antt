@@ -1,16 +1,22 @@
 -- A search begins: its clauses are added, and attached one after the other.
-use Rattle.std.proofs.Common.{◌≡◌, ℕ, ◌<◌, false, List, [], ◌++◌, length, take, All, replicate, slice_index_or, refl, sym, ◌∙◌, ap, subst, arith}
+use Rattle.std.proofs.Common.{◌≡◌, ◌≢◌, ℕ, ◌+◌, ◌*◌, ◌<◌, false, List, [], ◌++◌, length, take, All, replicate, slice_index_or, Option, None, Some, IfNone, is_some, inl, inr, refl, sym, ◌∙◌, ap, subst, arith}
+use Rattle.std.proofs.lemmas.Bool.{cases_eq, false≢true}
 use Rattle.std.proofs.lemmas.List.{get_or-map, length-map}
 use Rattle.cnf_core.specs.declared.literal.SatLit.{SatLit}
 use Rattle.cnf_core.specs.declared.log.LogLine.{LogLine}
 use Rattle.cnf_core.specs.Clauses.{Formula}
 use Rattle.cnf_core.specs.Derivations.{AreDerived, clauses_of}
 use Rattle.trail_core.specs.Trails.{Trailing}
-use Rattle.watch_lists.specs.Watched.{Watching}
+use Rattle.watch_lists.specs.Propagations.{AreImplied, IsGrown}
+use Rattle.watch_lists.specs.Threads.{IsAttached}
+use Rattle.watch_lists.specs.Watched.{AreLoose, Fits, IsCovered, IsPresent, IsRewatched, Watching}
 use Rattle.learn_solver.specs.Solvers.{ArePut, HaveVariables, Solving}
 use Rattle.learn_solver.specs.declared.search.Tools.{Tools}
 use Rattle.learn_solver.specs.Orders.{IsOrder}
-use Rattle.learn_solver.specs.Starts.{AreIdle, AreLoose, IsBegun, IsStarting}
+use Rattle.learn_solver.specs.Starts.{AreIdle, IsBegun, IsStarting}
+use Rattle.watch_lists.proofs.GrowLemmas.{sound_rewatched}
+use Rattle.watch_lists.proofs.KeepLemmas.{fits_loose}
+use Rattle.learn_solver.proofs.GoneLemmas.{covered_grown}
 use Rattle.learn_solver.proofs.SolverLemmas.{solver_new}
 
 -- nothing is attached yet
@@ -18,13 +24,36 @@ pub starting : (watching : Watching) (trail : Trailing) → AreIdle watching tra
 starting watching trail idle = subst (λ t. IsStarting watching watching t 0) (sym idle.empty) (record {
   variables = refl;
   clauses = refl;
-  fits = record { variables = refl; watched = λ s within attached j early. absurd (omega (arith, early)) };
+  fits = fits_loose watching (record { variables = watching.variables; entries = []; level = 0; walked = 0 }) idle.loose refl;
   present = record { present = λ k late within. absurd (omega (arith, within)) };
   sound = record { justified = λ k within. absurd (omega (arith, within)) };
   lowest = refl;
   covered = λ id low. absurd (omega (arith, low));
   loose = idle.loose;
 })
+
+-- where there is no answer
+of_none : {P : Type 0} (r : Option ℕ) → is_some r ≡ false → IfNone r P → P
+of_none {P} None none holds = holds
+of_none {P} (Some x) none holds = absurd (false≢true (sym none))
+
+-- one clause more is attached
+pub starting_more : (old mid now : Watching) (trail new : Trailing) (id : ℕ) (r : Option ℕ) → is_some r ≡ false → IsStarting old mid trail id → id < length mid.clauses → IsRewatched mid now → ((t : ℕ) → t ≢ id → IsAttached now.watches (2 * t) → IsAttached mid.watches (2 * t)) → Fits now new → IsPresent new → AreImplied mid.clauses trail new → IsGrown trail new → IfNone r (IsCovered now new.entries id) → IsStarting old now new (id + 1)
+starting_more old mid now trail new id r none is there rewatched others fits present implied grown last = record {
+  variables = rewatched.variables ∙ is.variables;
+  clauses = rewatched.clauses ∙ is.clauses;
+  fits = fits;
+  present = present;
+  sound = sound_rewatched mid now trail new rewatched is.sound grown implied;
+  lowest = grown.level ∙ is.lowest;
+  covered = λ t low. elim (cases_eq t id) [
+    | inl here ↦ subst (IsCovered now new.entries) (sym here) (of_none r none last)
+    | inr other ↦
+        let early : t < id = omega (arith, low, other) in
+        covered_grown mid now trail new t (omega (arith, early, there)) rewatched grown (is.covered t early)
+  ];
+  loose = λ t late attached. is.loose t (omega (arith, late)) (others t (λ here. omega (arith, late, here)) attached);
+}
 
 -- the clauses of numbers are added
 pub record IsPutting (formula : Formula) (ids : List ℕ) (watching : Watching) : Type 0 where

@@ -1,18 +1,13 @@
 -- A search that begins: its clauses are attached one after the other.
-use Rattle.std.specs.Prelude.{◌≡◌, ℕ, ◌*◌, ◌<◌, ◌≤◌, ◌++◌, ◌∷◌, false, List, [], filter, length, min, nat_le, replicate, take}
+use Rattle.std.specs.Prelude.{◌≡◌, ℕ, ◌<◌, ◌++◌, ◌∷◌, false, List, [], length, replicate}
 use Rattle.cnf_core.specs.declared.literal.SatLit.{SatLit}
-use Rattle.trail_core.specs.Trails.{Trailing, literals}
+use Rattle.trail_core.specs.Trails.{IsBack, Trailing, literals}
 use Rattle.watch_lists.specs.Propagations.{IsConflict, IsSound}
-use Rattle.watch_lists.specs.Threads.{IsAttached}
-use Rattle.watch_lists.specs.Watched.{Fits, IsCovered, IsPresent, Watching}
+use Rattle.watch_lists.specs.Watched.{AreLoose, Fits, IsCovered, IsPresent, Watching}
 use Rattle.cnf_core.specs.Clauses.{Formula}
 use Rattle.learn_solver.specs.declared.search.Tools.{Tools}
 use Rattle.learn_solver.specs.Orders.{IsOrder}
 use Rattle.learn_solver.specs.Solvers.{HaveVariables, IsSolver, Solving, wanted}
-
--- no clause from this number on is attached
-abbrev pub AreLoose : Watching → ℕ → Type 0
-AreLoose watching from = (id : ℕ) → from ≤ id → IsAttached watching.watches (2 * id) → ⊥
 
 -- The first clauses were attached, at level 0.
 pub record IsStarting (old now : Watching) (trail : Trailing) (count : ℕ) : Type 0 where
@@ -48,10 +43,6 @@ pub record IsBegun (solving : Solving) (trail : Trailing) (watching : Watching) 
   pub idle : AreIdle watching trail
   pub tools_are : AreTools solving.formula solving.ids tools
 
--- no clause is attached
-abbrev pub AreAllLoose : Watching → Type 0
-AreAllLoose watching = AreLoose watching 0
-
 -- All literals of a clause are false at level 0.
 pub record IsStuck (old now : Watching) (trail : Trailing) (id : ℕ) : Type 0 where
   pub clauses : now.clauses ≡ old.clauses
@@ -66,14 +57,6 @@ pub record IsFitting (watching : Watching) (trail : Trailing) : Type 0 where
   pub present : IsPresent trail
   pub sound : IsSound watching.clauses trail
   pub covered : (id : ℕ) → id < length watching.clauses → IsCovered watching trail.entries id
-
--- A trail after going back.
-pub record IsBack (old back : Trailing) (level : ℕ) : Type 0 where
-  pub variables : back.variables ≡ old.variables
-  pub entries : back.entries ≡ filter (λ e. nat_le e.level level) old.entries
-  pub front : back.entries ≡ take (length back.entries) old.entries
-  pub level_is : back.level ≡ level
-  pub walked : back.walked ≡ min old.walked (length back.entries)
 
 -- with one clause more, the trail is sound at a level to go back to
 abbrev pub IsSoundBack : Watching → List SatLit → Trailing → ℕ → Type 0

@@ -3,11 +3,12 @@
 ghost use Rattle.std.specs.Prelude.{◌≡◌, ◌<◌, ◌≤◌, ◌++◌, ◌∷◌, [], false, IfOk, IfNone, IfSome, OnOk, All, length};
 ghost use Rattle.std.specs.List.{list_any};
 ghost use Rattle.cnf_core.specs.Derivations.{AreDerived, clauses_of, is_empty};
-ghost use Rattle.trail_core.specs.Trails.{IsFree, literals};
+ghost use Rattle.trail_core.specs.Trails.{IsBack, IsFree, literals};
 ghost use Rattle.learn_solver.specs.Searches.{CanReturn, CanTurn, HasReturned, HasTurned, IsAssigned};
 ghost use Rattle.watch_lists.specs.Propagations.{IsConflict, IsGrown, IsQuiet};
+ghost use Rattle.watch_lists.specs.Watched.{AreAllLoose};
 ghost use Rattle.cnf_core.specs.Clauses.{AreKnown};
-ghost use Rattle.learn_solver.specs.Starts.{AreAllLoose, AreIdle, IsBack, IsBegun, IsFitting, IsStarting, IsStuck, StayTools};
+ghost use Rattle.learn_solver.specs.Starts.{AreIdle, IsBegun, IsFitting, IsStarting, IsStuck, StayTools};
 ghost use Rattle.learn_solver.specs.Orders.{IsOrder};
 ghost use Rattle.learn_solver.specs.Solvers.{ArePut};
 

@@ -8,7 +8,7 @@ use Rattle.std.proofs.lemmas.List.Sums.{sum_by-take-le}
 use Rattle.std.specs.declared.alloc.Global.{Global}
 use Rattle.cnf_core.specs.Clauses.{variable_of}
 use Rattle.trail_core.specs.declared.assigned.Assigned.{Assigned}
-use Rattle.trail_core.specs.Trails.{IsTrail, IsPlace, IsCutAt, Trailing, decisions, entry_at, nothing}
+use Rattle.trail_core.specs.Trails.{IsTrail, IsBack, IsPlace, IsCutAt, Trailing, decisions, entry_at, nothing}
 use Rattle.trail_core.specs.Places.{IsKept, IsUnset, place_at}
 use Rattle.trail_core.proofs.TrailLemmas.{decisions_more}
 
@@ -40,7 +40,7 @@ passes_none p (x ∷ xs) none =
     ap (λ t. cond t (x ∷ filter p xs) (filter p xs)) (All-head (λ x. p x ≡ false) x xs none) ∙ passes_none p xs (All-tail (λ x. p x ≡ false) x xs none)
 
 -- what is kept is what has no greater level
-pub kept_is_filter : (t : Trailing) → IsTrail t → (level kept : ℕ) → IsCutAt level t.entries kept → take kept t.entries ≡ filter (λ e. nat_le e.level level) t.entries
+kept_is_filter : (t : Trailing) → IsTrail t → (level kept : ℕ) → IsCutAt level t.entries kept → take kept t.entries ≡ filter (λ e. nat_le e.level level) t.entries
 kept_is_filter t is level kept cut =
     let es = t.entries in
     let p : Assigned → Bool = λ e. nat_le e.level level in
@@ -59,6 +59,18 @@ kept_is_filter t is level kept cut =
         let inside : kept + k < length t.entries = omega (arith, h, length-drop kept t.entries) in
         let there = get_or-drop kept t.entries k d ∙ get_or_default t.entries (kept + k) d nothing inside in
         ap (λ (e : Assigned). nat_le e.level level) there ∙ lt-leb (entry_at t.entries (kept + k)).level level (cut.dropped (kept + k) (omega arith) inside)
+
+-- so it is gone back to the level
+pub cut_back : (t old back : Trailing) → IsTrail t → t ≡ old → (level kept : ℕ) → IsCutAt level t.entries kept → back.variables ≡ t.variables → back.entries ≡ take kept t.entries → back.level ≡ level → back.walked ≡ min t.walked kept → IsBack old back level
+cut_back t old back is same level kept cut variables entries level_is walked =
+    let size : length back.entries ≡ kept = ap length entries ∙ length-take-le kept t.entries cut.within in
+    subst (λ x. IsBack x back level) same (record {
+      variables = variables;
+      entries = entries ∙ kept_is_filter t is level kept cut;
+      front = entries ∙ ap (λ n. take n t.entries) (sym size);
+      level_is = level_is;
+      walked = walked ∙ ap (min t.walked) (sym size);
+    })
 
 one_at_most : (r : Option ℕ) → cond (is_none r) 1 0 ≤ 1
 one_at_most None = omega arith

@@ -1,2 +1,3 @@
 pub mod TrailLemmas
 pub mod CutLemmas
+pub mod BackLemmas

@@ -1,6 +1,6 @@
 -- Trails: assigned literals in order, with levels and reasons (the implication graph of Marques-Silva and Sakallah,
 -- GRASP, 1999; the trail of Eén and Sörensson, MiniSat, 2003).
-use Rattle.std.specs.Prelude.{◌≡◌, ◌≢◌, ℕ, ◌+◌, ◌-◌, ◌<◌, ◌≤◌, Bool, true, false, List, length, map, take, Option, None, Some, count_by, is_none, slice_index_or, if◌then◌else◌}
+use Rattle.std.specs.Prelude.{◌≡◌, ◌≢◌, ℕ, ◌+◌, ◌-◌, ◌<◌, ◌≤◌, ◌++◌, ◌∷◌, [], Bool, true, false, List, length, map, take, filter, min, nat_le, Option, None, Some, count_by, is_none, slice_index_or, if◌then◌else◌}
 use Rattle.cnf_core.specs.declared.literal.SatLit.{SatLit}
 use Rattle.cnf_core.specs.Clauses.{variable_of}
 use Rattle.cnf_core.specs.Derivations.{is_true, is_false}
@@ -59,3 +59,24 @@ pub record IsCutAt (level : ℕ) (entries : List Assigned) (kept : ℕ) : Type 0
   pub within : kept ≤ length entries
   pub dropped : (k : ℕ) → kept ≤ k → k < length entries → level < (entry_at entries k).level
   pub last : 0 < kept → (entry_at entries (kept - 1)).level ≤ level
+
+-- one literal more, as a decision: it begins a level
+abbrev pub with_decision : Trailing → SatLit → Trailing
+with_decision trail literal = record trail {
+  entries = trail.entries ++ record { literal = literal; level = trail.level + 1; reason = None } ∷ [];
+  level = trail.level + 1;
+}
+
+-- one literal more at the present level, by this clause
+abbrev pub with_assigned : Trailing → SatLit → ℕ → Trailing
+with_assigned trail literal reason = record trail {
+  entries = trail.entries ++ record { literal = literal; level = trail.level; reason = Some reason } ∷ [];
+}
+
+-- A trail after going back to a level: what has a greater level was taken off.
+pub record IsBack (old back : Trailing) (level : ℕ) : Type 0 where
+  pub variables : back.variables ≡ old.variables
+  pub entries : back.entries ≡ filter (λ entry. nat_le entry.level level) old.entries
+  pub front : back.entries ≡ take (length back.entries) old.entries
+  pub level_is : back.level ≡ level
+  pub walked : back.walked ≡ min old.walked (length back.entries)

@@ -2,7 +2,7 @@
 
 ghost use Rattle.std.specs.Prelude.{◌≡◌, ◌≢◌, ◌+◌, ◌^◌, ◌<◌, ◌≤◌, ◌++◌, ◌∷◌, [], None, Some, IfOk, IfSome, IfNone, All, length, take, drop, filter, min, replicate, nat_le, ◌==◌, is_none, if◌then◌else◌, slice_set, vec_len, vec_capacity};
 ghost use Rattle.cnf_core.specs.Clauses.{variable_of};
-ghost use Rattle.trail_core.specs.Trails.{IsTrail, IsPlace, IsFree, IsCutAt, entry_at, literals, value_in};
+ghost use Rattle.trail_core.specs.Trails.{IsTrail, IsPlace, IsFree, IsCutAt, IsBack, entry_at, literals, value_in, with_assigned, with_decision};
 ghost use Rattle.trail_core.specs.Places.{IsUnset};
 
 use crate::assigned::Assigned;
@@ -65,10 +65,7 @@ impl Trail {
     /// Assigns a literal as a decision: it begins a level.
     pub fn decide(&mut self, lit: SatLit)
         requires { IsFree self.old lit }
-        ensures decided { let level = self.old.level + 1 in self.new ≡ record self.old {
-          entries = self.old.entries ++ record { literal = lit; level = level; reason = None } ∷ [];
-          level = level;
-        } }
+        ensures decided { self.new ≡ with_decision self.old lit }
         ensures most { length self.old.entries < self.old.variables }
     {
         let level = self.level + 1;
@@ -82,9 +79,7 @@ impl Trail {
     /// Assigns a literal at the present level, by the clause that leaves nothing else.
     pub fn assign(&mut self, lit: SatLit, reason: u64)
         requires { IsFree self.old lit }
-        ensures { self.new ≡ record self.old {
-          entries = self.old.entries ++ record { literal = lit; level = self.old.level; reason = Some reason } ∷ [];
-        } }
+        ensures { self.new ≡ with_assigned self.old lit reason }
     {
         let level = self.level;
         self.push(Assigned {
@@ -124,11 +119,7 @@ impl Trail {
     /// Takes off what has a greater level, which becomes the present one.
     pub fn back_to(&mut self, level: u64)
         requires { level ≤ self.old.level }
-        ensures variables { self.new.variables ≡ self.old.variables }
-        ensures entries { self.new.entries ≡ filter (λ entry. nat_le entry.level level) self.old.entries }
-        ensures front { self.new.entries ≡ take (length self.new.entries) self.old.entries }
-        ensures level { self.new.level ≡ level }
-        ensures walked { self.new.walked ≡ min self.old.walked (length self.new.entries) }
+        ensures { IsBack self.old self.new level }
     {
         let kept = kept_at(&self.entries, level);
         unset(&mut self.places, &self.entries[kept..]);

@@ -7,15 +7,15 @@ use Rattle.cnf_core.specs.declared.literal.SatLit.{SatLit}
 use Rattle.cnf_core.specs.Clauses.{clause_at, opposite, variable_of, AreKnown}
 use Rattle.cnf_core.specs.Derivations.{is_empty, is_true}
 use Rattle.trail_core.specs.declared.assigned.Assigned.{Assigned}
-use Rattle.trail_core.specs.Trails.{Trailing, entry_at, nothing}
+use Rattle.trail_core.specs.Trails.{Trailing, entry_at}
 use Rattle.watch_lists.specs.declared.threads.ThreadedWatch.{ThreadedWatch}
 use Rattle.watch_lists.specs.declared.threads.Head.{Head}
 use Rattle.watch_lists.specs.Feet.{ArePair, IsSettled}
-use Rattle.watch_lists.specs.Propagations.{IsSound}
+use Rattle.watch_lists.specs.Propagations.{AreImplied}
 use Rattle.watch_lists.specs.Threads.{ArePut, AreThreaded, IsAttached, IsIn, IsOnce, head_at, links, list_of, literal_at, no_head, no_watch, partner, watch_at}
 use Rattle.watch_lists.specs.Watched.{AreKept, Fits, IsHeld, IsPresent, Watching, loose_watch, with_clause}
-use Rattle.watch_lists.proofs.FitLemmas.{held_further}
-use Rattle.watch_lists.proofs.GrowLemmas.{present_more, sound_more}
+use Rattle.watch_lists.proofs.KeepLemmas.{fits_assigned}
+use Rattle.watch_lists.proofs.GrowLemmas.{implied_none, implied_one, present_more}
 use Rattle.watch_lists.proofs.ThreadLemmas.{partner_within, put_before, put_other}
 
 -- ---- no clause
@@ -156,31 +156,18 @@ fits_attached old new t id s a b fits variables s_is put pair = record {
 
 -- ---- a trail that may have got what a clause leaves
 
-pub settled_sound : (clauses : List (List SatLit)) (old new : Trailing) (id : ℕ) → id < length clauses → IsSound clauses old → IsSettled old new (clause_at clauses id) id → IsSound clauses new
-settled_sound clauses old new id there sound (inl same) = subst (IsSound clauses) (sym same) sound
-settled_sound clauses old new id there sound (inr (l, makes, is)) =
-    sound_more clauses old new (record { literal = l; level = old.level; reason = Some id }) sound (record { there = there; makes = makes }) (ap (λ (t : Trailing). t.entries) is)
+pub settled_implied : (clauses : List (List SatLit)) (old new : Trailing) (id : ℕ) → id < length clauses → IsSettled old new (clause_at clauses id) id → AreImplied clauses old new
+settled_implied clauses old new id there (inl same) = implied_none clauses old new same
+settled_implied clauses old new id there (inr (l, makes, is)) = implied_one clauses old new l id is (record { there = there; makes = makes })
 
 pub settled_present : (old new : Trailing) (clause : List SatLit) (id : ℕ) → IsPresent old → IsSettled old new clause id → IsPresent new
 settled_present old new clause id present (inl same) = subst IsPresent (sym same) present
 settled_present old new clause id present (inr (l, makes, is)) = present_more old new l (Some id) present is
 
--- watches that fit a trail fit it with one literal more
-pub fits_grown : (watching : Watching) (old new : Trailing) (e : Assigned) → Fits watching old → old.walked ≤ length old.entries → new ≡ record old { entries = old.entries ++ e ∷ [] } → Fits watching new
-fits_grown watching old new e fits few is = subst (Fits watching) (sym is) (record {
-  variables = fits.variables;
-  watched = λ s within attached j early inside at.
-      let before : j < length old.entries = omega (arith, early, few) in
-      let same = get_or_append_left old.entries (e ∷ []) nothing j before in
-      let held = fits.watched s within attached j early before (sym (ap (λ (x : Assigned). x.literal.0) same) ∙ at) in
-      let other = literal_at watching.watches (partner s) in
-      subst (IsHeld (old.entries ++ e ∷ []) other) (sym (ap (λ (x : Assigned). x.level) same)) (held_further old.entries (e ∷ []) other (entry_at old.entries j).level held);
-})
-
 pub fits_settled : (watching : Watching) (old new : Trailing) (clause : List SatLit) (id : ℕ) → Fits watching old → old.walked ≤ length old.entries → IsSettled old new clause id → Fits watching new
 fits_settled watching old new clause id fits few (inl same) = subst (Fits watching) (sym same) fits
 fits_settled watching old new clause id fits few (inr (l, makes, is)) =
-    fits_grown watching old new (record { literal = l; level = old.level; reason = Some id }) fits few is
+    subst (Fits watching) (sym is) (fits_assigned watching old l id fits few)
 
 -- watches fit a trail with one clause more, which isn't attached
 pub fits_added : (watching : Watching) (clause : List SatLit) (t : Trailing) → length watching.watches % 2 ≡ 0 → Fits watching t → Fits (with_clause clause watching) t

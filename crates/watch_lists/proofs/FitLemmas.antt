@@ -11,12 +11,12 @@ use Rattle.trail_core.proofs.TrailLemmas.{place_of_true, same_place, true_at}
 use Rattle.watch_lists.specs.declared.threads.ThreadedWatch.{ThreadedWatch}
 use Rattle.watch_lists.specs.declared.threads.Head.{Head}
 use Rattle.watch_lists.specs.Looks.{IsBeside, IsHalfFalse, IsTarget}
-use Rattle.watch_lists.specs.Propagations.{IsReason, IsSound}
+use Rattle.watch_lists.specs.Propagations.{AreImplied}
 use Rattle.watch_lists.specs.Threads.{AreAlike, IsAttached, IsIn, head_at, literal_at, no_watch, partner}
 use Rattle.watch_lists.specs.Watched.{AreOfClauses, IsHeld, IsPresent, IsWalking, IsWatched}
 use Rattle.watch_lists.proofs.EffectLemmas.{known_at}
-use Rattle.watch_lists.proofs.GrowLemmas.{low_level, present_more, sound_more}
-use Rattle.watch_lists.proofs.ThreadLemmas.{attached_before, partner_twice, partner_within, pushed}
+use Rattle.watch_lists.proofs.GrowLemmas.{implied_none, implied_one, low_level, present_more}
+use Rattle.watch_lists.proofs.ThreadLemmas.{attached_before, attached_partner, partner_twice, partner_within, pushed}
 
 -- ---- values on a trail
 
@@ -90,14 +90,13 @@ partner_differs clauses ws hs t f s out is e =
     (is.threaded.out_nowhere s (inl refl)).attached (ap (λ (l : SatLit). l.0) (is.left_watch s (inl refl)) ∙ e)
 
 -- a watch that stays, on a trail that may have grown
-stayed : (clauses : List (List SatLit)) (ws : List ThreadedWatch) (hs : List Head) (old new : Trailing) (more : List Assigned) (f : SatLit) (s : ℕ) (out : List ℕ) → IsWalking clauses ws hs old f (s ∷ out) → new ≡ record old { entries = old.entries ++ more } → IsTrail new → IsSound clauses new → IsPresent new → f.0 < length hs → IsHeld new.entries (literal_at ws (partner s)) new.level → IsWalking clauses (slice_set ws s (record { literal = f; next = (head_at hs f.0).first })) (slice_set hs f.0 (record { first = s; count = (head_at hs f.0).count + 1 })) new f out
-stayed clauses ws hs old new more f s out is new_is trail sound present low held = record {
+stayed : (clauses : List (List SatLit)) (ws : List ThreadedWatch) (hs : List Head) (old new : Trailing) (more : List Assigned) (f : SatLit) (s : ℕ) (out : List ℕ) → IsWalking clauses ws hs old f (s ∷ out) → new ≡ record old { entries = old.entries ++ more } → IsTrail new → IsPresent new → f.0 < length hs → IsHeld new.entries (literal_at ws (partner s)) new.level → IsWalking clauses (slice_set ws s (record { literal = f; next = (head_at hs f.0).first })) (slice_set hs f.0 (record { first = s; count = (head_at hs f.0).count + 1 })) new f out
+stayed clauses ws hs old new more f s out is new_is trail present low held = record {
   heads_are = length-set hs f.0 h ∙ (is.heads_are ∙ ap (λ n. 2 * n) (sym variables));
   known = subst (λ n. All (AreKnown n) clauses) (sym variables) is.known;
   of_clauses = alike_of clauses ws put alike is.of_clauses;
   threaded = pushed ws hs s out f is.threaded low (partner_differs clauses ws hs old f s out is);
   is_trail = trail;
-  sound = sound;
   present = present;
   there = omega (arith, is.there, walked, size);
   falsity = ap (λ k. (entry_at new.entries k).literal.0) walked ∙ (ap (λ (e : Assigned). e.literal.0) (front old.walked is.there) ∙ is.falsity);
@@ -162,7 +161,6 @@ moved clauses ws hs t f l s out is low beside = record {
   };
   threaded = pushed ws hs s out l is.threaded low beside.differs;
   is_trail = is.is_trail;
-  sound = is.sound;
   present = is.present;
   there = is.there;
   falsity = is.falsity;
@@ -230,7 +228,7 @@ looked clauses ws hs old new f l s out is trail (inl held) =
     let low = f_known clauses ws hs old f s out is in
     let other = literal_at ws (partner s) in
     let nothing_more : record old { entries = old.entries ++ [] } ≡ old = ap (λ es. record old { entries = es }) (append-nil old.entries) in
-    let walking = stayed clauses ws hs old old [] f s out is (sym nothing_more) is.is_trail is.sound is.present low (held_here old is.is_trail other held.other_true) in
+    let walking = stayed clauses ws hs old old [] f s out is (sym nothing_more) is.is_trail is.present low (held_here old is.is_trail other held.other_true) in
     subst (λ t. IsWalking clauses (slice_set ws s (record { literal = l; next = (head_at hs l.0).first })) (slice_set hs l.0 (record { first = s; count = (head_at hs l.0).count + 1 })) t f out) (sym held.same) (subst (λ x. IsWalking clauses (slice_set ws s (record { literal = x; next = (head_at hs x.0).first })) (slice_set hs x.0 (record { first = s; count = (head_at hs x.0).count + 1 })) old f out) (sym held.stays) walking)
 looked clauses ws hs old new f l s out is trail (inr (inl made)) =
     let low = f_known clauses ws hs old f s out is in
@@ -238,15 +236,12 @@ looked clauses ws hs old new f l s out is trail (inr (inl made)) =
     let id = s / 2 in
     let e : Assigned = record { literal = other; level = old.level; reason = Some id } in
     let entries : new.entries ≡ old.entries ++ e ∷ [] = ap (λ (t : Trailing). t.entries) made.assigned in
-    let there : id < length clauses = omega (arith, (is.threaded.out_nowhere s (inl refl)).within, is.of_clauses.size) in
-    let reason : IsReason clauses (literals old.entries) other id = record { there = there; makes = made.left.makes } in
-    let sound = sound_more clauses old new e is.sound reason entries in
     let last : entry_at new.entries (length old.entries) ≡ e = ap (λ es. entry_at es (length old.entries)) entries ∙ get_or_at old.entries e [] nothing (length old.entries) refl in
     let level : new.level ≡ old.level = ap (λ (t : Trailing). t.level) made.assigned in
     let size : length new.entries ≡ length old.entries + 1 = ap length entries ∙ length-append old.entries (e ∷ []) in
     let present = present_more old new other (Some id) is.present made.assigned in
     let held : IsHeld new.entries other new.level = record { at = length old.entries; within = omega (arith, size); is = ap (λ (x : Assigned). x.literal.0) last; low = omega (arith, ap (λ (x : Assigned). x.level) last, level) } in
-    let walking = stayed clauses ws hs old new (e ∷ []) f s out is made.assigned trail sound present low held in
+    let walking = stayed clauses ws hs old new (e ∷ []) f s out is made.assigned trail present low held in
     subst (λ x. IsWalking clauses (slice_set ws s (record { literal = x; next = (head_at hs x.0).first })) (slice_set hs x.0 (record { first = s; count = (head_at hs x.0).count + 1 })) new f out) (sym made.stays) walking
 looked clauses ws hs old new f l s out is trail (inr (inr goes)) =
     let id = s / 2 in
@@ -254,6 +249,12 @@ looked clauses ws hs old new f l s out is trail (inr (inr goes)) =
     let known = known_at old.variables (clause_at clauses id) l (is.known id [] there) goes.beside.there in
     let low : l.0 < length hs = omega (arith, known, is.heads_are) in
     subst (λ t. IsWalking clauses (slice_set ws s (record { literal = l; next = (head_at hs l.0).first })) (slice_set hs l.0 (record { first = s; count = (head_at hs l.0).count + 1 })) t f out) (sym goes.same) (moved clauses ws hs old f l s out is low goes.beside)
+
+-- what it assigns is all that the clause left
+pub target_implied : (clauses : List (List SatLit)) (old new : Trailing) (f l other : SatLit) (id : ℕ) → id < length clauses → IsTarget old new (clause_at clauses id) id other f l → AreImplied clauses old new
+target_implied clauses old new f l other id there (inl held) = implied_none clauses old new held.same
+target_implied clauses old new f l other id there (inr (inl made)) = implied_one clauses old new other id made.assigned (record { there = there; makes = made.left.makes })
+target_implied clauses old new f l other id there (inr (inr goes)) = implied_none clauses old new goes.same
 
 -- the literal to watch is known, and isn't the other one
 pub target_known : (clauses : List (List SatLit)) (ws : List ThreadedWatch) (hs : List Head) (old new : Trailing) (f l : SatLit) (s : ℕ) (out : List ℕ) → IsWalking clauses ws hs old f (s ∷ out) → IsTarget old new (clause_at clauses (s / 2)) (s / 2) (literal_at ws (partner s)) f l → l.0 < length hs
@@ -272,7 +273,7 @@ target_differs clauses ws hs old new f l s out is (inr (inr goes)) e = goes.besi
 pub other_there : (clauses : List (List SatLit)) (ws : List ThreadedWatch) (hs : List Head) (t : Trailing) (f : SatLit) (s : ℕ) (out : List ℕ) → IsWalking clauses ws hs t f (s ∷ out) → is_true (clause_at clauses (s / 2)) (literal_at ws (partner s)) ≡ true
 other_there clauses ws hs t f s out is =
     let front = is.threaded.out_nowhere s (inl refl) in
-    let back : IsAttached ws (partner s) = λ e. front.attached (ap (λ k. (literal_at ws k).0) (sym (partner_twice s)) ∙ sym e) in
+    let back : IsAttached ws (partner s) = attached_partner ws s front.attached in
     let half : partner s / 2 ≡ s / 2 = omega arith in
     ap (λ k. is_true (clause_at clauses k) (literal_at ws (partner s))) (sym half) ∙ is.of_clauses.of (partner s) (partner_within ws s is.threaded.even front.within) back
 

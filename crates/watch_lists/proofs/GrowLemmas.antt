@@ -1,18 +1,23 @@
 -- Trails that grow.
-use Rattle.std.proofs.Common.{◌≡◌, ℕ, ◌+◌, ◌<◌, ◌≤◌, cond, List, Option, [], ◌∷◌, ◌++◌, length, take, is_none, inl, inr, sym, ◌∙◌, ap, subst, arith}
-use Rattle.std.proofs.lemmas.List.{map-append, take-append-le, take-take, take_all, get_or_append_left, get_or_at, length-map}
+use Rattle.std.proofs.Common.{◌≡◌, ℕ, ◌+◌, ◌<◌, ◌≤◌, cond, List, Option, None, Some, [], ◌∷◌, ◌++◌, length, take, is_none, inl, inr, sym, ◌∙◌, ap, subst, arith}
+use Rattle.std.proofs.lemmas.List.{get_or_append_left, get_or_at, get_or-take, length-append, length-map, map-append, take-append-le, take-map, take-take, take_all}
+use Rattle.std.proofs.lemmas.Bool.{cases_lt}
 use Rattle.std.proofs.lemmas.List.Sums.{sum_by-take-le}
 use Rattle.cnf_core.specs.declared.literal.SatLit.{SatLit}
 use Rattle.trail_core.specs.declared.assigned.Assigned.{Assigned}
-use Rattle.trail_core.specs.Trails.{IsTrail, Trailing, entry_at, literals, nothing}
+use Rattle.trail_core.specs.Trails.{IsTrail, Trailing, entry_at, literals, nothing, with_assigned}
 use Rattle.trail_core.proofs.TrailLemmas.{before_or_last}
-use Rattle.watch_lists.specs.Propagations.{IsGrown, IsJustified, IsSound, before}
-use Rattle.watch_lists.specs.Watched.{IsPresent}
+use Rattle.watch_lists.specs.Propagations.{AreImplied, IsGrown, IsImplied, IsJustified, IsReason, IsSound, before}
+use Rattle.watch_lists.specs.Watched.{IsPresent, IsRewatched, Watching}
 
 -- what stands before a place, with one literal more at the end
 pub before_front : (es : List Assigned) (e : Assigned) (k : ℕ) → k ≤ length es → before (es ++ e ∷ []) k ≡ before es k
 before_front es e k within =
     ap (take k) (map-append (λ (x : Assigned). x.literal) es (e ∷ [])) ∙ take-append-le k (literals es) (e.literal ∷ []) (omega (arith, within, length-map es (λ (x : Assigned). x.literal)))
+
+-- what stands before a place of the front
+pub before_take : (es : List Assigned) (n k : ℕ) → k ≤ n → before (take n es) k ≡ before es k
+before_take es n k low = ap (take k) (sym (take-map (λ (e : Assigned). e.literal) n es)) ∙ take-take k n (literals es) low
 
 pub before_all : (es : List Assigned) (k : ℕ) → length es ≤ k → before es k ≡ literals es
 before_all es k within = take_all k (literals es) (omega (arith, within, length-map es (λ (x : Assigned). x.literal)))
@@ -33,6 +38,62 @@ sound_more clauses now new e sound here more = record {
               let made : before (es ++ e ∷ []) k ≡ literals es = before_front es e k (omega (arith, last)) ∙ before_all es k (omega (arith, last)) in
               subst (λ (x : Assigned). IsJustified clauses (before (es ++ e ∷ []) k) x.literal x.reason) (sym (get_or_at es e [] nothing k (sym last))) (subst (λ m. IsJustified clauses m e.literal e.reason) (sym made) here)
         ]
+
+-- what stood on a trail stands there after it has grown
+pub grown_at : (old new : Trailing) → IsGrown old new → (k : ℕ) → k < length old.entries → entry_at new.entries k ≡ entry_at old.entries k
+grown_at old new grown k within =
+    sym (get_or-take (length old.entries) new.entries k nothing within) ∙ ap (λ es. entry_at es k) grown.kept
+
+grown_before : (old new : Trailing) → IsGrown old new → (k : ℕ) → k ≤ length old.entries → before new.entries k ≡ before old.entries k
+grown_before old new grown k within =
+    sym (before_take new.entries (length old.entries) k within) ∙ ap (λ es. before es k) grown.kept
+
+-- ---- what was assigned has a reason
+
+-- nothing was assigned
+pub implied_none : (clauses : List (List SatLit)) (old new : Trailing) → new ≡ old → AreImplied clauses old new
+implied_none clauses old new same = subst (AreImplied clauses old) (sym same) (record { implied = λ k late within. absurd (omega (arith, late, within)) })
+
+-- one literal was
+pub implied_one : (clauses : List (List SatLit)) (old new : Trailing) (l : SatLit) (id : ℕ) → new ≡ with_assigned old l id → IsReason clauses (literals old.entries) l id → AreImplied clauses old new
+implied_one clauses old new l id is reason = subst (AreImplied clauses old) (sym is) (record {
+  implied = λ k late within.
+      let es = old.entries in
+      let last : k ≡ length es = omega (arith, late, within, length-append es (e ∷ [])) in
+      let made : before (es ++ e ∷ []) k ≡ literals es = before_front es e k (omega (arith, last)) ∙ before_all es k (omega (arith, last)) in
+      subst (λ (x : Assigned). IsImplied clauses (before (es ++ e ∷ []) k) x.literal x.reason) (sym (get_or_at es e [] nothing k (sym last))) (subst (λ m. IsReason clauses m l id) (sym made) reason);
+})
+  where
+    e : Assigned
+    e = record { literal = l; level = old.level; reason = Some id }
+
+-- some were, then others
+pub implied_twice : (clauses : List (List SatLit)) (old mid new : Trailing) → AreImplied clauses old mid → IsGrown mid new → AreImplied clauses mid new → AreImplied clauses old new
+implied_twice clauses old mid new first grown second = record {
+  implied = λ k late within. elim (cases_lt k (length mid.entries)) [
+    | inl early ↦
+        subst (λ (x : Assigned). IsImplied clauses (before new.entries k) x.literal x.reason) (sym (grown_at mid new grown k early)) (subst (λ m. IsImplied clauses m (entry_at mid.entries k).literal (entry_at mid.entries k).reason) (sym (grown_before mid new grown k (omega (arith, early)))) (first.implied k late early))
+    | inr later ↦ second.implied k later within
+  ];
+}
+
+implied_justified : (clauses : List (List SatLit)) (made : List SatLit) (l : SatLit) (r : Option ℕ) → IsImplied clauses made l r → IsJustified clauses made l r
+implied_justified clauses made l (Some id) reason = reason
+implied_justified clauses made l None none = absurd none
+
+-- so a sound trail stays sound
+pub sound_implied : (clauses : List (List SatLit)) (old new : Trailing) → IsSound clauses old → IsGrown old new → AreImplied clauses old new → IsSound clauses new
+sound_implied clauses old new sound grown implied = record {
+  justified = λ k within. elim (cases_lt k (length old.entries)) [
+    | inl early ↦
+        subst (λ (x : Assigned). IsJustified clauses (before new.entries k) x.literal x.reason) (sym (grown_at old new grown k early)) (subst (λ m. IsJustified clauses m (entry_at old.entries k).literal (entry_at old.entries k).reason) (sym (grown_before old new grown k (omega (arith, early)))) (sound.justified k early))
+    | inr late ↦ implied_justified clauses (before new.entries k) (entry_at new.entries k).literal (entry_at new.entries k).reason (implied.implied k late within)
+  ];
+}
+
+pub sound_rewatched : (before_it after_it : Watching) (old new : Trailing) → IsRewatched before_it after_it → IsSound before_it.clauses old → IsGrown old new → AreImplied before_it.clauses old new → IsSound after_it.clauses new
+sound_rewatched before_it after_it old new rewatched sound grown implied =
+    subst (λ cs. IsSound cs new) (sym rewatched.clauses) (sound_implied before_it.clauses old new sound grown implied)
 
 -- one literal more at the present level
 pub present_more : (old new : Trailing) (l : SatLit) (reason : Option ℕ) → IsPresent old → new ≡ record old { entries = old.entries ++ record { literal = l; level = old.level; reason = reason } ∷ [] } → IsPresent new

@@ -6,3 +6,4 @@ pub mod BackLemmas
 pub mod PassLemmas
 pub mod FootLemmas
 pub mod AttachLemmas
+pub mod KeepLemmas

@@ -11,15 +11,15 @@ use Rattle.trail_core.proofs.TrailLemmas.{place_of_true}
 use Rattle.watch_lists.specs.declared.threads.ThreadedWatch.{ThreadedWatch}
 use Rattle.watch_lists.specs.declared.threads.Head.{Head}
 use Rattle.watch_lists.specs.declared.threads.Rest.{Rest}
-use Rattle.watch_lists.specs.Propagations.{IsGrown, IsSound}
+use Rattle.watch_lists.specs.Propagations.{AreImplied, IsGrown}
 use Rattle.watch_lists.specs.Looks.{IsTarget}
 use Rattle.watch_lists.specs.Threads.{AreAlike, AreThreaded, IsAttached, IsIn, head_at, links, list_of, literal_at, partner, watch_at}
 use Rattle.watch_lists.specs.Watched.{AreKept, AreQuiet, Fits, IsHeld, IsPresent, IsReady, IsWalking, StayAttached, Watching}
 use Rattle.watch_lists.proofs.EffectLemmas.{neither_true, neither_two}
 use Rattle.watch_lists.proofs.FitLemmas.{alike_attached, alike_of, alike_watched, held_true, looked, target_differs, true_not_false}
-use Rattle.watch_lists.proofs.GrowLemmas.{grown_twice}
+use Rattle.watch_lists.proofs.GrowLemmas.{grown_twice, implied_none, implied_twice}
 use Rattle.watch_lists.proofs.BackLemmas.{rest_kept}
-use Rattle.watch_lists.proofs.ThreadLemmas.{attached_after, attached_itself, links_more, partner_twice, taken, taken_literal}
+use Rattle.watch_lists.proofs.ThreadLemmas.{attached_after, attached_itself, attached_partner, links_more, partner_twice, taken, taken_literal}
 
 -- the next watch that is left, and those after it
 pub front_of : (clauses : List (List SatLit)) (ws : List ThreadedWatch) (hs : List Head) (t : Trailing) (f : SatLit) (rest : Rest) → IsWalking clauses ws hs t f (links ws rest.left rest.at) → 0 < rest.left → IsWalking clauses ws hs t f (rest.at ∷ links ws (rest.left - 1) (watch_at ws rest.at).next)
@@ -29,6 +29,7 @@ front_of clauses ws hs t f rest is some = subst (IsWalking clauses ws hs t f) (l
 pub record IsOnTheWay (clauses : List (List SatLit)) (old now : List ThreadedWatch) (heads : List Head) (before trail : Trailing) (literal : SatLit) (rest : Rest) : Type 0 where
   pub walking : IsWalking clauses now heads trail literal (links now rest.left rest.at)
   pub grown : IsGrown before trail
+  pub implied : AreImplied clauses before trail
   pub walked : trail.walked ≡ before.walked
   pub attached : StayAttached old now
   pub size : length old ≡ 2 * length clauses
@@ -37,6 +38,7 @@ pub record IsOnTheWay (clauses : List (List SatLit)) (old now : List ThreadedWat
 pub record IsUnderWay (clauses : List (List SatLit)) (old now : List ThreadedWatch) (heads : List Head) (before trail : Trailing) : Type 0 where
   pub ready : IsReady clauses now heads trail
   pub grown : IsGrown before trail
+  pub implied : AreImplied clauses before trail
   pub attached : StayAttached old now
   pub size : length old ≡ 2 * length clauses
 
@@ -57,7 +59,6 @@ way_start clauses ws hs heads t literal rest ready there falsity low rest_is hea
         of_clauses = ready.kept.of_clauses;
         threaded = taken ws hs literal.0 (head_at hs literal.0).first ready.kept.threaded low;
         is_trail = ready.is_trail;
-        sound = ready.sound;
         present = ready.present;
         there = there;
         falsity = falsity;
@@ -69,6 +70,7 @@ way_start clauses ws hs heads t literal rest ready there falsity low rest_is hea
         ];
       };
       grown = grown_none t;
+      implied = implied_none clauses t t refl;
       walked = refl;
       attached = λ s within attached. attached;
       size = ready.kept.of_clauses.size;
@@ -85,7 +87,6 @@ pub way_end : (clauses : List (List SatLit)) (old now : List ThreadedWatch) (hea
 way_end clauses old now heads before t literal rest is none = record {
   kept = record { heads_are = w.heads_are; known = w.known; of_clauses = w.of_clauses; threaded = subst (AreThreaded now heads) emptied w.threaded };
   is_trail = record { known = w.is_trail.known; distinct = w.is_trail.distinct; levels = w.is_trail.levels; level = w.is_trail.level; walked = omega (arith, w.there) };
-  sound = record { justified = w.sound.justified };
   present = record { present = λ k late within. w.present.present k (omega (arith, late)) within };
   watched = λ s within attached j early inside at. elim (cases_eq j t.walked) [
     | inr before_it ↦ w.watched s within attached j (omega (arith, early, before_it)) inside at
@@ -112,18 +113,19 @@ pub walk_stopped : (clauses : List (List SatLit)) (old now new : List ThreadedWa
 walk_stopped clauses old now new hs heads before t after literal rest is same threaded alike size = subst (IsReady clauses new heads) (sym same) (record {
   kept = record { heads_are = size ∙ is.walking.heads_are; known = is.walking.known; of_clauses = alike_of clauses now new alike is.walking.of_clauses; threaded = threaded };
   is_trail = is.walking.is_trail;
-  sound = is.walking.sound;
   present = is.walking.present;
   watched = λ s within attached. alike_watched now new alike t.entries t.walked s (is.walking.watched s (omega (arith, within, alike.size)) (alike_attached now new alike s attached));
 })
 
 -- one literal more was walked
-pub under_way_step : (clauses : List (List SatLit)) (old mid now : List ThreadedWatch) (hs heads : List Head) (before between walked trail : Trailing) → IsUnderWay clauses old mid hs before between → IsReady clauses now heads trail → IsGrown between walked → trail ≡ record walked { walked = walked.walked + 1 } → StayAttached mid now → IsUnderWay clauses old now heads before trail
-under_way_step clauses old mid now hs heads before between walked trail is ready grown step attached =
+pub under_way_step : (clauses : List (List SatLit)) (old mid now : List ThreadedWatch) (hs heads : List Head) (before between walked trail : Trailing) → IsUnderWay clauses old mid hs before between → IsReady clauses now heads trail → IsGrown between walked → AreImplied clauses between walked → trail ≡ record walked { walked = walked.walked + 1 } → StayAttached mid now → IsUnderWay clauses old now heads before trail
+under_way_step clauses old mid now hs heads before between walked trail is ready grown implied step attached =
     let further : IsGrown between trail = subst (IsGrown between) (sym step) (record { variables = grown.variables; level = grown.level; longer = grown.longer; kept = grown.kept }) in
+    let also : AreImplied clauses between trail = subst (AreImplied clauses between) (sym step) (record { implied = implied.implied }) in
     record {
       ready = ready;
       grown = grown_twice before between trail is.grown further;
+      implied = implied_twice clauses before between trail is.implied further also;
       attached = stay_twice clauses old mid now is.size is.ready.kept.of_clauses.size is.attached attached;
       size = is.size;
     }
@@ -138,7 +140,7 @@ quiet_end clauses ws hs t ready all = record {
       let b = literal_at ws other in
       let s_in : s < length ws = omega (arith, within, ready.kept.of_clauses.size) in
       let o_in : other < length ws = omega (arith, within, ready.kept.of_clauses.size) in
-      let back : IsAttached ws other = λ e. attached (ap (λ k. (literal_at ws k).0) (sym (partner_twice s)) ∙ sym e) in
+      let back : IsAttached ws other = attached_partner ws s attached in
       let s_id : s / 2 ≡ id = omega arith in
       let o_id : other / 2 ≡ id = omega arith in
       let a_there = ap (λ k. is_true (clause_at clauses k) a) (sym s_id) ∙ ready.kept.of_clauses.of s s_in attached in
@@ -183,11 +185,10 @@ visited_attached clauses ws put hs old new f l rest is some target put_is =
     ])
 
 -- what fits is ready to be walked
-pub ready_from : (w : Watching) (heads : List Head) (t : Trailing) → AreKept w.variables w.clauses w.watches heads → IsTrail t → Fits w t → IsPresent t → IsSound w.clauses t → IsReady w.clauses w.watches heads t
-ready_from w heads t kept trail fits present sound = record {
+pub ready_from : (w : Watching) (heads : List Head) (t : Trailing) → AreKept w.variables w.clauses w.watches heads → IsTrail t → Fits w t → IsPresent t → IsReady w.clauses w.watches heads t
+ready_from w heads t kept trail fits present = record {
   kept = subst (λ n. AreKept n w.clauses w.watches heads) (sym fits.variables) kept;
   is_trail = trail;
-  sound = sound;
   present = present;
   watched = fits.watched;
 }

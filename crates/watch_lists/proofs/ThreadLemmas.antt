@@ -1,5 +1,5 @@
 -- Watches that are taken out of a list and put into one.
-use Rattle.std.proofs.Common.{◌≡◌, ◌≢◌, ℕ, zero, suc, ◌+◌, ◌-◌, ◌%◌, ◌^◌, ◌<◌, ◌≤◌, List, [], ◌∷◌, length, slice_index_or, slice_set, eqb, true, false, ◌||◌, ◌⊎◌, inl, inr, refl, sym, ◌∙◌, ap, subst, arith}
+use Rattle.std.proofs.Common.{◌≡◌, ◌≢◌, ℕ, zero, suc, ◌+◌, ◌-◌, ◌*◌, ◌/◌, ◌%◌, ◌^◌, ◌<◌, ◌≤◌, List, [], ◌∷◌, length, slice_index_or, slice_set, eqb, true, false, ◌||◌, ◌⊎◌, inl, inr, refl, sym, ◌∙◌, ap, subst, arith}
 use Rattle.std.specs.List.{list_any}
 use Rattle.std.proofs.lemmas.Bool.{cases_eq, false≢true, ne_eqb}
 use Rattle.std.proofs.lemmas.Bool.Decides.{eqb_tells}
@@ -13,6 +13,18 @@ use Rattle.watch_lists.specs.Threads.{ArePut, AreThreaded, IsAttached, IsIn, IsO
 
 pub partner_twice : (s : ℕ) → partner (partner s) ≡ s
 partner_twice s = omega arith
+
+-- with one watch of a clause the other is attached, and so is the first of the two
+pub attached_partner : (watches : List ThreadedWatch) (s : ℕ) → IsAttached watches s → IsAttached watches (partner s)
+attached_partner watches s attached e = attached (ap (λ k. (literal_at watches k).0) (sym (partner_twice s)) ∙ sym e)
+
+pub attached_half : (watches : List ThreadedWatch) (s : ℕ) → IsAttached watches s → IsAttached watches (2 * (s / 2))
+attached_half watches s attached = elim (cases_eq (2 * (s / 2)) s) [
+  | inl first ↦ subst (IsAttached watches) (sym first) attached
+  | inr other ↦
+      let is : partner s ≡ 2 * (s / 2) = omega (arith, other) in
+      subst (IsAttached watches) is (attached_partner watches s attached)
+]
 
 pub partner_other : (s : ℕ) → partner s ≢ s
 partner_other s e = omega (arith, e)

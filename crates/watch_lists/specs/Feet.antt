@@ -1,12 +1,12 @@
 -- How a clause can be attached on a trail.
-use Rattle.std.specs.Prelude.{◌≡◌, ◌≢◌, ℕ, ◌<◌, ◌++◌, ◌∷◌, [], true, false, List, length, Some, ◌⊎◌}
+use Rattle.std.specs.Prelude.{◌≡◌, ◌≢◌, ℕ, ◌<◌, true, false, List, length, ◌⊎◌}
 use Rattle.cnf_core.specs.declared.literal.SatLit.{SatLit}
 use Rattle.cnf_core.specs.declared.effect.Effect.TheVariants.{Makes}
 use Rattle.cnf_core.specs.declared.effect.Effect.TheVariants.{Conflict as AllFalse}
 use Rattle.cnf_core.specs.Clauses.{opposite, variable_of}
 use Rattle.cnf_core.specs.Derivations.{effect_of, is_false, is_true}
 use Rattle.trail_core.specs.declared.assigned.Assigned.{Assigned}
-use Rattle.trail_core.specs.Trails.{IsFree, IsPlace, Trailing, entry_at, literals}
+use Rattle.trail_core.specs.Trails.{IsFree, IsPlace, Trailing, entry_at, literals, with_assigned}
 use Rattle.watch_lists.specs.declared.looking.Foot.{Foot}
 use Rattle.watch_lists.specs.declared.looking.Foot.TheVariants.{Two, Rooted, Conflict}
 use Rattle.watch_lists.specs.Watched.{IsHeld, IsRooted}
@@ -52,9 +52,7 @@ IsReached trail clause = 0 < trail.level → IsFalseAtTop trail clause
 abbrev pub IsMade : Trailing → Trailing → SatLit → ℕ → Type 0
 IsMade old new literal id =
     ((new ≡ old) × (is_true (literals old.entries) literal ≡ true))
-    ⊎ (IsFree old literal × (new ≡ record old {
-      entries = old.entries ++ record { literal = literal; level = old.level; reason = Some id } ∷ [];
-    }))
+    ⊎ (IsFree old literal × (new ≡ with_assigned old literal id))
 
 -- where one of two literals is false, the other one is true at a level that isn't greater
 abbrev pub IsGuarded : List Assigned → SatLit → SatLit → Type 0
@@ -80,6 +78,4 @@ IsFoot old new clause Conflict = (effect_of (literals old.entries) clause ≡ Al
 abbrev pub IsSettled : Trailing → Trailing → List SatLit → ℕ → Type 0
 IsSettled old new clause id = (new ≡ old) ⊎ ((literal : SatLit)
     × (effect_of (literals old.entries) clause ≡ Makes literal)
-    × (new ≡ record old {
-      entries = old.entries ++ record { literal = literal; level = old.level; reason = Some id } ∷ [];
-    }))
+    × (new ≡ with_assigned old literal id))

@@ -1,10 +1,10 @@
 -- What a clause does on a trail, by one of its literals.
-use Rattle.std.specs.Prelude.{◌≡◌, ◌≢◌, ℕ, ◌++◌, ◌∷◌, [], true, false, List, Some, ◌⊎◌}
+use Rattle.std.specs.Prelude.{◌≡◌, ◌≢◌, ℕ, true, false, List, ◌⊎◌}
 use Rattle.cnf_core.specs.declared.literal.SatLit.{SatLit}
 use Rattle.cnf_core.specs.declared.effect.Effect.TheVariants.{Makes}
 use Rattle.cnf_core.specs.declared.effect.Effect.TheVariants.{Conflict as AllFalse}
 use Rattle.cnf_core.specs.Derivations.{effect_of, is_false, is_true}
-use Rattle.trail_core.specs.Trails.{IsFree, Trailing, literals}
+use Rattle.trail_core.specs.Trails.{IsFree, Trailing, literals, with_assigned}
 use Rattle.watch_lists.specs.declared.looking.Look.{Look}
 use Rattle.watch_lists.specs.declared.looking.Look.TheVariants.{Holds, Open, Unit, Conflict}
 
@@ -49,9 +49,7 @@ pub record IsHeldBy (old new : Trailing) (other falsified literal : SatLit) : Ty
 
 -- The watch stays, and the other one was made true.
 pub record IsMadeBy (old new : Trailing) (clause : List SatLit) (id : ℕ) (other falsified literal : SatLit) : Type 0 where
-  pub assigned : new ≡ record old {
-    entries = old.entries ++ record { literal = other; level = old.level; reason = Some id } ∷ [];
-  }
+  pub assigned : new ≡ with_assigned old other id
   pub stays : literal ≡ falsified
   pub left : IsLeft old clause other
 

@@ -37,6 +37,18 @@ pub record IsSound (clauses : List (List SatLit)) (trail : Trailing) : Type 0 wh
       → k < length trail.entries
       → IsJustified clauses (before trail.entries k) (entry_at trail.entries k).literal (entry_at trail.entries k).reason
 
+-- what was assigned has a reason: it is no decision
+abbrev pub IsImplied : List (List SatLit) → List SatLit → SatLit → Option ℕ → Type 0
+IsImplied clauses made literal (Some id) = IsReason clauses made literal id
+IsImplied clauses made literal None = ⊥
+
+-- Each literal that a trail has more than another was all that a clause left.
+pub record AreImplied (clauses : List (List SatLit)) (old new : Trailing) : Type 0 where
+  pub implied : (k : ℕ)
+      → length old.entries ≤ k
+      → k < length new.entries
+      → IsImplied clauses (before new.entries k) (entry_at new.entries k).literal (entry_at new.entries k).reason
+
 -- A trail has more literals, at the same level: none of them is a decision.
 pub record IsGrown (old new : Trailing) : Type 0 where
   pub variables : new.variables ≡ old.variables

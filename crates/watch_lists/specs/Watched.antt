@@ -8,7 +8,6 @@ use Rattle.trail_core.specs.declared.assigned.Assigned.{Assigned}
 use Rattle.trail_core.specs.Trails.{IsTrail, Trailing, entry_at}
 use Rattle.watch_lists.specs.declared.threads.ThreadedWatch.{ThreadedWatch}
 use Rattle.watch_lists.specs.declared.threads.Head.{Head}
-use Rattle.watch_lists.specs.Propagations.{IsSound}
 use Rattle.watch_lists.specs.Threads.{AreThreaded, IsAttached, IsIn, literal_at, partner}
 
 -- The clauses over this many variables, and the two watches of each.
@@ -50,6 +49,14 @@ pub record Fits (watching : Watching) (trail : Trailing) : Type 0 where
       → s < length watching.watches
       → IsAttached watching.watches s
       → IsWatched watching.watches trail.entries trail.walked s
+
+-- no clause from this number on is attached
+abbrev pub AreLoose : Watching → ℕ → Type 0
+AreLoose watching from = (id : ℕ) → from ≤ id → IsAttached watching.watches (2 * id) → ⊥
+
+-- no clause is attached
+abbrev pub AreAllLoose : Watching → Type 0
+AreAllLoose watching = AreLoose watching 0
 
 -- what isn't walked is of the present level
 pub record IsPresent (trail : Trailing) : Type 0 where
@@ -94,11 +101,10 @@ pub record AreKept (variables : ℕ) (clauses : List (List SatLit)) (watches : L
   pub of_clauses : AreOfClauses clauses watches
   pub threaded : AreThreaded watches heads []
 
--- The watches fit a sound trail.
+-- The watches fit a trail.
 pub record IsReady (clauses : List (List SatLit)) (watches : List ThreadedWatch) (heads : List Head) (trail : Trailing) : Type 0 where
   pub kept : AreKept trail.variables clauses watches heads
   pub is_trail : IsTrail trail
-  pub sound : IsSound clauses trail
   pub present : IsPresent trail
   pub watched : (s : ℕ)
       → s < length watches
@@ -113,7 +119,6 @@ pub record IsWalking (clauses : List (List SatLit)) (watches : List ThreadedWatc
   pub of_clauses : AreOfClauses clauses watches
   pub threaded : AreThreaded watches heads left
   pub is_trail : IsTrail trail
-  pub sound : IsSound clauses trail
   pub present : IsPresent trail
   pub there : trail.walked < length trail.entries
   pub falsity : (entry_at trail.entries trail.walked).literal.0 ≡ (opposite literal).0

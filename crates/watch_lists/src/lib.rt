@@ -2,6 +2,7 @@
 #![tactic(auto)]
 
 mod arena;
+pub mod laws;
 mod looking;
 mod threads;
 mod watches;

@@ -4,7 +4,7 @@ ghost use Rattle.std.specs.Prelude.{ℕ, ◌≡◌, ◌≢◌, ◌+◌, ◌-◌,
 ghost use Rattle.cnf_core.specs.Clauses.{clause_at, opposite, AreKnown};
 ghost use Rattle.cnf_core.specs.Derivations.{is_empty};
 ghost use Rattle.trail_core.specs.Trails.{entry_at, literals};
-ghost use Rattle.watch_lists.specs.Propagations.{IsConflict, IsGrown, IsSound};
+ghost use Rattle.watch_lists.specs.Propagations.{AreImplied, IsConflict, IsGrown};
 ghost use Rattle.watch_lists.specs.Feet.{IsReached};
 ghost use Rattle.watch_lists.specs.Threads.{IsAttached, links, no_head};
 ghost use Rattle.watch_lists.specs.Watched.{AreQuiet, Fits, IsCovered, IsPresent, IsReady, IsRewatched, IsWalking, StayAttached, with_clause};
@@ -103,26 +103,26 @@ impl Watches {
         self.clauses.count()
     }
 
-    /// Attaches a clause. It is watched by two literals that aren't false; or, where only one isn't, by that one, which is
-    /// made true, and one that became false at the present level; or it has one literal alone, which is made true. Some:
-    /// all its literals are false, and it isn't attached. It takes no memory.
+    /// Attaches a clause. It is watched by two literals that aren't false; or, where only one isn't, by that one, which
+    /// is made true, and one that became false at the present level; or it has one literal alone, which is made true.
+    /// Some, with its number: all its literals are false, it isn't attached, and nothing changes. It takes no memory.
     pub fn attach(&mut self, id: u64, trail: &mut Trail) -> Option<u64>
         requires there { id < length self.old.clauses }
         requires loose { IsAttached self.old.watches (2 * id) → ⊥ }
         requires fits { Fits self.old trail.old }
         requires present { IsPresent trail.old }
-        requires sound { IsSound self.old.clauses trail.old }
         requires reached { IsReached trail.old (clause_at self.old.clauses id) }
         ensures attached { IsRewatched self.old self.new }
         ensures others { (t : ℕ) → t ≢ id → IsAttached self.new.watches (2 * t) → IsAttached self.old.watches (2 * t) }
         ensures fits { Fits self.new trail.new }
         ensures present { IsPresent trail.new }
-        ensures sound { IsSound self.new.clauses trail.new }
+        ensures implied { AreImplied self.old.clauses trail.old trail.new }
         ensures grown { IsGrown trail.old trail.new }
         ensures covered { IfNone result (IsCovered self.new trail.new.entries id) }
         ensures conflict { IfSome result (IsConflict self.new.clauses (literals trail.new.entries)) }
         ensures named { IfSome result (λ found. found ≡ id) }
         ensures same { IfSome result (λ _. trail.new ≡ trail.old) }
+        ensures stays { IfSome result (λ _. self.new ≡ self.old) }
     {
         let _walked = trail.walked();
         match find_foot(trail, self.clauses.get(id), id) {
@@ -136,20 +136,20 @@ impl Watches {
     }
 
     /// Walks all literals of a trail that aren't walked, and assigns what is the only literal left of an attached clause.
-    /// None: all are walked, and each attached clause has a true literal or two unassigned ones. Some: a clause all of
-    /// whose literals are false. It takes no memory.
+    /// None: all are walked, and each attached clause has a true literal or two unassigned ones. Some: the number of an
+    /// attached clause all of whose literals are false. It takes no memory.
     pub fn propagate(&mut self, trail: &mut Trail) -> Option<u64>
         requires fits { Fits self.old trail.old }
         requires present { IsPresent trail.old }
-        requires sound { IsSound self.old.clauses trail.old }
         ensures rewatched { IsRewatched self.old self.new }
         ensures fits { Fits self.new trail.new }
         ensures present { IsPresent trail.new }
-        ensures sound { IsSound self.new.clauses trail.new }
+        ensures implied { AreImplied self.old.clauses trail.old trail.new }
         ensures grown { IsGrown trail.old trail.new }
         ensures quiet { IfNone result (AreQuiet self.new (literals trail.new.entries)) }
         ensures walked { IfNone result (trail.new.walked ≡ length trail.new.entries) }
         ensures conflict { IfSome result (IsConflict self.new.clauses (literals trail.new.entries)) }
+        ensures attached { IfSome result (λ found. IsAttached self.new.watches (2 * found)) }
     {
         let _walked = trail.walked();
         let conflict = walk_all(&self.clauses, &mut self.threads, trail);
@@ -166,7 +166,7 @@ fn no_heads(alloc: Global, count: usize) -> Result<Vec<Head>, AllocError>
     vec![in alloc; none; count]
 }
 
-// Looks at the next clause of a list of watches whose literal became false. Some: a clause all of whose literals are
+// Looks at the next clause of a list of watches whose literal became false. Some: it is attached, all its literals are
 // false, and nothing changes.
 fn visit(
     clauses: &Arena,
@@ -182,9 +182,11 @@ fn visit(
         trail.new literal (links threads.new.watches.items rest.new.left rest.new.at)) }
     ensures fewer { IfNone result (rest.new.left + 1 ≡ rest.old.left) }
     ensures grown { IfNone result (IsGrown trail.old trail.new) }
+    ensures implied { IfNone result (AreImplied clauses.now.clauses trail.old trail.new) }
     ensures walked { IfNone result (trail.new.walked ≡ trail.old.walked) }
     ensures attached { IfNone result (StayAttached threads.old.watches.items threads.new.watches.items) }
     ensures conflict { IfSome result (IsConflict clauses.now.clauses (literals trail.old.entries)) }
+    ensures of_attached { IfSome result (λ id. IsAttached threads.old.watches.items (2 * id)) }
     ensures same_trail { IfSome result (λ _. trail.new ≡ trail.old) }
     ensures same_watches { IfSome result (λ _. threads.new ≡ threads.old) }
     ensures same_rest { IfSome result (λ _. rest.new ≡ rest.old) }
@@ -200,8 +202,8 @@ fn visit(
     None
 }
 
-// Goes over the clauses that watch a literal, whose opposite is the next one to be walked. Some: a clause all of whose
-// literals are false.
+// Goes over the clauses that watch a literal, whose opposite is the next one to be walked. Some: an attached clause all
+// of whose literals are false.
 fn walk(clauses: &Arena, threads: &mut Threads, trail: &mut Trail, literal: SatLit) -> Option<u64>
     requires ready { IsReady clauses.now.clauses threads.old.watches.items threads.old.heads.items trail.old }
     requires there { trail.old.walked < length trail.old.entries }
@@ -212,27 +214,31 @@ fn walk(clauses: &Arena, threads: &mut Threads, trail: &mut Trail, literal: SatL
     ensures some { IfSome result (λ _. IsReady clauses.now.clauses threads.new.watches.items threads.new.heads.items
         trail.new) }
     ensures conflict { IfSome result (IsConflict clauses.now.clauses (literals trail.new.entries)) }
+    ensures of_attached { IfSome result (λ id. IsAttached threads.new.watches.items (2 * id)) }
     ensures grown { IsGrown trail.old trail.new }
+    ensures implied { AreImplied clauses.now.clauses trail.old trail.new }
     ensures walked { trail.new.walked ≡ trail.old.walked }
     ensures attached { StayAttached threads.old.watches.items threads.new.watches.items }
 {
     let mut rest = threads.take(literal);
     while rest.left > 0 {
-        if let Some(conflict) = visit(clauses, threads, trail, literal, &mut rest) {
+        if let Some(failed) = visit(clauses, threads, trail, literal, &mut rest) {
             threads.give_back(rest, literal);
-            return Some(conflict);
+            return Some(failed);
         }
     }
     None
 }
 
-// Walks all literals of a trail that aren't walked. Some: a clause all of whose literals are false.
+// Walks all literals of a trail that aren't walked. Some: an attached clause all of whose literals are false.
 fn walk_all(clauses: &Arena, threads: &mut Threads, trail: &mut Trail) -> Option<u64>
     requires ready { IsReady clauses.now.clauses threads.old.watches.items threads.old.heads.items trail.old }
     ensures ready { IsReady clauses.now.clauses threads.new.watches.items threads.new.heads.items trail.new }
     ensures walked { IfNone result (trail.new.walked ≡ length trail.new.entries) }
     ensures conflict { IfSome result (IsConflict clauses.now.clauses (literals trail.new.entries)) }
+    ensures of_attached { IfSome result (λ id. IsAttached threads.new.watches.items (2 * id)) }
     ensures grown { IsGrown trail.old trail.new }
+    ensures implied { AreImplied clauses.now.clauses trail.old trail.new }
     ensures attached { StayAttached threads.old.watches.items threads.new.watches.items }
 {
     while trail.walked() < trail.len() {

@@ -1,6 +1,7 @@
 -- One literal after the other is walked.
 use Rattle.std.proofs.Common.{subst, sym}
 use Rattle.watch_lists.specs.Watched.{IsReady}
+use Rattle.watch_lists.proofs.GrowLemmas.{implied_twice}
 use Rattle.watch_lists.proofs.PassLemmas.{stay_twice, under_way_step}
 use Rattle.watch_lists.proofs.watches.walk_all.Goals as goal
 
@@ -15,4 +16,9 @@ loop-trail-preserved c =
     let step = c.step.ensures in
     let threads = c.walk.new.threads in
     let walked = c.walk.new.trail in
-    under_way_step c.args.clauses.now.clauses c.args.threads.now.watches.items l.threads.watches.items threads.watches.items l.threads.heads.items threads.heads.items c.args.trail.now l.trail walked c.step.new.self l.invariant (subst (IsReady c.args.clauses.now.clauses threads.watches.items threads.heads.items) (sym step) c.in_default.ensures.none) c.walk.ensures.grown step c.walk.ensures.attached
+    under_way_step c.args.clauses.now.clauses c.args.threads.now.watches.items l.threads.watches.items threads.watches.items l.threads.heads.items threads.heads.items c.args.trail.now l.trail walked c.step.new.self l.invariant (subst (IsReady c.args.clauses.now.clauses threads.watches.items threads.heads.items) (sym step) c.in_default.ensures.none) c.walk.ensures.grown c.walk.ensures.implied step c.walk.ensures.attached
+
+pub returns-in-Some-clause-implied : goal.returns-in-Some-clause-implied
+returns-in-Some-clause-implied c =
+    let l = c.loop-trail in
+    implied_twice c.args.clauses.now.clauses c.args.trail.now l.trail c.walk.new.trail l.invariant.implied c.walk.ensures.grown c.walk.ensures.implied

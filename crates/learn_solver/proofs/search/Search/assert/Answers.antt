@@ -6,9 +6,11 @@ use Rattle.cnf_core.specs.Clauses.{clause_at}
 use Rattle.cnf_core.specs.Derivations.{effect_of}
 use Rattle.trail_core.specs.Trails.{Trailing, literals}
 use Rattle.watch_lists.specs.Feet.{IsReached}
+use Rattle.watch_lists.specs.Propagations.{AreImplied}
 use Rattle.watch_lists.specs.Watched.{Fits, IsCovered, IsRewatched, Watching, with_clause}
 use Rattle.watch_lists.proofs.AttachLemmas.{fits_added}
-use Rattle.learn_solver.proofs.GoneLemmas.{added_at, back_fits, back_present, back_reached, freed, gone}
+use Rattle.watch_lists.proofs.KeepLemmas.{fits_back}
+use Rattle.learn_solver.proofs.GoneLemmas.{added_at, back_present, back_reached, freed, gone}
 use Rattle.learn_solver.proofs.search.Search.assert.Goals as goal
 
 pub leave-requires-clause-level : goal.leave-requires-clause-level
@@ -19,7 +21,7 @@ attach-requires-clause-fits c =
     let w = c.args.self.now.watches in
     let back = c.leave.new.self in
     let added = c.leave.ensures.watches ∙ c.in_ok-id.ensures.added in
-    subst (λ (x : Watching). Fits x back.trail) (sym added) (fits_added w c.args.clause.now back.trail (omega (arith, c.in_ok-id.ensures.size)) (back_fits w c.args.self.now.trail back.trail c.args.level c.leave.ensures.back c.requires.turn.fitting.fits))
+    subst (λ (x : Watching). Fits x back.trail) (sym added) (fits_added w c.args.clause.now back.trail (omega (arith, c.in_ok-id.ensures.size)) (fits_back w c.args.self.now.trail back.trail c.args.level c.requires.turn.fitting.fits c.leave.ensures.back))
 
 pub attach-requires-clause-present : goal.attach-requires-clause-present
 attach-requires-clause-present c = back_present c.args.self.now.trail c.leave.new.self.trail c.args.level c.leave.ensures.back c.requires.turn.fitting.present (c.requires.asserting.lower c.requires.above)
@@ -48,9 +50,11 @@ returns-clause-returned c =
     let after = c.attach.new.self in
     let is = c.leave.ensures.back in
     let rewatched = subst (λ (x : Watching). IsRewatched x after) (c.leave.ensures.watches ∙ c.in_ok-id.ensures.added) c.attach.ensures.attached in
+    let sound = c.requires.sound c.leave.new.self.trail is in
+    let implied = subst (λ (x : Watching). AreImplied x.clauses c.leave.new.self.trail c.attach.new.trail) (c.leave.ensures.watches ∙ c.in_ok-id.ensures.added) c.attach.ensures.implied in
     let covered = subst (IsCovered after c.attach.new.trail.entries) c.in_ok-id.ensures.number c.in-None.ensures.covered in
     record {
-      fitting = gone w after clause c.args.self.now.trail c.leave.new.self.trail c.attach.new.trail c.args.level c.requires.turn.fitting c.in_ok-id.ensures.size is rewatched c.attach.ensures.fits c.attach.ensures.present c.attach.ensures.sound c.attach.ensures.grown covered;
+      fitting = gone w after clause c.args.self.now.trail c.leave.new.self.trail c.attach.new.trail c.args.level c.requires.turn.fitting c.in_ok-id.ensures.size is rewatched c.attach.ensures.fits c.attach.ensures.present sound implied c.attach.ensures.grown covered;
       clauses = rewatched.clauses;
       variables = c.attach.ensures.grown.variables ∙ is.variables;
       tools = c.leave.ensures.tools;

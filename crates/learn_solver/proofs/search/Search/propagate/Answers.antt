@@ -6,7 +6,7 @@ pub returns-clause-turned : goal.returns-clause-turned
 returns-clause-turned c =
     let done = c.propagate-conflict.ensures in
     record {
-      fitting = fitting_on c.args.self.now.watches c.propagate-conflict.new.self c.args.self.now.trail c.propagate-conflict.new.trail c.requires done.rewatched done.fits done.present done.sound done.grown;
+      fitting = fitting_on c.args.self.now.watches c.propagate-conflict.new.self c.args.self.now.trail c.propagate-conflict.new.trail c.requires done.rewatched done.fits done.present done.implied done.grown;
       clauses = done.rewatched.clauses;
       variables = done.grown.variables;
       tools = λ formula ids are. are;
@@ -16,5 +16,5 @@ pub returns-clause-none : goal.returns-clause-none
 returns-clause-none c =
     let done = c.propagate-conflict.ensures in
     let new = c.propagate-conflict.new in
-    let fitting = fitting_on c.args.self.now.watches new.self c.args.self.now.trail new.trail c.requires done.rewatched done.fits done.present done.sound done.grown in
+    let fitting = fitting_on c.args.self.now.watches new.self c.args.self.now.trail new.trail c.requires done.rewatched done.fits done.present done.implied done.grown in
     all_quiet_if new.self new.trail c.propagate-conflict.result c.walked-walked.ensures.trail fitting.covered done.quiet

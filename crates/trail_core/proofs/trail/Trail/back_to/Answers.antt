@@ -1,10 +1,10 @@
 -- What is kept is what has no greater level.
-use Rattle.std.proofs.Common.{◌≡◌, ℕ, ◌-◌, ◌≤◌, List, length, take, drop, nat_le, filter, Option, sym, subst, ap, ◌∙◌, arith}
+use Rattle.std.proofs.Common.{◌≡◌, ℕ, ◌-◌, ◌≤◌, List, length, take, drop, Option, refl, sym, subst, ap, ◌∙◌, arith}
 use Rattle.std.proofs.lemmas.List.{take_rest}
 use Rattle.trail_core.specs.declared.assigned.Assigned.{Assigned}
 use Rattle.trail_core.specs.Trails.{IsCutAt, Trailing}
 use Rattle.trail_core.specs.Places.{IsKept, IsUnset}
-use Rattle.trail_core.proofs.CutLemmas.{kept_cut, kept_is_filter}
+use Rattle.trail_core.proofs.CutLemmas.{cut_back, kept_cut}
 use Rattle.trail_core.proofs.trail.Trail.back_to.Goals as goal
 use Rattle.circuits.proofs.Lists.{given_back}
 
@@ -21,10 +21,12 @@ invariant_of-self c =
     let after = kept_cut old.entries c.truncate.new.self old.places.items c.unset.new.places old.level old.walked c.args.level kept c.self.invariant low cut unset c.truncate.ensures.items c.truncate.ensures.capacity in
     subst (λ (ps : List (Option ℕ)). IsKept c.truncate.new.self ps c.args.level c.min-self-inside.result) (sym back) (subst (λ w. IsKept c.truncate.new.self c.unset.new.places c.args.level w) (sym c.min-self-inside.ensures) after)
 
-pub returns-clause-entries : goal.returns-clause-entries
-returns-clause-entries c =
+pub returns : goal.returns
+returns c =
     let old = c.self.inside in
     let kept = c.kept_at-kept.result in
     let cut = subst (λ (es : List Assigned). IsCutAt c.args.level es kept) c.deref.ensures.value c.kept_at-kept.ensures in
+    let places = given_back old.places.len old.places.items c.deref_mut.result.now c.unset.new.places c.deref_mut.ensures.value c.unset.ensures.same_length (omega (arith, old.places.ok.0)) in
+    let variables = ap length places ∙ (c.unset.ensures.same_length ∙ ap length c.deref_mut.ensures.value) in
     let trail : Trailing = record { variables = length old.places.items; entries = old.entries.items; level = old.level; walked = old.walked } in
-    c.truncate.ensures.items ∙ (kept_is_filter trail c.self.invariant.trail c.args.level kept cut ∙ ap (λ (t : Trailing). filter (λ (e : Assigned). nat_le e.level c.args.level) t.entries) c.self.view_is)
+    cut_back trail c.args.self.now _ c.self.invariant.trail c.self.view_is c.args.level kept cut variables c.truncate.ensures.items refl c.min-self-inside.ensures

@@ -3,10 +3,9 @@ use Rattle.std.proofs.Common.{◌<◌, ◌*◌, List, length, refl, sym, subst, 
 use Rattle.cnf_core.specs.declared.literal.SatLit.{SatLit}
 use Rattle.cnf_core.specs.Clauses.{clause_at}
 use Rattle.watch_lists.specs.Feet.{ArePair, IsSettled}
-use Rattle.watch_lists.specs.Propagations.{IsSound}
 use Rattle.watch_lists.specs.Threads.{ArePut}
 use Rattle.watch_lists.specs.Watched.{Watching}
-use Rattle.watch_lists.proofs.AttachLemmas.{fits_attached, fits_settled, kept_attached, settled_present, settled_sound}
+use Rattle.watch_lists.proofs.AttachLemmas.{fits_attached, fits_settled, kept_attached, settled_implied, settled_present}
 use Rattle.watch_lists.proofs.EffectLemmas.{known_at}
 use Rattle.watch_lists.proofs.watches.Watches.attach.Goals as goal
 
@@ -42,12 +41,10 @@ returns-in-Two-clause-fits c =
 pub returns-in-Two-clause-present : goal.returns-in-Two-clause-present
 returns-in-Two-clause-present c = settled_present c.args.trail.now c.find_foot.new.trail c.get.result.now c.args.id c.requires.present c.find_foot.ensures.settled
 
-pub returns-in-Two-clause-sound : goal.returns-in-Two-clause-sound
-returns-in-Two-clause-sound c =
-    let clauses = c.self.inside.clauses.clauses in
-    let there = subst (λ (w : Watching). c.args.id < length w.clauses) (sym c.self.view_is) c.requires.there in
-    let sound = subst (λ (w : Watching). IsSound w.clauses c.args.trail.now) (sym c.self.view_is) c.requires.sound in
-    settled_sound clauses c.args.trail.now c.find_foot.new.trail c.args.id there sound (subst (λ (cl : List SatLit). IsSettled c.args.trail.now c.find_foot.new.trail cl c.args.id) c.get.ensures c.find_foot.ensures.settled)
+pub returns-in-Two-clause-implied : goal.returns-in-Two-clause-implied
+returns-in-Two-clause-implied c =
+    let get = c.get.ensures ∙ ap (λ (w : Watching). clause_at w.clauses c.args.id) c.self.view_is in
+    settled_implied c.args.self.now.clauses c.args.trail.now c.find_foot.new.trail c.args.id c.requires.there (subst (λ (cl : List SatLit). IsSettled c.args.trail.now c.find_foot.new.trail cl c.args.id) get c.find_foot.ensures.settled)
 
 pub returns-in-Rooted-clause-fits : goal.returns-in-Rooted-clause-fits
 returns-in-Rooted-clause-fits c =
@@ -56,7 +53,7 @@ returns-in-Rooted-clause-fits c =
 pub returns-in-Rooted-clause-present : goal.returns-in-Rooted-clause-present
 returns-in-Rooted-clause-present c = settled_present c.args.trail.now c.find_foot.new.trail c.get.result.now c.args.id c.requires.present c.find_foot.ensures.settled
 
-pub returns-in-Rooted-clause-sound : goal.returns-in-Rooted-clause-sound
-returns-in-Rooted-clause-sound c =
+pub returns-in-Rooted-clause-implied : goal.returns-in-Rooted-clause-implied
+returns-in-Rooted-clause-implied c =
     let get = c.get.ensures ∙ ap (λ (w : Watching). clause_at w.clauses c.args.id) c.self.view_is in
-    settled_sound c.args.self.now.clauses c.args.trail.now c.find_foot.new.trail c.args.id c.requires.there c.requires.sound (subst (λ (cl : List SatLit). IsSettled c.args.trail.now c.find_foot.new.trail cl c.args.id) get c.find_foot.ensures.settled)
+    settled_implied c.args.self.now.clauses c.args.trail.now c.find_foot.new.trail c.args.id c.requires.there (subst (λ (cl : List SatLit). IsSettled c.args.trail.now c.find_foot.new.trail cl c.args.id) get c.find_foot.ensures.settled)

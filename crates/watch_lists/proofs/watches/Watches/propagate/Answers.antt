@@ -1,7 +1,6 @@
 -- What fits is walked.
 use Rattle.std.proofs.Common.{sym, ap, subst, ◌∙◌}
 use Rattle.watch_lists.specs.Watched.{Fits, Watching}
-use Rattle.watch_lists.specs.Propagations.{IsSound}
 use Rattle.watch_lists.proofs.PassLemmas.{quiet_if, ready_from}
 use Rattle.watch_lists.proofs.watches.Watches.propagate.Goals as goal
 
@@ -10,7 +9,7 @@ walk_all-conflict-requires c =
     let old = c.self.inside in
     let w : Watching = record { variables = old.variables; clauses = old.clauses.clauses; watches = old.threads.watches.items } in
     let t = c.args.trail.now in
-    record { ready = ready_from w old.threads.heads.items t c.self.invariant c.walked-walked.ensures.trail (subst (λ (x : Watching). Fits x t) (sym c.self.view_is) c.requires.fits) c.requires.present (subst (λ (x : Watching). IsSound x.clauses t) (sym c.self.view_is) c.requires.sound) }
+    record { ready = ready_from w old.threads.heads.items t c.self.invariant c.walked-walked.ensures.trail (subst (λ (x : Watching). Fits x t) (sym c.self.view_is) c.requires.fits) c.requires.present }
 
 pub returns-clause-quiet : goal.returns-clause-quiet
 returns-clause-quiet c =
