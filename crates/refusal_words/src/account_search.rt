@@ -126,6 +126,12 @@ impl ConclusionSearch {
         self.bans = self.bans.saturating_add(1);
     }
 
+    fn note_conclusion(&mut self, conclusion: &Conclusion) {
+        if let Conclusion::NoneBan(number) = conclusion {
+            self.found = self.is_last(*number);
+        }
+    }
+
     fn is_last(&self, number: u64) -> bool {
         match &self.last {
             Some((last, _)) => *last == number,
@@ -137,15 +143,18 @@ impl ConclusionSearch {
 impl Search for ConclusionSearch {
     fn next(&mut self, record: Record) -> Wanted {
         match record {
-            Record::Ban(ban) => self.note_ban(ban),
-            Record::Conclusion(Conclusion::NoneBan(number)) => {
-                self.found = self.is_last(number);
-                return Wanted::Nothing;
+            Record::Ban(ban) => {
+                self.note_ban(ban);
+                Wanted::More
             }
-            Record::Conclusion(_) => return Wanted::Nothing,
-            _ => {}
+            Record::Conclusion(conclusion) => {
+                self.note_conclusion(&conclusion);
+                Wanted::Nothing
+            }
+            Record::Header | Record::End => Wanted::More,
+            Record::Fact(_fact) => Wanted::More,
+            Record::Line(_line) => Wanted::More,
         }
-        Wanted::More
     }
 }
 

@@ -183,7 +183,7 @@ const BY_MISMATCH: &[u8] =
     b"npnp 1\nfails b 0 up 1 =10\nholds a 0 up 0\nl : 0 7 1\nban i0+1 o0+0 : mismatch 0 1\nban : cover in 0 1 / 1 / 0 0 0 -\nnone ban 1\nend\n";
 
 const BY_VECTOR: &[u8] =
-    b"npnp 1\nban o0-0 : vector 0 11\nban : cover out 0 / 0 / 0 0\nnone ban 1\nend\n";
+    b"npnp 1\nban o0-0 : vector 0 =11\nban : cover out 0 / 0 / 0 0\nnone ban 1\nend\n";
 
 /// Two netlists without a match, the account that says so, and what is told of it.
 static REFUSED: [(&[u8], &[u8], &[u8], &str); 5] = [
