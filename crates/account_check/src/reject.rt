@@ -4,7 +4,7 @@ use cnf_core::LineFault;
 use std::alloc::{AllocError, AllocFailed};
 
 /// What is wrong with a record.
-#[derive(Clone, Copy, Debug, PartialEq, Eq, PartialOrd, Ord, Hash)]
+#[derive(Clone, Copy, Debug, PartialEq, Eq)]
 pub enum Reject {
     /// It names a port that doesn't exist.
     UnknownId,

@@ -50,7 +50,7 @@ impl Drop for Profiles {
 }
 
 /// A vector's profile, and its place in the blocks.
-#[derive(Clone, Copy, Debug, Drop, PartialEq, Eq, PartialOrd, Ord)]
+#[derive(Clone, Copy, Drop, PartialEq, Eq, PartialOrd, Ord)]
 struct Place {
     profile: u64,
     block: usize,
@@ -238,7 +238,7 @@ fn class_of(cells: &[usize], port: u32) -> u64 {
 }
 
 /// A vector of each circuit with one profile.
-#[derive(Clone, Copy, Debug, Drop)]
+#[derive(Clone, Copy, Drop)]
 struct Anchor {
     first: Place,
     second: Place,
@@ -328,7 +328,7 @@ fn anchors(alloc: Global, left: &Profiles, right: &Profiles) -> Result<Vec<Ancho
 }
 
 /// The vectors of one profile.
-#[derive(Clone, Copy, Debug, Drop, PartialEq, Eq, PartialOrd, Ord)]
+#[derive(Clone, Copy, Drop, PartialEq, Eq, PartialOrd, Ord)]
 struct Class {
     /// Whether the first of them was drawn: those that were climbed to tell more.
     is_drawn: bool,

@@ -27,7 +27,7 @@ const PAIRS_OF_RESPONSE: u64 = 16;
 const WHOLE: u64 = 1 << 20;
 
 /// A gate that an input reaches, and what it does where that input is inverted.
-#[derive(Clone, Copy, Debug, Drop)]
+#[derive(Clone, Copy, Drop)]
 struct Response {
     input: usize,
     gate: usize,
@@ -36,7 +36,7 @@ struct Response {
 
 /// A hash of a gate's class and of its response to an input. Inputs that go to each other share those of the gates that both
 /// circuits have.
-#[derive(Clone, Copy, Debug, Drop, PartialEq, Eq, PartialOrd, Ord)]
+#[derive(Clone, Copy, Drop, PartialEq, Eq, PartialOrd, Ord)]
 struct Feature {
     hash: u64,
     input: usize,

@@ -86,7 +86,7 @@ fn inputs_of(alloc: Global, simulator: &FlipSim<'_>) -> Result<Items<Lanes>, All
 }
 
 /// How often a gate had each value.
-#[derive(Clone, Copy, Debug, Drop)]
+#[derive(Clone, Copy, Drop)]
 struct Seen {
     ones: u32,
     zeros: u32,

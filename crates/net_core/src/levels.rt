@@ -11,7 +11,7 @@ use crate::plain_net::PlainNet;
 use std::alloc::{AllocError, Global};
 
 /// How far the search has come at a definition.
-#[derive(Clone, Copy, Debug, Drop, PartialEq, Eq)]
+#[derive(Clone, Copy, Drop)]
 enum Visit {
     /// It was not met yet.
     New,
@@ -22,7 +22,7 @@ enum Visit {
 }
 
 /// A definition on the stack, and how far it was looked at.
-#[derive(Clone, Copy, Debug, Drop, PartialEq, Eq)]
+#[derive(Clone, Copy, Drop)]
 struct Frame {
     position: usize,
     /// The first of its names that was not looked at.

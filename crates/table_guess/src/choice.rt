@@ -9,7 +9,7 @@ use std::alloc::{AllocError, Global};
 use std::cmp::Reverse;
 
 /// How good a cell is to be split by a guess; the least is taken.
-#[derive(Clone, Copy, Debug, Drop, PartialEq, Eq, PartialOrd, Ord)]
+#[derive(Clone, Copy, Drop, PartialEq, Eq, PartialOrd, Ord)]
 struct Rank {
     /// Signs that nothing tells are guessed last.
     is_blind: bool,
