@@ -71,8 +71,8 @@ impl fmt::Display for Look {
                 "this looks like Verilog: `yosys -p 'read_verilog F; synth -flatten; write_blif G'`"
             }
             Look::Liberty => {
-                "this looks like a Liberty library, not a netlist: of a cell, `yosys -p 'read_liberty F; prep -top CELL; techmap; \
-                 write_blif G'`"
+                "this looks like a Liberty library, not a netlist: of a cell, `yosys -p 'read_liberty F; \
+                 prep -top CELL; techmap; write_blif G'`"
             }
         })
     }

@@ -46,9 +46,9 @@ impl fmt::Display for Remedy {
                 "flatten it to one model: `yosys -p 'read_blif F; hierarchy -auto-top; flatten; write_blif G'`"
             }
             Remedy::Unmap => {
-                "replace the cells by what they compute, by their library: `abc -c 'read_genlib LIBRARY; read_blif F; unmap; \
-                 write_blif G'`, or of Liberty `yosys -p 'read_liberty LIBRARY; read_blif F; hierarchy -auto-top; flatten; techmap; \
-                 write_blif G'`"
+                "replace the cells by what they compute, by their library: `abc -c 'read_genlib LIBRARY; \
+                 read_blif F; unmap; write_blif G'`, or of Liberty `yosys -p 'read_liberty LIBRARY; read_blif F; \
+                 hierarchy -auto-top; flatten; techmap; write_blif G'`"
             }
             Remedy::CutBlif => {
                 "cut it at the registers, so that their outputs are inputs: `abc -c 'read_blif F; comb; write_blif G'`"
@@ -57,8 +57,8 @@ impl fmt::Display for Remedy {
                 "cut it at the registers, so that their outputs are inputs: `abc -c 'read_aiger F; comb; write_aiger G'`"
             }
             Remedy::CutAag => {
-                "cut it at the registers, so that their outputs are inputs: `yosys -p 'read_aiger F; write_aiger H'; abc -c \
-                 'read_aiger H; comb; write_aiger G'`"
+                "cut it at the registers, so that their outputs are inputs: `yosys -p 'read_aiger F; \
+                 write_aiger H'; abc -c 'read_aiger H; comb; write_aiger G'`"
             }
         })
     }
