@@ -1,7 +1,7 @@
 -- How many lines can be learned for a query, and what asking it comes to.
-use Rattle.std.proofs.Common.{◌≡◌, ◌+◌, ◌-◌, false, Result, Ok, Err, List, [], ◌∷◌, length, take, slice_index_or, slice_set, ◌∙◌, ap, sym, subst, arith}
+use Rattle.std.proofs.Common.{◌≡◌, suc, ◌+◌, ◌-◌, false, Result, Ok, Err, List, [], ◌∷◌, ◌++◌, length, take, slice_index_or, slice_set, refl, ◌∙◌, ap, sym, subst, arith}
 use Rattle.std.specs.Result.{IsErrAnd}
-use Rattle.std.proofs.lemmas.List.{get_or-set_same, get_or_at, length-append, length-set}
+use Rattle.std.proofs.lemmas.List.{get_or-append-add, length-append}
 use Rattle.cnf_core.specs.declared.log.LogLine.{LogLine}
 use Rattle.cnf_core.specs.declared.stop.Stop.{Stop}
 use Rattle.cnf_core.specs.declared.stop.Stop.TheVariants.{Spent, Memory}
@@ -17,16 +17,29 @@ use Rattle.ask_core.specs.declared.question.Answer.{Answer}
 use Rattle.ask_core.specs.Answers.{Asks, IsAnswer, IsAskedIn, IsAskedWith, IsBounded, IsBoundedStop, IsStoppedAfter}
 use Rattle.ask_core.proofs.AskLemmas.{stopped_weaker}
 
--- the last entry of a query that was opened, with lines in place of its lemmas
-last_with : (query : Query) (lemmas lines : List LogLine) (asked : List Asked) → last_asked (with_lines lines (opened query lemmas asked)) ≡ record (entry_of query lemmas) { lines = lines }
-last_with query lemmas lines asked =
+-- the last one of a list with one more
+last_set : (asked : List Asked) (e f : Asked) → slice_set (asked ++ e ∷ []) (length (asked ++ e ∷ []) - 1) f ≡ asked ++ f ∷ []
+last_set [] e f = refl
+last_set (x ∷ asked) e f =
+    let n : length (x ∷ (asked ++ e ∷ [])) - 1 ≡ suc (length (asked ++ e ∷ []) - 1) = omega (arith, length-append asked (e ∷ [])) in
+    ap (slice_set (x ∷ (asked ++ e ∷ [])) _) refl ∙ (ap (λ k. slice_set (x ∷ (asked ++ e ∷ [])) k f) n ∙ ap (λ xs. x ∷ xs) (last_set asked e f))
+
+pub last_is : (asked : List Asked) (e : Asked) → last_asked (asked ++ e ∷ []) ≡ e
+last_is asked e =
+    let n : length (asked ++ e ∷ []) - 1 ≡ length asked + 0 = omega (arith, length-append asked (e ∷ [])) in
+    ap (λ k. slice_index_or (asked ++ e ∷ []) k nothing_asked) n ∙ get_or-append-add asked (e ∷ []) 0 nothing_asked
+
+-- a query is asked: its entry stands after those for which lines were learned
+pub asked_last : (query : Query) (lemmas lines : List LogLine) (asked : List Asked) → with_lines lines (opened query lemmas asked) ≡ charged_front asked ++ record (entry_of query lemmas) { lines = lines } ∷ []
+asked_last query lemmas lines asked =
     let front = charged_front asked in
-    let xs = opened query lemmas asked in
-    let size : length xs ≡ length front + 1 = length-append front (entry_of query lemmas ∷ []) in
-    let last : last_asked xs ≡ entry_of query lemmas = get_or_at front (entry_of query lemmas) [] nothing_asked (length xs - 1) (omega (arith, size)) in
-    let e : Asked = record (last_asked xs) { lines = lines } in
-    let there = get_or-set_same xs (length xs - 1) e nothing_asked (omega (arith, size)) in
-    ap (λ k. slice_index_or (slice_set xs (length xs - 1) e) (k - 1) nothing_asked) (length-set xs (length xs - 1) e) ∙ (there ∙ ap (λ (a : Asked). record a { lines = lines }) last)
+    let e = entry_of query lemmas in
+    last_set front e (record (last_asked (front ++ e ∷ [])) { lines = lines }) ∙ ap (λ (x : Asked). front ++ record x { lines = lines } ∷ []) (last_is front e)
+
+-- the last entry of a query that was opened, with lines in place of its lemmas
+pub last_with : (query : Query) (lemmas lines : List LogLine) (asked : List Asked) → last_asked (with_lines lines (opened query lemmas asked)) ≡ record (entry_of query lemmas) { lines = lines }
+last_with query lemmas lines asked =
+    ap last_asked (asked_last query lemmas lines asked) ∙ last_is (charged_front asked) (record (entry_of query lemmas) { lines = lines })
 
 pub bounded_with : (graphs : Graphs) (query : Query) (lemmas : List LogLine) (old new : Ledgered) → IsAskedWith lemmas graphs query old new → IsBounded graphs query new
 bounded_with graphs query lemmas old new is =

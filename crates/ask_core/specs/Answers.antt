@@ -54,7 +54,8 @@ pub record IsAskedWith (lemmas : List LogLine) (graphs : Graphs) (query : Query)
   pub budget : new.budget ≡ old.budget
   pub asked : new.asked ≡ with_lines lines (opened query lemmas old.asked)
 
--- A query was asked, by lemmas that make gates of one structure one.
+-- A query was asked by lemmas that joint hashing finds: by each a gate implies another one, from the clauses of the two gates
+-- and from lemmas before it. So no lemma is a line that was learned.
 pub record IsAskedIn (graphs : Graphs) (query : Query) (old new : Ledgered) : Type 0 where
   pub lemmas : List LogLine
   pub are : AreLemmas (formula_of graphs query) lemmas

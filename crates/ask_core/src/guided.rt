@@ -1,11 +1,11 @@
 //! One question, asked with lemmas of any length.
 
-ghost use Rattle.std.specs.Prelude.{◌≡◌, false};
+ghost use Rattle.std.specs.Prelude.{◌≡◌, false, IfOk};
 ghost use Rattle.std.specs.List.{list_any};
 ghost use Rattle.cnf_core.specs.Derivations.{AreDerived, clauses_of, is_empty};
 ghost use Rattle.claim_core.specs.Formulas.{formula_of};
 ghost use Rattle.claim_core.specs.Queries.{IsQuery};
-ghost use Rattle.ask_core.specs.Answers.{Asks, IsAskedWith};
+ghost use Rattle.ask_core.specs.Answers.{Asks, IsAskedWith, IsPaidFor};
 
 use crate::question::Answer;
 use crate::vector::vector_of;
@@ -16,10 +16,11 @@ use number_marks::Marks;
 use query_core::{ConeClauses, Ledger, Query, QueryBase};
 use std::alloc::Global;
 
-/// Answers a query that fits two circuits by the clauses of its cones and by lemmas that are derived in order from its formula,
-/// none of them empty. The search is over the formula's variables, so it costs by the circuits; a guide says what is looked at
-/// first. The ledger gets an entry for it, in place of a last one for which nothing was learned: the lemmas, which cost nothing,
-/// then one line for each conflict. One call learns at most 3^n lines over the n variables of the query's clauses.
+/// Answers a query that fits two circuits by the clauses of its cones and by lemmas that are derived in order from its
+/// formula, none of them empty. The search is over the formula's variables, so it costs by the circuits; a guide says
+/// what is looked at first. The ledger gets an entry for it, in place of a last one for which nothing was learned: the
+/// lemmas, which cost nothing, then one line for each conflict. What the lemmas are is the caller's to say. A log that
+/// refutes has the lines of the entry. One call learns at most 3^n lines over the n variables of the query's clauses.
 ///
 /// # Errors
 ///
@@ -40,7 +41,8 @@ pub fn ask_guided<G: QuestionGuide>(
     requires derived { AreDerived (formula_of graphs.now query.now) lemmas.now }
     requires unclosed { list_any is_empty (clauses_of lemmas.now) ≡ false }
     requires not_spent { ledger.old.spent ≡ false }
-    ensures { Asks (IsAskedWith lemmas.now) graphs.now query.now ledger.old ledger.new result }
+    ensures asks { Asks (IsAskedWith lemmas.now) graphs.now query.now ledger.old ledger.new result }
+    ensures paid_for { IfOk result (IsPaidFor ledger.new) }
 {
     ledger.open(alloc, query, lemmas)?;
     let base = QueryBase::new(alloc, graphs, query)?;

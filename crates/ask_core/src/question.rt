@@ -26,12 +26,13 @@ pub enum Answer {
     Refuted(Log),
 }
 
-/// Answers a query that fits two circuits by the clauses of its two cones, by lemmas that make gates of one structure one, and,
-/// where it isn't answered soon, after looking at gates that seem to be equal. The ledger gets an entry for it, in place of a
-/// last one for which nothing was learned: the lemmas, which cost nothing, then one line for each conflict. A log that refutes
-/// has these lines, so it says of gates that unfold to one tree that they are equal. Spent comes at a conflict that is met with
-/// the budget spent; its line is kept as the refused one. When out of memory, nothing is said of the last entry. One call
-/// learns at most 3^n lines over the n variables of the query's clauses.
+/// Answers a query that fits two circuits by the clauses of its two cones, by lemmas that make gates of one structure
+/// one, and, where it isn't answered soon, after looking at gates that seem to be equal. The ledger gets an entry for
+/// it, in place of a last one for which nothing was learned: the lemmas, which cost nothing, since each takes one step
+/// from the clauses of two gates and from lemmas before it, then one line for each conflict. A log that refutes has
+/// these lines, so it says of gates that unfold to one tree that they are equal. Spent comes at a conflict that is met
+/// with the budget spent; its line is kept as the refused one. When out of memory, nothing is said of the last entry.
+/// One call learns at most 3^n lines over the n variables of the query's clauses.
 pub fn ask(
     alloc: Global,
     graphs: &Graphs<'_>,

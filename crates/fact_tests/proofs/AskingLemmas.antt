@@ -17,6 +17,7 @@ use Rattle.claim_core.specs.declared.query.Query.{Query}
 use Rattle.claim_core.specs.Claims.{IsClaim}
 use Rattle.claim_core.specs.ClaimQueries.{claim_query}
 use Rattle.claim_core.specs.Formulas.{formula_of}
+use Rattle.query_core.specs.declared.ledger.Asked.{Asked}
 use Rattle.query_core.specs.Ledgers.{Ledgered, opened, with_line, IsRefused}
 use Rattle.claim_core.specs.Queries.{IsQuery}
 use Rattle.claim_core.proofs.ClaimQueryLemmas.{claim_query_fits}
@@ -24,12 +25,13 @@ use Rattle.oracle_core.specs.Work.{IsLearned, IsWorkOn}
 use Rattle.ask_core.specs.declared.question.Answer.{Answer}
 use Rattle.ask_core.specs.Answers.{Asks, IsAnswer, IsAskedIn, IsAskedWith}
 use Rattle.ask_core.proofs.AskLemmas.{stopped_weaker}
+use Rattle.ask_core.proofs.BoundLemmas.{asked_last}
 use Rattle.shared_lemmas.specs.Shared.{IsAskedBy}
 use Rattle.fact_tests.specs.Asking.{Decides, IsAsked, IsHalted, entry_with}
 use Rattle.fact_tests.specs.Supports.{IsOutside, closing_line}
 use Rattle.fact_tests.proofs.ConeLemmas.{empty_is_new, graph_is}
 use Rattle.fact_tests.proofs.StructureLemmas.{outside_refuted}
-use Rattle.fact_tests.proofs.WorkLemmas.{asked_last, line_last}
+use Rattle.fact_tests.proofs.WorkLemmas.{line_last}
 
 pub asked_with_of : (graphs : Graphs) (query : Query) (lemmas : List LogLine) (before after : Ledgered) → IsQuery graphs query → IsAskedWith lemmas graphs query before after → IsAsked graphs query before after
 asked_with_of graphs query lemmas before after fits is = record {
@@ -57,8 +59,8 @@ asked_with_of graphs query lemmas before after fits is = record {
 pub asked_of : (graphs : Graphs) (query : Query) (before after : Ledgered) → IsQuery graphs query → IsAskedIn graphs query before after → IsAsked graphs query before after
 asked_of graphs query before after fits is = asked_with_of graphs query is.lemmas before after fits is.with_them
 
-pub asked_by_of : (graphs : Graphs) (query : Query) (before after : Ledgered) → IsQuery graphs query → IsAskedBy graphs query before after → IsAsked graphs query before after
-asked_by_of graphs query before after fits is = asked_with_of graphs query is.lemmas before after fits is.with_them
+pub asked_by_of : {Known : List Asked → Type 0} (graphs : Graphs) (query : Query) (before after : Ledgered) → IsQuery graphs query → IsAskedBy Known graphs query before after → IsAsked graphs query before after
+asked_by_of {Known} graphs query before after fits is = asked_with_of graphs query is.lemmas before after fits is.with_them
 
 -- a query that was asked is decided
 pub decides_of : {Asked : Graphs → Query → Ledgered → Ledgered → Type 0} (graphs : Graphs) (query : Query) (before after : Ledgered) (r : Result Answer Stop) → (Asked graphs query before after → IsAsked graphs query before after) → Asks Asked graphs query before after r → Decides (IsAnswer graphs query) graphs query before after r

@@ -11,27 +11,9 @@ use Rattle.claim_core.specs.declared.query.Query.{Query}
 use Rattle.query_core.specs.declared.ledger.Asked.{Asked}
 use Rattle.query_core.specs.Ledgers.{Ledgered, charged_front, entry_of, last_asked, nothing_asked, opened, with_line, with_lines}
 use Rattle.oracle_core.specs.Work.{AreApart, IsCharged, IsOfClaim, IsOfMatch, IsWorkOn, IsWorkOfClaimsAndMatches}
+use Rattle.ask_core.proofs.BoundLemmas.{asked_last, last_is}
 use Rattle.fact_tests.specs.Asking.{IsAsked, entry_with}
 use Rattle.oracle_core.specs.Oracles.{Known, IsAnswered, IsAsBefore, Keeps, Suits, entry_at}
-
--- the last one of a list with one more
-last_set : (asked : List Asked) (e f : Asked) → slice_set (asked ++ e ∷ []) (length (asked ++ e ∷ []) - 1) f ≡ asked ++ f ∷ []
-last_set [] e f = refl
-last_set (x ∷ asked) e f =
-    let n : length (x ∷ (asked ++ e ∷ [])) - 1 ≡ suc (length (asked ++ e ∷ []) - 1) = omega (arith, length-append asked (e ∷ [])) in
-    ap (slice_set (x ∷ (asked ++ e ∷ [])) _) refl ∙ (ap (λ k. slice_set (x ∷ (asked ++ e ∷ [])) k f) n ∙ ap (λ xs. x ∷ xs) (last_set asked e f))
-
-last_is : (asked : List Asked) (e : Asked) → last_asked (asked ++ e ∷ []) ≡ e
-last_is asked e =
-    let n : length (asked ++ e ∷ []) - 1 ≡ length asked + 0 = omega (arith, length-append asked (e ∷ [])) in
-    ap (λ k. slice_index_or (asked ++ e ∷ []) k nothing_asked) n ∙ get_or-append-add asked (e ∷ []) 0 nothing_asked
-
--- a query is asked: its entry stands after those for which lines were learned
-pub asked_last : (query : Query) (lemmas lines : List LogLine) (asked : List Asked) → with_lines lines (opened query lemmas asked) ≡ charged_front asked ++ entry_with query (length lemmas) lines ∷ []
-asked_last query lemmas lines asked =
-    let front = charged_front asked in
-    let e = entry_of query lemmas in
-    last_set front e (record (last_asked (front ++ e ∷ [])) { lines = lines }) ∙ ap (λ (x : Asked). front ++ record x { lines = lines } ∷ []) (last_is front e)
 
 -- one line was learned for a query that was opened
 pub line_last : (query : Query) (line : LogLine) (asked : List Asked) → with_line line (opened query [] asked) ≡ charged_front asked ++ entry_with query 0 (line ∷ []) ∷ []

@@ -10,6 +10,7 @@ use Rattle.oracle_core.specs.Oracles.{Known}
 use Rattle.ask_core.specs.Answers.{IsAnswer}
 use Rattle.fact_tests.specs.Kept.{Kept}
 use Rattle.fact_tests.specs.declared.deciding.Source.{Source}
+use Rattle.shared_lemmas.specs.Shared.{Sharing}
 
 -- what is known without asking is of this circuit
 abbrev pub IsSource : Net → Source → Type 0
@@ -34,7 +35,7 @@ pub record IsBook (graphs : Graphs) (facts : List Fact) (kept : List Kept) : Typ
   pub kept_are : All (IsKept graphs) kept
 
 -- What is known without asking is of either circuit, and what questions share of both.
-pub record AreSources (graphs : Graphs) (first second : Source) (shared : Graphs) : Type 0 where
+pub record AreSources (graphs : Graphs) (first second : Source) (shared : Sharing) : Type 0 where
   pub first_is : IsSource graphs.first first
   pub second_is : IsSource graphs.second second
-  pub shared_is : shared ≡ graphs
+  pub shared_is : shared.graphs ≡ graphs

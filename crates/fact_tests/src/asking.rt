@@ -51,10 +51,11 @@ pub(crate) fn shared_answer_to<W: Watch>(
     ledger: &mut Ledger,
     watch: &W,
 ) -> Result<Answer, Stop>
-    requires fits { IsQuery shared.old query.now }
+    requires fits { IsQuery shared.old.graphs query.now }
     requires unspent { ledger.old.spent ≡ false }
-    ensures same { shared.new ≡ shared.old }
-    ensures decides { Decides (IsAnswer shared.old query.now) shared.old query.now ledger.old ledger.new result }
+    ensures same { shared.new.graphs ≡ shared.old.graphs }
+    ensures decides { Decides (IsAnswer shared.old.graphs query.now) shared.old.graphs query.now
+        ledger.old ledger.new result }
 {
     shared.ask(alloc, query, ledger, watch)
 }

@@ -11,17 +11,11 @@ use Rattle.claim_core.specs.Formulas.{plain}
 use Rattle.joint_hash.specs.declared.gates.ConeGate.{ConeGate}
 use Rattle.joint_hash.specs.declared.twins.Twin.{Twin}
 use Rattle.joint_hash.specs.Chains.{LeadOn, LeavesOnly}
+use Rattle.joint_hash.specs.Merging.{HasClauses}
 use Rattle.joint_hash.specs.Classes.{AreTwins, IsTwin, chain_ids, lemma_ids, operands_of, representative, twin_literal}
 use Rattle.cnf_core.proofs.LiteralLemmas.{opposite_twice, same_from, same_itself}
 use Rattle.joint_hash.proofs.LiteralLemmas.{AreTheSame, in_order_same, negated_is, plain_is}
 use Rattle.joint_hash.proofs.LeadLemmas.{last_true, lead_too, nothing_new, stays_true}
-
--- The three clauses of a gate are among these.
-pub record HasClauses (clauses : List (List SatLit)) (gate : ConeGate) : Type 0 where
-  pub there : gate.id + 2 < length clauses
-  pub to_first : clause_at clauses gate.id ≡ opposite gate.output ∷ gate.first ∷ []
-  pub to_second : clause_at clauses (gate.id + 1) ≡ opposite gate.output ∷ gate.second ∷ []
-  pub from_both : clause_at clauses (gate.id + 2) ≡ gate.output ∷ opposite gate.first ∷ opposite gate.second ∷ []
 
 -- a clause that leaves one literal, and then the others
 one_step : (clauses : List (List SatLit)) (made : List SatLit) (id : ℕ) (ids : List ℕ) (clause : List SatLit) (l : SatLit) → id < length clauses → clause_at clauses id ≡ clause → LeavesOnly made clause l → LeadOn clauses (made ++ l ∷ []) ids → LeadOn clauses made (id ∷ ids)

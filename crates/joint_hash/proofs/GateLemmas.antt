@@ -1,7 +1,7 @@
 -- The gates of a query's cones: their clauses, and that operands come first and one variable has one pair of operands.
 use Rattle.std.proofs.Common.{◌≡◌, ◌≢◌, ℕ, zero, suc, ◌+◌, ◌-◌, ◌*◌, ◌%◌, ◌<◌, ◌≤◌, cond, Bool, true, false, List, [], ◌∷◌, ◌++◌, length, take, All, slice_index_or, inl, inr, refl, sym, ◌∙◌, ap, subst, arith}
 use Rattle.std.proofs.lemmas.Bool.{cases_lt}
-use Rattle.std.proofs.lemmas.List.{get_or_append_left, get_or_default, get_or-take, length-append, length-take}
+use Rattle.std.proofs.lemmas.List.{get_or_append_left, get_or_default, get_or-take, append-nil, length-append, length-take}
 use Rattle.std.proofs.lemmas.List.FromFn.{length-range_with_len}
 use Rattle.circuits.specs.declared.netlist.Lit.{Lit}
 use Rattle.circuits.specs.declared.netlist.Gate.{Gate}
@@ -25,7 +25,7 @@ use Rattle.query_core.proofs.VariableLemmas.{reached_there}
 use Rattle.joint_hash.specs.declared.gates.ConeGate.{ConeGate}
 use Rattle.joint_hash.specs.Trees.{IsGateOf, IsReachedGate}
 use Rattle.joint_hash.specs.Classes.{HasGate}
-use Rattle.joint_hash.proofs.ChainLemmas.{HasClauses}
+use Rattle.joint_hash.specs.Merging.{HasClauses, IsInner}
 use Rattle.cnf_core.proofs.LiteralLemmas.{opposite_twice, variable_of-opposite}
 use Rattle.joint_hash.proofs.LiteralLemmas.{negated-plain, variable_of-plain}
 use Rattle.joint_hash.proofs.MergeLemmas.{AreNested}
@@ -102,6 +102,17 @@ gate_has graphs query more gate (inr of) =
 pub gate_there : (graphs : Graphs) (query : Query) (gate : ConeGate) → IsGateOf graphs query gate → gate.id + 2 < length (query_clauses graphs query)
 gate_there graphs query gate (inl of) = omega (arith, count_of graphs query, of.id_is, of.there)
 gate_there graphs query gate (inr of) = omega (arith, count_of graphs query, of.id_is, of.there)
+
+-- its clauses come before those of the outputs
+pub gate_inner : (graphs : Graphs) (query : Query) (gate : ConeGate) → IsGateOf graphs query gate → IsInner (formula_of graphs query) gate
+gate_inner graphs query gate is = record {
+  clauses = subst (λ (cs : List (List SatLit)). HasClauses cs gate) (append-nil (query_clauses graphs query)) (gate_has graphs query [] gate is);
+  early = below is;
+}
+  where
+    below : IsGateOf graphs query gate → gate.id + 4 < length (query_clauses graphs query)
+    below (inl of) = omega (arith, count_of graphs query, of.id_is, of.there)
+    below (inr of) = omega (arith, count_of graphs query, of.id_is, of.there)
 
 -- its variable is one of the formula's
 pub gate_known : (graphs : Graphs) (query : Query) (gate : ConeGate) → IsQuery graphs query → IsGateOf graphs query gate → variable_of gate.output < (formula_of graphs query).variables

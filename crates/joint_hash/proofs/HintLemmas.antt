@@ -1,6 +1,7 @@
 -- Hints, one after the other, and the lines that they derive.
-use Rattle.std.proofs.Common.{◌≡◌, ℕ, suc, ◌≤◌, drop, drop_of_length-le, ◌+◌, ◌<◌, cond, List, [], ◌∷◌, ◌++◌, length, None, Some, slice_index_or, refl, ◌∙◌, ap, subst, arith, append_assoc}
+use Rattle.std.proofs.Common.{◌≡◌, ℕ, suc, ◌≤◌, drop, drop_of_length-le, ◌+◌, ◌<◌, cond, List, [], ◌∷◌, ◌++◌, length, All, Contains, None, Some, slice_index_or, refl, ◌∙◌, ap, subst, arith, append_assoc}
 use Rattle.std.proofs.lemmas.Bool.{lt-ltb}
+use Rattle.std.proofs.lemmas.List.Elements.{All-push, Contains-get_or}
 use Rattle.cnf_core.specs.declared.literal.SatLit.{SatLit}
 use Rattle.cnf_core.specs.declared.effect.Effect.TheVariants.{Conflict, Makes, Neither}
 use Rattle.cnf_core.specs.declared.fault.LineFault.TheVariants as fault
@@ -34,10 +35,11 @@ hint_ends clauses start made hints id is there conflict =
     ∙ (ap (λ t. cond t (fault_after (effect_of made (clause_at clauses id)) [] (λ m. hint_fault clauses (made ++ m ∷ []) [])) (Some fault.UnknownHint)) (lt-ltb id (length clauses) there)
     ∙ ap (λ e. fault_after e [] (λ m. hint_fault clauses (made ++ m ∷ []) [])) conflict)
 
--- Hints so far, and clauses that lead on from there if all of them do from the start.
+-- Hints so far, which are some of the numbers, and clauses that lead on from there if all of them do from the start.
 pub record IsOnTheWay (clauses : List (List SatLit)) (start made : List SatLit) (hints all ids : List ℕ) : Type 0 where
   pub hinted : IsHinted clauses start made hints
   pub leads : LeadOn clauses start all → LeadOn clauses made ids
+  pub among : All (Contains all) hints
 
 -- the next clause
 next_leads : (clauses : List (List SatLit)) (start made : List SatLit) (hints ids : List ℕ) (i : ℕ) → i < length ids → IsOnTheWay clauses start made hints ids (drop i ids) → LeadOn clauses start ids → LeadOn clauses made (slice_index_or ids i 0 ∷ drop (i + 1) ids)
@@ -54,12 +56,14 @@ pub way_makes : (clauses : List (List SatLit)) (start made : List SatLit) (hints
 way_makes clauses start made hints ids i l within there way makes = record {
   hinted = hint_makes clauses start made hints (slice_index_or ids i 0) l way.hinted there makes;
   leads = λ lead. lead_makes clauses made (slice_index_or ids i 0) (drop (i + 1) ids) l (next_leads clauses start made hints ids i within way lead) makes;
+  among = All-push (Contains ids) hints (slice_index_or ids i 0) way.among (Contains-get_or ids i 0 within);
 }
 
 pub way_neither : (clauses : List (List SatLit)) (start made : List SatLit) (hints ids : List ℕ) (i : ℕ) → i < length ids → IsOnTheWay clauses start made hints ids (drop i ids) → effect_of made (clause_at clauses (slice_index_or ids i 0)) ≡ Neither → IsOnTheWay clauses start made hints ids (drop (i + 1) ids)
 way_neither clauses start made hints ids i within way neither = record {
   hinted = way.hinted;
   leads = λ lead. lead_neither clauses made (slice_index_or ids i 0) (drop (i + 1) ids) (next_leads clauses start made hints ids i within way lead) neither;
+  among = way.among;
 }
 
 -- it doesn't come to its end

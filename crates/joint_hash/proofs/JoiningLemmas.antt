@@ -9,6 +9,7 @@ use Rattle.cnf_core.specs.Derivations.{clauses_of, hint_fault}
 use Rattle.net_core.specs.Sides.{Graphs}
 use Rattle.claim_core.specs.declared.query.Query.{Query}
 use Rattle.claim_core.specs.Formulas.{formula_of}
+use Rattle.joint_hash.specs.Merging.{IsImplication}
 use Rattle.joint_hash.specs.Trees.{AreEqualBy, AreJoining}
 use Rattle.joint_hash.proofs.LineLemmas.{lemma_more}
 
@@ -23,11 +24,11 @@ equal_later lines line one other equal = record {
   back = clause_later lines line (one ∷ opposite other ∷ []) equal.back;
 }
 
-pub joining_more : (graphs : Graphs) (query : Query) (lines : List LogLine) (clause : List SatLit) (hints : List ℕ) (a b : SatLit) → AreJoining graphs query lines → clause ≡ a ∷ b ∷ [] → variable_of a < (formula_of graphs query).variables → variable_of b < (formula_of graphs query).variables → variable_of a ≢ variable_of b → hint_fault ((formula_of graphs query).clauses ++ clauses_of lines) (map opposite clause) hints ≡ None → AreJoining graphs query (lines ++ record { clause = clause; hints = hints } ∷ [])
-joining_more graphs query lines clause hints a b are is below there apart good =
+pub joining_more : (graphs : Graphs) (query : Query) (lines : List LogLine) (clause : List SatLit) (hints : List ℕ) (a b : SatLit) → AreJoining graphs query lines → clause ≡ a ∷ b ∷ [] → variable_of a < (formula_of graphs query).variables → variable_of b < (formula_of graphs query).variables → variable_of a ≢ variable_of b → hint_fault ((formula_of graphs query).clauses ++ clauses_of lines) (map opposite clause) hints ≡ None → IsImplication (formula_of graphs query) (record { clause = clause; hints = hints }) → AreJoining graphs query (lines ++ record { clause = clause; hints = hints } ∷ [])
+joining_more graphs query lines clause hints a b are is below there apart good implies =
     let line : LogLine = record { clause = clause; hints = hints } in
     record {
-      lemmas = lemma_more (formula_of graphs query) lines clause hints a b are.lemmas is below there apart good;
+      lemmas = lemma_more (formula_of graphs query) lines clause hints a b are.lemmas is below there apart good implies;
       joined = λ gate is_gate.
           let old = are.joined gate is_gate in
           record {

@@ -14,6 +14,7 @@ use Rattle.joint_hash.specs.declared.gates.ConeGate.{ConeGate}
 use Rattle.joint_hash.specs.declared.twins.Twin.{Twin}
 use Rattle.joint_hash.specs.Trees.{IsGateOf}
 use Rattle.joint_hash.specs.Chains.{AreListed}
+use Rattle.joint_hash.specs.Merging.{AreBetween}
 use Rattle.joint_hash.specs.Classes.{AreLate, AreTwins, chain_ids, lemma_ids}
 
 -- the clause of a number that isn't below the count is that of a line
@@ -57,14 +58,43 @@ lemma_listed count twins ids l onto are = by_twin (twins (variable_of l)) refl
             by_sign true = to
             by_sign false = from
 
-pub chain_listed : (graphs : Graphs) (query : Query) (ids : List ℕ) (count : ℕ) (clauses : List (List SatLit)) (twins : ℕ → Option Twin) (start end : ConeGate) → AreConeIds graphs query ids → AreTwins count clauses twins → IsGateOf graphs query start → IsGateOf graphs query end → AreListed count ids (chain_ids twins start end)
-chain_listed graphs query ids count clauses twins start end are twins_are of_start of_end =
+-- numbers of clauses by which a gate implies another one are those of the cones, or of lemmas
+pub between_listed : (graphs : Graphs) (query : Query) (ids : List ℕ) (count : ℕ) (start end : ConeGate) (some : List ℕ) → AreConeIds graphs query ids → IsGateOf graphs query start → IsGateOf graphs query end → AreBetween count start end some → AreListed count ids some
+between_listed graphs query ids count start end some are of_start of_end between k d within early =
+    at (slice_index_or some k d) (between k d within early)
+  where
+    four : List ℕ
+    four = 0 ∷ start.id ∷ (start.id + 1) ∷ (end.id + 2) ∷ []
+
+    all : All (Contains ids) four
+    all =
+        let P : ℕ → Type 0 = Contains ids in
+        let plain : start.id + 0 ≡ start.id = omega arith in
+        All-cons P 0 (start.id ∷ (start.id + 1) ∷ (end.id + 2) ∷ []) ((are.cones 0).1 (inl refl)) (All-cons P start.id ((start.id + 1) ∷ (end.id + 2) ∷ []) (subst (Contains ids) plain (gate_listed graphs query ids start 0 are of_start (omega arith))) (All-cons P (start.id + 1) ((end.id + 2) ∷ []) (gate_listed graphs query ids start 1 are of_start (omega arith)) (All-cons P (end.id + 2) [] (gate_listed graphs query ids end 2 are of_end (omega arith)) (λ k d within. absurd (omega (arith, within))))))
+
+    at : (id : ℕ) → Contains four id → Contains ids id
+    at id (j, below, is) = subst (Contains ids) is (all j id below)
+
+-- the four clauses
+pub start_between : (start end : ConeGate) → Contains (0 ∷ start.id ∷ (start.id + 1) ∷ (end.id + 2) ∷ []) start.id
+start_between start end = (1, omega arith, refl)
+
+pub second_between : (start end : ConeGate) → Contains (0 ∷ start.id ∷ (start.id + 1) ∷ (end.id + 2) ∷ []) (start.id + 1)
+second_between start end = (2, omega arith, refl)
+
+pub end_between : (start end : ConeGate) → Contains (0 ∷ start.id ∷ (start.id + 1) ∷ (end.id + 2) ∷ []) (end.id + 2)
+end_between start end = (3, omega arith, refl)
+
+pub constant_between : (start end : ConeGate) → Contains (0 ∷ start.id ∷ (start.id + 1) ∷ (end.id + 2) ∷ []) 0
+constant_between start end = (0, omega arith, refl)
+
+pub chain_between : (count : ℕ) (clauses : List (List SatLit)) (twins : ℕ → Option Twin) (start end : ConeGate) → AreTwins count clauses twins → AreBetween count start end (chain_ids twins start end)
+chain_between count clauses twins start end twins_are =
     let late = twins_late count clauses twins twins_are in
+    let ids = 0 ∷ start.id ∷ (start.id + 1) ∷ (end.id + 2) ∷ [] in
     let P : ℕ → Type 0 = λ id. id < count → Contains ids id in
-    let plain : start.id + 0 ≡ start.id = omega arith in
-    let first : P start.id = λ early. subst (Contains ids) plain (gate_listed graphs query ids start 0 are of_start (omega arith)) in
-    let own : All P (start.id ∷ (start.id + 1) ∷ []) = All-cons P start.id ((start.id + 1) ∷ []) first (All-cons P (start.id + 1) [] (λ early. gate_listed graphs query ids start 1 are of_start (omega arith)) (none_listed count ids)) in
-    let last : All P ((end.id + 2) ∷ []) = All-cons P (end.id + 2) [] (λ early. gate_listed graphs query ids end 2 are of_end (omega arith)) (none_listed count ids) in
+    let own : All P (start.id ∷ (start.id + 1) ∷ []) = All-cons P start.id ((start.id + 1) ∷ []) (λ early. start_between start end) (All-cons P (start.id + 1) [] (λ early. second_between start end) (none_listed count ids)) in
+    let last : All P ((end.id + 2) ∷ []) = All-cons P (end.id + 2) [] (λ early. end_between start end) (none_listed count ids) in
     let a = lemma_listed count twins ids start.first true late in
     let b = lemma_listed count twins ids start.second true late in
     let c = lemma_listed count twins ids end.first false late in
@@ -75,6 +105,10 @@ chain_listed graphs query ids count clauses twins start end are twins_are of_sta
     let r = lemma_ids (twins (variable_of end.second)) end.second false in
     let front = start.id ∷ (start.id + 1) ∷ [] in
     All-append P (front ++ o ++ p ++ q ++ r) ((end.id + 2) ∷ []) (All-append P (front ++ o ++ p ++ q) r (All-append P (front ++ o ++ p) q (All-append P (front ++ o) p (All-append P front o own a) b) c) d) last
+
+pub chain_listed : (graphs : Graphs) (query : Query) (ids : List ℕ) (count : ℕ) (clauses : List (List SatLit)) (twins : ℕ → Option Twin) (start end : ConeGate) → AreConeIds graphs query ids → AreTwins count clauses twins → IsGateOf graphs query start → IsGateOf graphs query end → AreListed count ids (chain_ids twins start end)
+chain_listed graphs query ids count clauses twins start end are twins_are of_start of_end =
+    between_listed graphs query ids count start end (chain_ids twins start end) are of_start of_end (chain_between count clauses twins start end twins_are)
 
 -- ---- a number more
 

@@ -26,3 +26,7 @@ LeadOn clauses made (id ∷ ids) =
 -- those of these numbers that are below a count are among others
 abbrev pub AreListed : ℕ → List ℕ → List ℕ → Type 0
 AreListed count listed ids = All (λ id. id < count → Contains listed id) ids
+
+-- what is added to numbers are those of lines, and that of the clause of variable 0
+abbrev pub AddsLines : ℕ → List ℕ → List ℕ → Type 0
+AddsLines count old new = (listed : List ℕ) → Contains listed 0 → AreListed count listed old → AreListed count listed new

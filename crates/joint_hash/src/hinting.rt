@@ -1,6 +1,6 @@
 //! Hints that derive a clause.
 
-ghost use Rattle.std.specs.Prelude.{◌≡◌, ◌≢◌, ◌<◌, ◌++◌, Contains, None, IfOk, IfSome, length, map, nat_lt};
+ghost use Rattle.std.specs.Prelude.{◌≡◌, ◌≢◌, ◌<◌, ◌++◌, All, Contains, None, IfOk, IfSome, length, map, nat_lt};
 ghost use Rattle.cnf_core.specs.Clauses.{clause_at, opposite};
 ghost use Rattle.cnf_core.specs.Derivations.{clauses_of, effect_of, hint_fault};
 ghost use Rattle.claim_core.specs.Formulas.{query_clauses};
@@ -23,6 +23,7 @@ pub(crate) fn hints_among(
     requires { AreListed (length (query_clauses cones.now.graphs cones.now.query)) cones.now.ids ids.now }
     ensures derive { IfOk result (λ found. IfSome found (λ hints.
         hint_fault (query_clauses cones.now.graphs cones.now.query ++ clauses_of lines.now) (map opposite clause.now) hints ≡ None)) }
+    ensures among { IfOk result (λ found. IfSome found (All (Contains ids.now))) }
     ensures found { LeadOn (query_clauses cones.now.graphs cones.now.query ++ clauses_of lines.now) (map opposite clause.now) ids.now
         → IfOk result (λ found. found ≢ None) }
 {

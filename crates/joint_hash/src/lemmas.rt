@@ -5,7 +5,7 @@ ghost use Rattle.cnf_core.specs.Clauses.{opposite, variable_of};
 ghost use Rattle.cnf_core.specs.Derivations.{clauses_of};
 ghost use Rattle.claim_core.specs.Formulas.{formula_of, query_clauses};
 ghost use Rattle.joint_hash.specs.Chains.{AreListed, LeadOn, clauses_with};
-ghost use Rattle.joint_hash.specs.Merging.{AreLemmas};
+ghost use Rattle.joint_hash.specs.Merging.{AreLemmas, IsImplication};
 ghost use Rattle.joint_hash.specs.Trees.{AreJoining};
 
 use crate::hinting::hints_among;
@@ -28,6 +28,8 @@ pub(crate) fn add_lemma(
     requires two { variable_of one ≢ variable_of other }
     requires lemmas { AreLemmas (formula_of cones.now.graphs cones.now.query) lines.old.items }
     requires listed { AreListed (length (query_clauses cones.now.graphs cones.now.query)) cones.now.ids ids.now }
+    requires implies { IsImplication (formula_of cones.now.graphs cones.now.query)
+        (record { clause = one ∷ other ∷ []; hints = ids.now }) }
     requires leads { LeadOn (clauses_with (formula_of cones.now.graphs cones.now.query) lines.old.items)
         (opposite one ∷ opposite other ∷ []) ids.now }
     ensures lemmas { OnOk result (AreLemmas (formula_of cones.now.graphs cones.now.query) lines.new.items) }
@@ -54,6 +56,8 @@ pub(crate) fn add_derived(
     requires other { variable_of other < (formula_of cones.now.graphs cones.now.query).variables }
     requires joining { AreJoining cones.now.graphs cones.now.query lines.old.items }
     requires listed { AreListed (length (query_clauses cones.now.graphs cones.now.query)) cones.now.ids ids.now }
+    requires implies { IsImplication (formula_of cones.now.graphs cones.now.query)
+        (record { clause = one ∷ other ∷ []; hints = ids.now }) }
     ensures { OnOk result (AreJoining cones.now.graphs cones.now.query lines.new.items) }
 {
     if one.variable() == other.variable() {

@@ -2,8 +2,9 @@
 
 ghost use Rattle.std.specs.Prelude.{◌≡◌, IfOk, IfSome, OnOk, length};
 ghost use Rattle.claim_core.specs.Formulas.{query_clauses};
-ghost use Rattle.joint_hash.specs.Chains.{AreListed};
+ghost use Rattle.joint_hash.specs.Chains.{AddsLines};
 ghost use Rattle.joint_hash.specs.Classes.{AreLate, twin_of};
+ghost use Rattle.joint_hash.specs.Merging.{AreBetween};
 ghost use Rattle.joint_hash.specs.Trees.{AreJoining, IsGateOf};
 
 use crate::gates::{ConeGate, gate_at};
@@ -281,6 +282,7 @@ fn add_implication(
         return Ok(());
     }
     let _graphs = cones.graphs();
+    let _ids = cones.ids();
     let place = lines.len();
     let steps = steps(alloc, cones, twins, implications, gate, copy)?;
     if !add_derived(
@@ -309,9 +311,8 @@ fn steps(
     requires late { AreLate (length (query_clauses cones.now.graphs cones.now.query)) (twin_of twins.now.entries) }
     requires gate { IsGateOf cones.now.graphs cones.now.query gate.now }
     requires copy { IsGateOf cones.now.graphs cones.now.query copy.now }
-    ensures { IfOk result (λ ids. AreListed (length (query_clauses cones.now.graphs cones.now.query)) cones.now.ids ids.items) }
+    ensures { IfOk result (λ ids. AreBetween (length (query_clauses cones.now.graphs cones.now.query)) gate.now copy.now ids.items) }
 {
-    let _ids = cones.ids();
     let _count = cones.count();
     let mut ids = Vec::new(alloc);
     ids.push(gate.id)?;
@@ -340,8 +341,7 @@ fn push_link(
     ids: &mut Vec<u64>,
 ) -> Result<(), AllocError>
     requires late { AreLate (length (query_clauses cones.now.graphs cones.now.query)) (twin_of twins.now.entries) }
-    requires listed { AreListed (length (query_clauses cones.now.graphs cones.now.query)) cones.now.ids ids.old.items }
-    ensures { OnOk result (AreListed (length (query_clauses cones.now.graphs cones.now.query)) cones.now.ids ids.new.items) }
+    ensures { OnOk result (AddsLines (length (query_clauses cones.now.graphs cones.now.query)) ids.old.items ids.new.items) }
 {
     if one == other {
         return Ok(());
@@ -357,18 +357,15 @@ fn push_link(
 
 // Adds the number of the clause that says that variable 0 is true.
 fn push_constant(cones: &ConeClauses<'_>, ids: &mut Vec<u64>) -> Result<(), AllocError>
-    requires { AreListed (length (query_clauses cones.now.graphs cones.now.query)) cones.now.ids ids.old.items }
-    ensures { OnOk result (AreListed (length (query_clauses cones.now.graphs cones.now.query)) cones.now.ids ids.new.items) }
+    ensures { OnOk result (AddsLines (length (query_clauses cones.now.graphs cones.now.query)) ids.old.items ids.new.items) }
 {
-    let _ids = cones.ids();
     ids.push(0)?;
     Ok(())
 }
 
 // Adds the number of the line at a place.
 fn push_line(cones: &ConeClauses<'_>, place: usize, ids: &mut Vec<u64>) -> Result<(), AllocError>
-    requires { AreListed (length (query_clauses cones.now.graphs cones.now.query)) cones.now.ids ids.old.items }
-    ensures { OnOk result (AreListed (length (query_clauses cones.now.graphs cones.now.query)) cones.now.ids ids.new.items) }
+    ensures { OnOk result (AddsLines (length (query_clauses cones.now.graphs cones.now.query)) ids.old.items ids.new.items) }
 {
     ids.push(cones.count().saturating_add(place as u64))?;
     Ok(())
@@ -383,8 +380,7 @@ fn push_class(
     ids: &mut Vec<u64>,
 ) -> Result<(), AllocError>
     requires late { AreLate (length (query_clauses cones.now.graphs cones.now.query)) (twin_of twins.now.entries) }
-    requires listed { AreListed (length (query_clauses cones.now.graphs cones.now.query)) cones.now.ids ids.old.items }
-    ensures { OnOk result (AreListed (length (query_clauses cones.now.graphs cones.now.query)) cones.now.ids ids.new.items) }
+    ensures { OnOk result (AddsLines (length (query_clauses cones.now.graphs cones.now.query)) ids.old.items ids.new.items) }
 {
     let _count = cones.count();
     push_lemma(ids, twins, one, true)?;

@@ -1,8 +1,9 @@
 -- A line is derived wherever the clauses at its hints stand.
-use Rattle.std.proofs.Common.{◌≡◌, ℕ, ◌-◌, ◌<◌, ◌≤◌, ◌==◌, ◌||◌, cond, Bool, true, false, List, [], ◌∷◌, ◌++◌, length, map, take, Option, None, Some, nat_lt, slice_index_or, inl, inr, refl, sym, ◌∙◌, ap, arith}
+use Rattle.std.proofs.Common.{◌≡◌, ◌⊎◌, ℕ, ◌-◌, ◌<◌, ◌≤◌, ◌==◌, ◌||◌, cond, Bool, true, false, List, [], ◌∷◌, ◌++◌, length, map, take, All, Contains, Option, None, Some, nat_lt, slice_index_or, inl, inr, refl, sym, ◌∙◌, ap, subst, arith}
 use Rattle.std.specs.List.{list_any, list_all}
 use Rattle.std.proofs.lemmas.Bool.{cases_lt, eq-eqb, eqb-true, false≢true, le-ltb, lt-ltb}
-use Rattle.std.proofs.lemmas.List.{get_or_append_left, get_or-append_right, get_or-take, length-append, length-map, length-take, nil_from_length, take-map}
+use Rattle.std.proofs.lemmas.List.{get_or_append_left, get_or-append_right, get_or-map, get_or-take, length-append, length-map, length-take, nil_from_length, take-map}
+use Rattle.std.proofs.lemmas.List.Elements.{All-push, Contains-get_or}
 use Rattle.std.proofs.lemmas.List.Folds.{list_any-append}
 use Rattle.cnf_core.specs.declared.literal.SatLit.{SatLit}
 use Rattle.cnf_core.specs.declared.log.LogLine.{LogLine}
@@ -11,7 +12,7 @@ use Rattle.cnf_core.specs.Derivations.{AreDerived, IsRefutation, clauses_of, hin
 use Rattle.learn_solver.proofs.AdvanceLemmas.{unrefuted_more}
 use Rattle.learn_solver.proofs.SolverLemmas.{clauses_more, derived_more, hints_carried, line_from, line_says}
 use Rattle.log_parts.specs.declared.common.Common.{Common}
-use Rattle.log_parts.specs.Parts.{ArePlaced, GoesOn, HaveCommon, IsLastOf, IsRenumbered, MayGoOn, Trims, number_in}
+use Rattle.log_parts.specs.Parts.{ArePlaced, AreWritten, GoesOn, HaveCommon, IsLastOf, IsRenumbered, IsWrittenAs, IsWrittenOf, MayGoOn, Trims, number_in}
 
 module _ (common : Common) (one other : Formula) (source target : List LogLine) (numbers : List (Option ℕ)) (have : HaveCommon common one other) (placed : ArePlaced common.count source target numbers) where
   -- a clause that has a number in the other log stands there
@@ -107,3 +108,50 @@ trimmed common lines part numbers last own whole is_last placed goes_on renumber
     } in
     let goes = goes_on formula formula have refutes.derived (nothing_goes_on formula) in
     closed_by formula part own goes (line_carried common formula formula lines part numbers have placed (length lines - 1) last last own refutes.derived goes (omega (arith, is_last.some)) (is_last.is last) renumbered) empty
+
+-- ---- lines that were written
+
+-- the number of a clause of a formula is its own
+number_kept : (common : Common) (numbers : List (Option ℕ)) (source target : List LogLine) (h id : ℕ) → ArePlaced common.count source target numbers → number_in common numbers h ≡ Some id → id < common.count → h ≡ id
+number_kept common numbers source target h id placed number early =
+    elim (cases_lt h common.same) [
+      | inl low ↦
+          let found : Some h ≡ Some id = sym (ap (λ b. cond b (Some h) (cond (nat_lt h common.count) None (slice_index_or numbers (h - common.count) None))) (lt-ltb h common.same low)) ∙ number in
+          let is : h ≡ id = cc in
+          is
+      | inr late ↦ elim (cases_lt h common.count) [
+        | inl below ↦
+            let found : None ≡ Some id = sym (ap (λ b. cond b (Some h) (cond (nat_lt h common.count) None (slice_index_or numbers (h - common.count) None))) (le-ltb h common.same late) ∙ ap (λ b. cond b None (slice_index_or numbers (h - common.count) None)) (lt-ltb h common.count below)) ∙ number in
+            absurd (let x : None ≡ Some id = found in cc)
+        | inr past ↦
+            let found : slice_index_or numbers (h - common.count) None ≡ Some id = sym (ap (λ b. cond b (Some h) (cond (nat_lt h common.count) None (slice_index_or numbers (h - common.count) None))) (le-ltb h common.same late) ∙ ap (λ b. cond b None (slice_index_or numbers (h - common.count) None)) (le-ltb h common.count past)) ∙ number in
+            absurd (omega (arith, early, (placed (h - common.count) id found).late))
+      ]
+    ]
+
+pub written_as : (common : Common) (numbers : List (Option ℕ)) (source target : List LogLine) (line own : LogLine) → ArePlaced common.count source target numbers → IsRenumbered common numbers line own → IsWrittenAs common.count line own
+written_as common numbers source target line own placed is = record {
+  clause = is.clause;
+  hints = λ k d within early.
+      let f = number_in common numbers in
+      let there : k < length line.hints = omega (arith, within, ap length is.hints, length-map line.hints f, length-map own.hints (λ (n : ℕ). Some n)) in
+      let number : f (slice_index_or line.hints k d) ≡ Some (slice_index_or own.hints k d) = sym (get_or-map f line.hints k d None there) ∙ (ap (λ xs. slice_index_or xs k None) is.hints ∙ get_or-map (λ (n : ℕ). Some n) own.hints k d None within) in
+      subst (Contains line.hints) (number_kept common numbers source target (slice_index_or line.hints k d) (slice_index_or own.hints k d) placed number early) (Contains-get_or line.hints k d there);
+}
+
+-- nothing is written
+pub none_written : (count : ℕ) (source target : List LogLine) → AreWritten count source target target
+none_written count source target k d within = inl (Contains-get_or target k d within)
+
+-- one line is
+pub one_written : (count : ℕ) (source target : List LogLine) (own : LogLine) → IsWrittenOf count source own → AreWritten count source target (target ++ own ∷ [])
+one_written count source target own is =
+    All-push (λ l. Contains target l ⊎ IsWrittenOf count source l) target own (none_written count source target) (inr is)
+
+-- lines that were written one after the other
+pub written_after : (count : ℕ) (source old mid new : List LogLine) → AreWritten count source old mid → AreWritten count source mid new → AreWritten count source old new
+written_after count source old mid new first then_ k d within = at (slice_index_or new k d) (then_ k d within)
+  where
+    at : (own : LogLine) → Contains mid own ⊎ IsWrittenOf count source own → Contains old own ⊎ IsWrittenOf count source own
+    at own (inl (j, below, is)) = subst (λ l. Contains old l ⊎ IsWrittenOf count source l) is (first j own below)
+    at own (inr of) = inr of

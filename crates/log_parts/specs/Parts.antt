@@ -1,5 +1,5 @@
 -- Lines of a log, written into another log.
-use Rattle.std.specs.Prelude.{◌≡◌, ℕ, ◌-◌, ◌<◌, ◌≤◌, false, List, length, map, Option, None, Some, nat_lt, slice_index_or, if◌then◌else◌}
+use Rattle.std.specs.Prelude.{◌≡◌, ◌⊎◌, ℕ, ◌-◌, ◌<◌, ◌≤◌, false, List, length, map, All, Contains, Option, None, Some, nat_lt, slice_index_or, if◌then◌else◌}
 use Rattle.std.specs.List.{list_any}
 use Rattle.cnf_core.specs.declared.log.LogLine.{LogLine}
 use Rattle.cnf_core.specs.Clauses.{Formula, clause_at}
@@ -56,6 +56,21 @@ pub record IsLastOf (lines : List LogLine) (line : LogLine) : Type 0 where
   pub some : 0 < length lines
   pub is : (d : LogLine) → slice_index_or lines (length lines - 1) d ≡ line
 
+-- A line was written as this one: it has its clause, and its hints are hints of that one, or numbers of lines.
+pub record IsWrittenAs (count : ℕ) (line own : LogLine) : Type 0 where
+  pub clause : own.clause ≡ line.clause
+  pub hints : All (λ id. id < count → Contains line.hints id) own.hints
+
+-- A line of a log was written as this one.
+pub record IsWrittenOf (count : ℕ) (source : List LogLine) (own : LogLine) : Type 0 where
+  pub line : LogLine
+  pub there : Contains source line
+  pub is : IsWrittenAs count line own
+
+-- each line stood there, or is a line of a log that was written
+abbrev pub AreWritten : ℕ → List LogLine → List LogLine → List LogLine → Type 0
+AreWritten count source old new = All (λ own. Contains old own ⊎ IsWrittenOf count source own) new
+
 -- a part of lines refutes what these refute
 abbrev pub Trims : ℕ → List LogLine → List LogLine → Type 0
 Trims count lines part = (formula : Formula)
@@ -68,6 +83,7 @@ pub record IsTaking (common : Common) (source old new : List LogLine) (numbers :
   pub size : length numbers ≡ length source
   pub placed : ArePlaced common.count source new numbers
   pub goes_on : GoesOn common source old new
+  pub written : AreWritten common.count source old new
 
 -- More of the lines are listed, each with the number of a line that has its clause.
 pub record AreNoted (count : ℕ) (source target : List LogLine) (old new : List (Option ℕ)) : Type 0 where

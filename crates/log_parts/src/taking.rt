@@ -1,7 +1,7 @@
 //! Lines of a log, written into another one.
 
 ghost use Rattle.std.specs.Prelude.{◌≡◌, ◌<◌, ◌^◌, IsTrue, OnOk, length};
-ghost use Rattle.log_parts.specs.Parts.{ArePlaced, GoesOn, IsThere};
+ghost use Rattle.log_parts.specs.Parts.{ArePlaced, AreWritten, GoesOn, IsThere};
 
 use crate::common::Common;
 use crate::numbering::renumbered;
@@ -29,6 +29,7 @@ pub fn take_marked(
     ensures size { length numbers.new.items ≡ length source.now }
     ensures placed { OnOk result (ArePlaced common.count source.now target.new.items numbers.new.items) }
     ensures goes_on { OnOk result (GoesOn common source.now target.old.items target.new.items) }
+    ensures written { OnOk result (AreWritten common.count source.now target.old.items target.new.items) }
 {
     for place in 0..source.len() {
         take(alloc, common, source, place, marked[place], numbers, target)?;
@@ -53,6 +54,7 @@ fn take(
     ensures size { length numbers.new.items ≡ length numbers.old.items }
     ensures placed { OnOk result (ArePlaced common.count source.now target.new.items numbers.new.items) }
     ensures goes_on { OnOk result (GoesOn common source.now target.old.items target.new.items) }
+    ensures written { OnOk result (AreWritten common.count source.now target.old.items target.new.items) }
 {
     let line = &source[place];
     if !wanted | numbers[place].is_some() {

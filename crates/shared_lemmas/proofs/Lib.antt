@@ -1,3 +1,4 @@
 pub mod FormulaLemmas
 pub mod SharedLaws
 pub mod AnswerLemmas
+pub mod PaidLemmas

@@ -2,8 +2,8 @@
 
 ghost use Rattle.std.specs.Prelude.{◌≡◌, OnOk, length};
 ghost use Rattle.cnf_core.specs.Derivations.{AreDerived};
-ghost use Rattle.claim_core.specs.Formulas.{formula_of};
-ghost use Rattle.log_parts.specs.Parts.{ArePlaced};
+ghost use Rattle.claim_core.specs.Formulas.{formula_of, query_clauses};
+ghost use Rattle.log_parts.specs.Parts.{ArePlaced, AreWritten};
 ghost use Rattle.shared_lemmas.specs.Shared.{HoldUnder};
 
 use crate::stock::Stock;
@@ -26,6 +26,8 @@ pub(crate) fn keep(
     requires hold { HoldUnder cones.now.graphs cones.now.query stock.old.lines.items }
     ensures held { stock.new.held ≡ stock.old.held }
     ensures hold { HoldUnder cones.now.graphs cones.now.query stock.new.lines.items }
+    ensures written { OnOk result (AreWritten (length (query_clauses cones.now.graphs cones.now.query))
+        lines.now stock.old.lines.items stock.new.lines.items) }
 {
     let mut kept = mem::replace(&mut stock.lines, Vec::new(alloc));
     let before = kept.len();
@@ -45,7 +47,9 @@ fn add_kept(
 ) -> Result<(), AllocError>
     requires derived { AreDerived (formula_of cones.now.graphs cones.now.query) lines.now }
     requires hold { HoldUnder cones.now.graphs cones.now.query kept.old.items }
-    ensures { OnOk result (HoldUnder cones.now.graphs cones.now.query kept.new.items) }
+    ensures hold { OnOk result (HoldUnder cones.now.graphs cones.now.query kept.new.items) }
+    ensures written { OnOk result (AreWritten (length (query_clauses cones.now.graphs cones.now.query))
+        lines.now kept.old.items kept.new.items) }
 {
     let count = cones.count();
     let common = Common {

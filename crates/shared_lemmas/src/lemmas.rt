@@ -1,8 +1,9 @@
 //! The lemmas of a question.
 
 ghost use Rattle.std.specs.Prelude.{◌≡◌, IfOk, OnOk, length};
-ghost use Rattle.claim_core.specs.Formulas.{formula_of};
-ghost use Rattle.log_parts.specs.Parts.{ArePlaced, MayGoOn};
+ghost use Rattle.claim_core.specs.Formulas.{formula_of, query_clauses};
+ghost use Rattle.log_parts.specs.Parts.{ArePlaced, AreWritten, MayGoOn};
+ghost use Rattle.shared_lemmas.specs.Shared.{PaysFor};
 
 use crate::choosing::chosen;
 use crate::stock::{Stock, Twins};
@@ -28,7 +29,9 @@ pub(crate) fn lemmas_for(
     stock: &Stock,
 ) -> Result<Lemmas, AllocError>
     requires { MayGoOn (formula_of cones.now.graphs cones.now.query) stock.now.lines.items }
-    ensures { IfOk result (λ lemmas. MayGoOn (formula_of cones.now.graphs cones.now.query) lemmas.lines.items) }
+    ensures go_on { IfOk result (λ lemmas. MayGoOn (formula_of cones.now.graphs cones.now.query) lemmas.lines.items) }
+    ensures paid { IfOk result (λ lemmas.
+        PaysFor cones.now.graphs cones.now.query stock.now.lines.items lemmas.lines.items) }
 {
     let mut lines = merge(alloc, cones)?;
     let marked = chosen(alloc, base, cones.ids(), &stock.lines)?;
@@ -47,7 +50,9 @@ fn add_chosen(
     requires marks { length marked.now ≡ length stock.now.lines.items }
     requires stock { MayGoOn (formula_of cones.now.graphs cones.now.query) stock.now.lines.items }
     requires lemmas { MayGoOn (formula_of cones.now.graphs cones.now.query) lines.old.items }
-    ensures { OnOk result (MayGoOn (formula_of cones.now.graphs cones.now.query) lines.new.items) }
+    ensures goes_on { OnOk result (MayGoOn (formula_of cones.now.graphs cones.now.query) lines.new.items) }
+    ensures written { OnOk result (AreWritten (length (query_clauses cones.now.graphs cones.now.query))
+        stock.now.lines.items lines.old.items lines.new.items) }
 {
     let count = cones.count();
     let common = Common { count, same: count };

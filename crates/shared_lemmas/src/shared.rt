@@ -1,11 +1,12 @@
 //! Questions that share what they learn.
 
-ghost use Rattle.std.specs.Prelude.{◌≡◌, ◌∷◌, [], false, IsTrue, IfOk, OnOk};
+ghost use Rattle.std.specs.Prelude.{◌≡◌, ◌∷◌, [], List, false, All, IsTrue, IfOk, OnOk};
 ghost use Rattle.claim_core.specs.Formulas.{formula_of};
 ghost use Rattle.claim_core.specs.Queries.{IsQuery};
-ghost use Rattle.ask_core.specs.Answers.{Asks, IsAnswer};
+ghost use Rattle.query_core.specs.declared.ledger.Asked.{Asked};
+ghost use Rattle.ask_core.specs.Answers.{Asks, IsAnswer, IsAskedIn, IsAskedWith, IsPaidFor};
 ghost use Rattle.log_parts.specs.Parts.{MayGoOn};
-ghost use Rattle.shared_lemmas.specs.Shared.{AreShared, HoldUnder, IsAskedBy, IsUnder};
+ghost use Rattle.shared_lemmas.specs.Shared.{AreLogPaid, ArePaidIn, AreShared, HoldUnder, IsAskedBy, IsPaid, IsUnder};
 
 use crate::feeds::have_same_feeds;
 use crate::guiding::{QuestionPairs, Reporter};
@@ -35,7 +36,7 @@ const PART: u64 = 8;
 const MOST_GIVEN: u64 = 1 << 23;
 
 /// What questions about two circuits have learned, for later ones under the same feeds: as those about the outputs of one
-/// matching. Contracts see it as the circuits.
+/// matching. Contracts see it as the circuits, the query that was asked last, and the lines.
 #[derive(Drop)]
 pub struct SharedLemmas<'a> {
     graphs: &'a Graphs<'a>,
@@ -43,12 +44,15 @@ pub struct SharedLemmas<'a> {
 }
 
 impl<'a> Model for SharedLemmas<'a> {
-    ghost use Rattle.net_core.specs.Sides.{Graphs as AnyGraphs};
-    ghost use Rattle.shared_lemmas.specs.Shared.{AreShared as AreKept};
+    ghost use Rattle.shared_lemmas.specs.Shared.{AreShared as AreKept, Sharing};
 
-    ghost Value = { AnyGraphs };
+    ghost Value = { Sharing };
 
-    ghost view = { λ a. a.graphs.now };
+    ghost view = { λ a. record {
+      graphs = a.graphs.now;
+      held = a.stock.held.items;
+      lines = a.stock.lines.items;
+    } };
 
     ghost invariant = { λ a. AreKept a.graphs.now a.stock.held.items a.stock.lines.items };
 }
@@ -56,7 +60,7 @@ impl<'a> Model for SharedLemmas<'a> {
 impl<'a> SharedLemmas<'a> {
     /// Nothing was learned.
     pub fn new(alloc: Global, graphs: &'a Graphs<'a>) -> SharedLemmas<'a>
-        ensures { result ≡ graphs.now }
+        ensures { result ≡ record { graphs = graphs.now; held = []; lines = [] } }
     {
         SharedLemmas {
             graphs,
@@ -65,7 +69,8 @@ impl<'a> SharedLemmas<'a> {
     }
 
     /// Answers a query that fits the circuits, by what was learned under its feeds too, which are the first lemmas of its entry
-    /// in the ledger. The log of a refutation has what its last line rests on, and no more, unless the query is asked by itself:
+    /// in the ledger. Where the lines that are kept were paid for in this ledger, so were these lemmas, but for those of joint
+    /// hashing, and what is kept afterwards. The log of a refutation has what its last line rests on, and no more, unless the query is asked by itself:
     /// where its cones are small, or many lines were given.
     ///
     /// # Errors
@@ -78,10 +83,11 @@ impl<'a> SharedLemmas<'a> {
         ledger: &mut Ledger,
         watch: &W,
     ) -> Result<Answer, Stop>
-        requires fits { IsQuery self.old query.now }
+        requires fits { IsQuery self.old.graphs query.now }
         requires not_spent { ledger.old.spent ≡ false }
-        ensures same { self.new ≡ self.old }
-        ensures asks { Asks IsAskedBy self.old query.now ledger.old ledger.new result }
+        ensures same { self.new.graphs ≡ self.old.graphs }
+        ensures asks { Asks (IsAskedBy (ArePaidIn self.old)) self.old.graphs query.now ledger.old ledger.new result }
+        ensures paid { ArePaidIn self.old ledger.old.asked → OnOk result (ArePaidIn self.new ledger.new.asked) }
     {
         ask_sharing(alloc, self.graphs, query, &mut self.stock, ledger, watch)
     }
@@ -100,7 +106,21 @@ fn ask_sharing<W: Watch>(
     requires shared { AreShared graphs.now stock.old.held.items stock.old.lines.items }
     requires not_spent { ledger.old.spent ≡ false }
     ensures shared { AreShared graphs.now stock.new.held.items stock.new.lines.items }
-    ensures asks { Asks IsAskedBy graphs.now query.now ledger.old ledger.new result }
+    ensures asks { Asks (IsAskedBy (ArePaidIn (record {
+      graphs = graphs.now;
+      held = stock.old.held.items;
+      lines = stock.old.lines.items;
+    }))) graphs.now query.now ledger.old ledger.new result }
+    ensures paid { ArePaidIn (record {
+      graphs = graphs.now;
+      held = stock.old.held.items;
+      lines = stock.old.lines.items;
+    }) ledger.old.asked
+        → OnOk result (ArePaidIn (record {
+          graphs = graphs.now;
+          held = stock.new.held.items;
+          lines = stock.new.lines.items;
+        }) ledger.new.asked) }
 {
     turn_to(alloc, graphs, query, stock)?;
     let cones = ConeClauses::new(alloc, graphs, query)?;
@@ -126,7 +146,7 @@ fn ask_alone<W: Watch>(
 ) -> Result<Answer, Stop>
     requires fits { IsQuery graphs.now query.now }
     requires not_spent { ledger.old.spent ≡ false }
-    ensures { Asks IsAskedBy graphs.now query.now ledger.old ledger.new result }
+    ensures { Asks IsAskedIn graphs.now query.now ledger.old ledger.new result }
 {
     ask_watched(alloc, graphs, query, ledger, watch)
 }
@@ -148,7 +168,10 @@ fn ask_cones<W: Watch>(
     requires not_spent { ledger.old.spent ≡ false }
     ensures held { stock.new.held ≡ stock.old.held }
     ensures hold { HoldUnder graphs.now query.now stock.new.lines.items }
-    ensures asks { Asks IsAskedBy graphs.now query.now ledger.old ledger.new result }
+    ensures asks { Asks (IsAskedBy (λ asked. All (IsPaid graphs.now query.now asked) stock.old.lines.items))
+        graphs.now query.now ledger.old ledger.new result }
+    ensures paid { All (IsPaid graphs.now query.now ledger.old.asked) stock.old.lines.items
+        → OnOk result (All (IsPaid graphs.now query.now ledger.new.asked) stock.new.lines.items) }
 {
     let base = QueryBase::new(alloc, graphs, query)?;
     let lemmas = lemmas_for(alloc, cones, &base, stock)?;
@@ -178,7 +201,10 @@ fn ask_by<W: Watch>(
     requires not_spent { ledger.old.spent ≡ false }
     ensures held { stock.new.held ≡ stock.old.held }
     ensures hold { HoldUnder graphs.now query.now stock.new.lines.items }
-    ensures asks { Asks IsAskedBy graphs.now query.now ledger.old ledger.new result }
+    ensures asks { Asks (IsAskedWith lemmas.now.lines.items) graphs.now query.now ledger.old ledger.new result }
+    ensures paid { All (IsPaid graphs.now query.now ledger.old.asked) lemmas.now.lines.items
+        → All (IsPaid graphs.now query.now ledger.old.asked) stock.old.lines.items
+        → OnOk result (All (IsPaid graphs.now query.now ledger.new.asked) stock.new.lines.items) }
 {
     let reporter = Reporter {
         watch,
@@ -212,7 +238,8 @@ fn ask_pairs<W: Watch>(
     requires of_query { cones.now.query ≡ query.now }
     requires lemmas { MayGoOn (formula_of graphs.now query.now) lemmas.now }
     requires not_spent { ledger.old.spent ≡ false }
-    ensures { Asks IsAskedBy graphs.now query.now ledger.old ledger.new result }
+    ensures asks { Asks (IsAskedWith lemmas.now) graphs.now query.now ledger.old ledger.new result }
+    ensures paid_for { IfOk result (IsPaidFor ledger.new) }
 {
     let mut guide = guide;
     ask_guided(alloc, graphs, query, cones, lemmas, &mut guide, ledger)
@@ -231,6 +258,10 @@ fn finish(
     ensures held { stock.new.held ≡ stock.old.held }
     ensures hold { HoldUnder cones.now.graphs cones.now.query stock.new.lines.items }
     ensures answer { IfOk result (IsAnswer cones.now.graphs cones.now.query) }
+    ensures paid { (asked : List Asked)
+        → AreLogPaid cones.now.graphs cones.now.query asked answer
+        → All (IsPaid cones.now.graphs cones.now.query asked) stock.old.lines.items
+        → OnOk result (All (IsPaid cones.now.graphs cones.now.query asked) stock.new.lines.items) }
 {
     match answer {
         Answer::Vector(vector) => Ok(Answer::Vector(vector)),
@@ -253,6 +284,13 @@ fn turn_to(
     ensures shared { AreShared graphs.now stock.new.held.items stock.new.lines.items }
     ensures own { OnOk result (stock.new.held.items ≡ query.now ∷ []) }
     ensures hold { OnOk result (HoldUnder graphs.now query.now stock.new.lines.items) }
+    ensures paid { (asked : List Asked)
+        → ArePaidIn (record {
+          graphs = graphs.now;
+          held = stock.old.held.items;
+          lines = stock.old.lines.items;
+        }) asked
+        → OnOk result (All (IsPaid graphs.now query.now asked) stock.new.lines.items) }
 {
     let held = only(alloc, query)?;
     if is_under(query, &stock.held) {

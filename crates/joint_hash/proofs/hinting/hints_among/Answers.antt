@@ -1,5 +1,6 @@
-use Rattle.std.proofs.Common.{◌≡◌, ℕ, ◌+◌, ◌++◌, ◌<◌, List, drop, length, map, slice_index_or, sym, ap, subst, ◌∙◌, ltb-true}
+use Rattle.std.proofs.Common.{◌≡◌, ℕ, ◌+◌, ◌++◌, ◌<◌, List, drop, length, map, All, Contains, slice_index_or, sym, ap, subst, ◌∙◌, arith, ltb-true}
 use Rattle.std.proofs.lemmas.Bool.{false≢true, lt-ltb}
+use Rattle.std.proofs.lemmas.List.Elements.{All-push, Contains-get_or}
 use Rattle.cnf_core.specs.declared.literal.SatLit.{SatLit}
 use Rattle.cnf_core.specs.Clauses.{clause_at, opposite}
 use Rattle.cnf_core.specs.Derivations.{clauses_of, effect_of, hint_fault}
@@ -19,7 +20,7 @@ loop-id-init c =
     let start = map opposite c.args.clause.now in
     let made : c.in_ok-made.made ≡ start = c.in_ok-made.ensures in
     let ids = c.args.ids.now in
-    subst (λ (m : List SatLit). IsOnTheWay clauses start m c.new-hints.result ids ids) (sym made) (subst (λ (h : List ℕ). IsOnTheWay clauses start start h ids ids) (sym c.new-hints.ensures) (record { hinted = not_hinted clauses start; leads = λ lead. lead }))
+    subst (λ (m : List SatLit). IsOnTheWay clauses start m c.new-hints.result ids ids) (sym made) (subst (λ (h : List ℕ). IsOnTheWay clauses start start h ids ids) (sym c.new-hints.ensures) (record { hinted = not_hinted clauses start; leads = λ lead. lead; among = λ k d within. absurd (omega (arith, within)) }))
 
 pub effect_at-requires-clause-there : goal.effect_at-requires-clause-there
 effect_at-requires-clause-there c =
@@ -62,6 +63,12 @@ returns-in-Conflict-clause-derive c =
     let effect : effect_of made (clause_at clauses id) ≡ c.effect_at.result = sym c.effect_at.ensures in
     let there : id < length clauses = ltb-true id (length clauses) (sym c.is_there.ensures ∙ c.if-not-is_there.false) in
     ap (hint_fault clauses start) c.in_ok-push-in-Conflict.ensures.ok ∙ hint_ends clauses start made c.loop-id.hints id c.loop-id.invariant.hinted there (effect ∙ c.in-Conflict.is)
+
+pub returns-in-Conflict-clause-among : goal.returns-in-Conflict-clause-among
+returns-in-Conflict-clause-among c =
+    let ids = c.args.ids.now in
+    let i = c.loop-id.id-index in
+    subst (All (Contains ids)) (sym c.in_ok-push-in-Conflict.ensures.ok) (All-push (Contains ids) c.loop-id.hints (slice_index_or ids i 0) c.loop-id.invariant.among (Contains-get_or ids i 0 c.loop-id-test.true))
 
 pub returns-clause-found : goal.returns-clause-found
 returns-clause-found c lead =

@@ -1,5 +1,5 @@
 -- Both lemmas are derived by the chain of clauses from the one gate to the other.
-use Rattle.std.proofs.Common.{◌≡◌, ◌==◌, ℕ, ◌+◌, cond, Some, List, [], ◌∷◌, ◌++◌, length, sym, subst, ap, ◌∙◌, arith, append_assoc, length-append}
+use Rattle.std.proofs.Common.{◌≡◌, ◌==◌, ℕ, ◌+◌, cond, Some, List, [], ◌∷◌, ◌++◌, length, inl, inr, sym, subst, ap, ◌∙◌, arith, append_assoc, length-append}
 use Rattle.std.proofs.lemmas.List.{length-map}
 use Rattle.std.proofs.lemmas.Result.{on_ok_weaker}
 use Rattle.cnf_core.specs.declared.literal.SatLit.{SatLit}
@@ -9,10 +9,11 @@ use Rattle.cnf_core.specs.Derivations.{clauses_of}
 use Rattle.claim_core.specs.Formulas.{query_clauses}
 use Rattle.joint_hash.specs.declared.twins.Twin.{Twin}
 use Rattle.joint_hash.specs.Chains.{AreListed, LeadOn}
+use Rattle.joint_hash.specs.Merging.{AreBetween}
 use Rattle.joint_hash.specs.Classes.{twin_of}
 use Rattle.joint_hash.proofs.ChainLemmas.{lemma_leads, lemma_leads_back, twins_after}
-use Rattle.joint_hash.proofs.GateLemmas.{gate_has, gate_known, gate_there}
-use Rattle.joint_hash.proofs.ListedLemmas.{chain_listed}
+use Rattle.joint_hash.proofs.GateLemmas.{gate_has, gate_inner, gate_known, gate_there}
+use Rattle.joint_hash.proofs.ListedLemmas.{chain_between, chain_listed}
 use Rattle.cnf_core.proofs.LiteralLemmas.{variable_of-opposite}
 use Rattle.joint_hash.proofs.merging.equate.Goals as goal
 
@@ -111,3 +112,35 @@ returns c =
           ∙ (ap (λ (l : SatLit). old ++ (l ∷ gate.output ∷ []) ∷ (first.output ∷ c.opposite-2.result ∷ []) ∷ []) c.opposite.ensures ∙ ap (λ (l : SatLit). old ++ (opposite first.output ∷ gate.output ∷ []) ∷ (first.output ∷ l ∷ []) ∷ []) c.opposite-2.ensures)));
       twins = λ v. put v ∙ (ap (λ (w : ℕ). cond (w == v) (Some (made (c.count.result + c.len.result))) (twins v)) c.variable.ensures ∙ ap (λ (n : ℕ). cond (variable_of gate.output == v) (Some (made n)) (twins v)) count);
     }) c.put_twin.ensures
+
+pub add_lemma-requires-clause-implies : goal.add_lemma-requires-clause-implies
+add_lemma-requires-clause-implies c =
+    let cones = c.args.cones.now in
+    let first = c.args.first.now in
+    let gate = c.args.gate.now in
+    let front = query_clauses cones.graphs cones.query in
+    let twins = twin_of c.args.twins.now.entries in
+    record {
+      start = first;
+      end = gate;
+      is_start = gate_inner cones.graphs cones.query first c.requires.first;
+      is_end = gate_inner cones.graphs cones.query gate c.requires.gate;
+      clause = inl (ap (λ (l : SatLit). l ∷ gate.output ∷ []) c.opposite.ensures);
+      between = subst (AreBetween (length front) first gate) (sym (c.deref.ensures.value ∙ c.in_ok-there.ensures)) (chain_between (length front) (front ++ clauses_of c.args.lines.now.items) twins first gate c.requires.twins);
+    }
+
+pub add_lemma-requires-2-clause-implies : goal.add_lemma-requires-2-clause-implies
+add_lemma-requires-2-clause-implies c =
+    let cones = c.args.cones.now in
+    let first = c.args.first.now in
+    let gate = c.args.gate.now in
+    let front = query_clauses cones.graphs cones.query in
+    let twins = twin_of c.args.twins.now.entries in
+    record {
+      start = gate;
+      end = first;
+      is_start = gate_inner cones.graphs cones.query gate c.requires.gate;
+      is_end = gate_inner cones.graphs cones.query first c.requires.first;
+      clause = inr (ap (λ (l : SatLit). first.output ∷ l ∷ []) c.opposite-2.ensures);
+      between = subst (AreBetween (length front) gate first) (sym (c.deref-2.ensures.value ∙ c.in_ok-back.ensures)) (chain_between (length front) (front ++ clauses_of c.args.lines.now.items) twins gate first c.requires.twins);
+    }

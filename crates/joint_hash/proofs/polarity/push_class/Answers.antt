@@ -11,6 +11,7 @@ returns c =
     let cones = c.args.cones.now in
     let count = length (query_clauses cones.graphs cones.query) in
     let twins = twin_of c.args.twins.now.entries in
-    let P : List ℕ → Type 0 = AreListed count cones.ids in
-    let one = subst P (sym c.in_ok-push_lemma.ensures) (listed_lemma count twins cones.ids c.args.ids.now.items c.args.one true c.requires.late c.requires.listed) in
-    on_ok_weaker c.push_lemma-2.result (λ added. subst P (sym added) (listed_lemma count twins cones.ids c.push_lemma.new.ids.items c.args.other false c.requires.late one)) c.push_lemma-2.ensures
+    on_ok_weaker c.push_lemma-2.result (λ added listed has are.
+    let P : List ℕ → Type 0 = AreListed count listed in
+    let one = subst P (sym c.in_ok-push_lemma.ensures) (listed_lemma count twins listed c.args.ids.now.items c.args.one true c.requires.late are) in
+    subst P (sym added) (listed_lemma count twins listed c.push_lemma.new.ids.items c.args.other false c.requires.late one)) c.push_lemma-2.ensures

@@ -2,8 +2,8 @@
 use Rattle.std.proofs.Common.{rules, vec_len, ◌≡◌, ◌+◌, ◌<◌, length, Option, Some, [], ◌∷◌, ◌++◌, IfSome, slice_set, sym, ◌∙◌, ap, subst, arith}
 use Rattle.cnf_core.specs.declared.log.LogLine.{LogLine}
 use Rattle.cnf_core.specs.Derivations.{is_empty}
-use Rattle.log_parts.specs.Parts.{ArePlaced, IsRenumbered, MayGoOn}
-use Rattle.log_parts.proofs.PartLemmas.{filled_by, line_carried, one_more}
+use Rattle.log_parts.specs.Parts.{ArePlaced, AreWritten, IsRenumbered, MayGoOn}
+use Rattle.log_parts.proofs.PartLemmas.{filled_by, line_carried, one_more, one_written, written_as}
 use Rattle.log_parts.proofs.PlaceLemmas.{written_more}
 use Rattle.log_parts.proofs.taking.take.Goals as goal
 
@@ -35,3 +35,19 @@ returns-clause-goes_on c one other have derived goes =
     let good = line_carried c.args.common one other source target numbers have c.requires.placed c.args.place line line own derived goes c.requires.there (sym c.index-source-place.is) is in
     let filled = ap is_empty is.clause ∙ filled_by line.clause c.is_empty.result c.is_empty.ensures c.if-is_empty.false in
     subst (MayGoOn other) (sym c.in_ok-push.ensures.items) (one_more other target own goes good filled)
+
+pub returns-clause-written : goal.returns-clause-written
+returns-clause-written c =
+    let count = c.args.common.count in
+    let source = c.args.source.now in
+    let target = c.args.target.now.items in
+    let numbers = c.args.numbers.now.items in
+    let line = c.index-source-place.result in
+    let own = c.in-Some.own in
+    let found = subst (λ (o : Option LogLine). IfSome o (IsRenumbered c.args.common c.deref.result.now line)) c.in-Some.is c.in_ok-own.ensures in
+    let is = subst (λ ns. IsRenumbered c.args.common ns line own) c.deref.ensures.value found in
+    subst (AreWritten count source target) (sym c.in_ok-push.ensures.items) (one_written count source target own (record {
+      line = line;
+      there = (c.args.place, c.requires.there, sym c.index-source-place.is);
+      is = written_as c.args.common numbers source target line own c.requires.placed is;
+    }))

@@ -1,6 +1,7 @@
 -- What is held holds under the query's feeds too.
 use Rattle.std.proofs.Common.{subst}
 use Rattle.shared_lemmas.specs.Shared.{IsUnder}
+use Rattle.shared_lemmas.proofs.PaidLemmas.{paid_turned}
 use Rattle.shared_lemmas.proofs.SharedLaws.{of_one, turned}
 use Rattle.shared_lemmas.proofs.shared.turn_to.Goals as goal
 
@@ -11,3 +12,7 @@ returns-then-is_under-clause-hold c =
 pub returns-then-is_under-clause-shared : goal.returns-then-is_under-clause-shared
 returns-then-is_under-clause-shared c =
     of_one _ _ _ _ c.in_ok-held.ensures (turned _ _ _ _ c.requires.shared (subst (IsUnder c.args.query.now) c.deref.ensures.value (c.is_under.ensures c.if-is_under.true)))
+
+pub returns-then-is_under-clause-paid : goal.returns-then-is_under-clause-paid
+returns-then-is_under-clause-paid c asked known =
+    paid_turned _ _ _ asked _ (subst (IsUnder c.args.query.now) c.deref.ensures.value (c.is_under.ensures c.if-is_under.true)) known
