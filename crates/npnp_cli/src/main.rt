@@ -45,7 +45,9 @@ fn run_told(rt: HostRuntime, words: &[String]) -> io::Result<Outcome> {
     let alloc = rt.alloc();
     let mut out = StdSink::watched(rt, progress);
     let outcome = run(alloc, words, &mut shelf, &mut out);
-    people.explain(words, &outcome, None);
+    // the report is put last
+    let error = out.last_error().or(shelf.last_error());
+    people.explain(words, &outcome, error);
     Ok(outcome)
 }
 

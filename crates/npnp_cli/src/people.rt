@@ -4,7 +4,7 @@ use crate::asked::is_asked;
 use crate::folders::warn;
 use explain::{FileFault, Told, explain, files_read_again};
 use npnp::outcome::Outcome;
-use shelf_core::DiskShelf;
+use shelf_core::{DiskShelf, FileError};
 use std::rt::{Files, Runtime};
 use std::{fs, io};
 
@@ -31,17 +31,34 @@ impl People {
         }
     }
 
-    /// Tells them what the end of a run means.
+    /// Tells them what the end of a run means, and why the last call on a file failed, where one did.
     pub(crate) fn explain(
         &self,
         words: &[String],
         outcome: &Outcome,
-        fault: Option<FileFault<'_>>,
+        error: Option<FileError<'_>>,
     ) {
         if self.listen {
             // what can't be said is left out
-            let _ = self.tell(words, outcome, fault);
+            let _ = match error {
+                Some(error) => self.tell_why(words, outcome, error),
+                None => self.tell(words, outcome, None),
+            };
         }
+    }
+
+    fn tell_why(
+        &self,
+        words: &[String],
+        outcome: &Outcome,
+        error: FileError<'_>,
+    ) -> io::Result<()> {
+        let reason = format!(in self.rt.alloc(); "{error}")?;
+        let fault = FileFault {
+            name: error.name,
+            reason: reason.as_str(),
+        };
+        self.tell(words, outcome, Some(fault))
     }
 
     fn tell(
