@@ -1,4 +1,9 @@
-pub mod NumberLemmas
-pub mod EntryLemmas
-pub mod TableLemmas
-pub mod KeptLemmas
+pub mod ResultLemmas
+pub mod InputLemmas
+pub mod NothingLemmas
+pub mod RowsLemmas
+pub mod TrailLemmas
+pub mod SwapLemmas
+pub mod SwapIndexLemmas
+pub mod SettleLemmas
+pub mod StableLemmas

@@ -1,10 +1,20 @@
-//! The signed pairs of two circuits with as many ports: which are held, which are deleted, and why.
+//! The signed pairs of two circuits, each open, held or deleted, and refining them until nothing that is held or told
+//! excludes one that isn't deleted.
 #![tactic(auto)]
 
-mod domains;
-mod entry;
-mod numbers;
-mod tables;
+mod alone;
+mod grounds;
+mod inputs;
+mod ports;
+mod refined;
+mod refining;
+mod rows;
+mod settling;
+mod shown;
+mod swap_index;
+mod swaps;
 
-pub use domains::Domains;
-pub use entry::{Cause, Entry, Fate, Reason};
+pub use conflict_core::{Deletion, Mismatches, deletion_of};
+pub use pair_domains::{Cause, Domains, Entry, Fate, Reason};
+pub use refined::Refined;
+pub use refining::refine;

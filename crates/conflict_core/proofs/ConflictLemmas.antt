@@ -12,10 +12,10 @@ use Rattle.account_core.specs.Ports.{ports_in, IsKnown}
 use Rattle.ban_book.specs.Covering.{Covers}
 use Rattle.port_sides.specs.Held.{IsPart}
 use Rattle.port_covers.proofs.ListLemmas.{cons_more}
-use Rattle.class_refine.specs.Trails.{IsPairOf, ports_of}
+use Rattle.pair_domains.specs.Trails.{IsPairOf, ports_of}
 use Rattle.conflict_core.specs.declared.port.Resolved.{Resolved}
 use Rattle.conflict_core.specs.Conflicts.{FitPorts}
-use Rattle.class_refine.specs.declared.entry.Entry.{Entry}
+use Rattle.pair_domains.specs.declared.entry.Entry.{Entry}
 use Rattle.conflict_core.specs.Named.{AreAllGathered, IsLeftOutOr}
 use Rattle.conflict_core.specs.Resolutions.{left_out}
 

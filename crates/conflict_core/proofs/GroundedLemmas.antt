@@ -18,11 +18,11 @@ use Rattle.ban_book.proofs.ListLemmas.{zip_map}
 use Rattle.ban_book.proofs.VectorLemmas.{no_vector_more, no_vector_none, no_vector_one}
 use Rattle.port_covers.specs.Ways.{AreClosed, HoldsMore, IsClosed}
 use Rattle.port_covers.proofs.ClosedLemmas.{ban_pairs}
-use Rattle.class_refine.specs.declared.entry.Entry.{Entry}
-use Rattle.class_refine.specs.declared.entry.Fate.{Fate}
-use Rattle.class_refine.specs.declared.entry.Fate.TheVariants.{Held, Deleted}
-use Rattle.class_refine.specs.declared.entry.Reason.TheVariants as reason
-use Rattle.class_refine.specs.Trails.{Domained}
+use Rattle.pair_domains.specs.declared.entry.Entry.{Entry}
+use Rattle.pair_domains.specs.declared.entry.Fate.{Fate}
+use Rattle.pair_domains.specs.declared.entry.Fate.TheVariants.{Held, Deleted}
+use Rattle.pair_domains.specs.declared.entry.Reason.TheVariants as reason
+use Rattle.pair_domains.specs.Trails.{Domained}
 use Rattle.conflict_core.specs.declared.port.Resolved.{Resolved}
 use Rattle.conflict_core.specs.Named.{IsGathered, IsLeftOutOr, deleted}
 use Rattle.conflict_core.specs.Justified.{IsTrail}

@@ -7,13 +7,13 @@ use Rattle.circuits.specs.declared.port.Pair.{Pair}
 use Rattle.net_core.specs.declared.graphs.Side.{Side}
 use Rattle.account_core.specs.declared.step.Ban.{Ban}
 use Rattle.port_sides.specs.Held.{AreApart}
-use Rattle.class_refine.specs.declared.entry.Entry.{Entry}
-use Rattle.class_refine.specs.declared.entry.Fate.{Fate}
-use Rattle.class_refine.specs.declared.entry.Fate.TheVariants.{Held, Deleted}
-use Rattle.class_refine.specs.declared.entry.Cause.TheVariants.{Choice, LastWay}
-use Rattle.class_refine.specs.declared.entry.Reason.{Reason}
-use Rattle.class_refine.specs.declared.entry.Reason.TheVariants as reason
-use Rattle.class_refine.specs.Trails.{IsDeleted, held_in, is_held, ports_of}
+use Rattle.pair_domains.specs.declared.entry.Entry.{Entry}
+use Rattle.pair_domains.specs.declared.entry.Fate.{Fate}
+use Rattle.pair_domains.specs.declared.entry.Fate.TheVariants.{Held, Deleted}
+use Rattle.pair_domains.specs.declared.entry.Cause.TheVariants.{Choice, LastWay}
+use Rattle.pair_domains.specs.declared.entry.Reason.{Reason}
+use Rattle.pair_domains.specs.declared.entry.Reason.TheVariants as reason
+use Rattle.pair_domains.specs.Trails.{IsDeleted, held_in, is_held, ports_of}
 use Rattle.conflict_core.specs.Named.{AreNamed, EachWay, IsLeftOutOr, IsNamedIn, deleted}
 use Rattle.conflict_core.specs.Justified.{AreJustified, IsJustified, port_of}
 use Rattle.conflict_core.proofs.NamedLemmas.{named_more}

@@ -15,13 +15,13 @@ use Rattle.port_covers.specs.declared.block.Block.{Block}
 use Rattle.port_covers.specs.Ways.{nth_way, ways_in, IsBlock}
 use Rattle.port_covers.proofs.BlockLemmas.{each_in}
 use Rattle.port_covers.proofs.ListLemmas.{any_more, cons_more, among_more}
-use Rattle.class_refine.specs.declared.entry.Entry.{Entry}
-use Rattle.class_refine.specs.declared.entry.Fate.{Fate}
-use Rattle.class_refine.specs.declared.entry.Fate.TheVariants.{Held, Deleted}
-use Rattle.class_refine.specs.declared.entry.Reason.{Reason}
-use Rattle.class_refine.specs.declared.entry.Reason.TheVariants as reason
-use Rattle.class_refine.specs.Trails.{IsPairOf, ports_of}
-use Rattle.class_refine.proofs.EntryLemmas.{one_entry}
+use Rattle.pair_domains.specs.declared.entry.Entry.{Entry}
+use Rattle.pair_domains.specs.declared.entry.Fate.{Fate}
+use Rattle.pair_domains.specs.declared.entry.Fate.TheVariants.{Held, Deleted}
+use Rattle.pair_domains.specs.declared.entry.Reason.{Reason}
+use Rattle.pair_domains.specs.declared.entry.Reason.TheVariants as reason
+use Rattle.pair_domains.specs.Trails.{IsPairOf, ports_of}
+use Rattle.pair_domains.proofs.EntryLemmas.{one_entry}
 use Rattle.conflict_core.proofs.ConflictLemmas.{covers_among}
 use Rattle.conflict_core.specs.Named.{AreAllGathered, AreAllNamed, AreNamed, IsGathered, IsLeftOutOr, IsNamedIn, deleted}
 

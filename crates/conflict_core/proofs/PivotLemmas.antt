@@ -8,13 +8,13 @@ use Rattle.port_covers.proofs.ListLemmas.{cons_more}
 use Rattle.net_core.specs.Sides.{Graphs}
 use Rattle.account_core.specs.Ports.{IsKnown}
 use Rattle.port_sides.specs.Held.{AreApart, AreHeld}
-use Rattle.class_refine.specs.declared.entry.Entry.{Entry}
-use Rattle.class_refine.specs.declared.entry.Fate.TheVariants.{Held}
+use Rattle.pair_domains.specs.declared.entry.Entry.{Entry}
+use Rattle.pair_domains.specs.declared.entry.Fate.TheVariants.{Held}
 use Rattle.net_core.specs.declared.graphs.Side.{Side}
-use Rattle.class_refine.specs.declared.entry.Fate.{Fate}
-use Rattle.class_refine.specs.declared.entry.Cause.TheVariants.{Choice, LastWay}
-use Rattle.class_refine.specs.Trails.{AreDomains, AreEntries, Domained, IsOpen, IsPairOf, IsPlace, held_in, is_held}
-use Rattle.class_refine.proofs.EntryLemmas.{held_more, one_entry}
+use Rattle.pair_domains.specs.declared.entry.Fate.{Fate}
+use Rattle.pair_domains.specs.declared.entry.Cause.TheVariants.{Choice, LastWay}
+use Rattle.pair_domains.specs.Trails.{AreDomains, AreEntries, Domained, IsOpen, IsPairOf, IsPlace, held_in, is_held}
+use Rattle.pair_domains.proofs.EntryLemmas.{held_more, one_entry}
 use Rattle.conflict_core.specs.Conflicts.{FitPorts, HasNoChoice, IsChoiceAt, IsLastOf, IsLearned}
 use Rattle.conflict_core.specs.Pivots.{IsSplit}
 use Rattle.circuits.specs.declared.port.PortKind.TheVariants.{Input}

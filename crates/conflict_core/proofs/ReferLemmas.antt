@@ -9,7 +9,7 @@ use Rattle.account_core.specs.Ports.{Clash}
 use Rattle.ban_book.specs.Covering.{Covers}
 use Rattle.port_covers.proofs.ClosedLemmas.{closed_by_ban}
 use Rattle.port_covers.proofs.ListLemmas.{any_of_contained}
-use Rattle.class_refine.specs.declared.entry.Entry.{Entry}
+use Rattle.pair_domains.specs.declared.entry.Entry.{Entry}
 use Rattle.conflict_core.specs.Named.{IsGathered, IsNamedIn}
 
 -- a way that with pairs leads into a ban is closed

@@ -7,10 +7,10 @@ use Rattle.account_core.specs.declared.step.Ban.{Ban}
 use Rattle.account_core.specs.Ports.{HaveAsMany}
 use Rattle.ban_book.specs.Covering.{Covers}
 use Rattle.port_sides.specs.Held.{IsPart}
-use Rattle.class_refine.specs.declared.entry.Entry.{Entry}
-use Rattle.class_refine.specs.declared.entry.Fate.TheVariants.{Held}
-use Rattle.class_refine.specs.declared.entry.Cause.TheVariants.{Choice}
-use Rattle.class_refine.specs.Trails.{Domained, IsOpen, IsPairOf, held_in}
+use Rattle.pair_domains.specs.declared.entry.Entry.{Entry}
+use Rattle.pair_domains.specs.declared.entry.Fate.TheVariants.{Held}
+use Rattle.pair_domains.specs.declared.entry.Cause.TheVariants.{Choice}
+use Rattle.pair_domains.specs.Trails.{Domained, IsOpen, IsPairOf, held_in}
 use Rattle.conflict_core.specs.declared.conflict.Conflict.{Conflict}
 use Rattle.conflict_core.specs.declared.learned.Back.{Back}
 use Rattle.conflict_core.specs.declared.learned.LearnedBan.{LearnedBan}

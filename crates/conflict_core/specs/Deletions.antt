@@ -4,9 +4,9 @@ use Rattle.circuits.specs.declared.port.Pair.{Pair}
 use Rattle.account_core.specs.declared.step.Ban.{Ban}
 use Rattle.account_core.specs.Ports.{Clash}
 use Rattle.ban_book.specs.Covering.{Covers}
-use Rattle.class_refine.specs.declared.entry.Entry.{Entry}
-use Rattle.class_refine.specs.declared.entry.Reason.{Reason}
-use Rattle.class_refine.specs.Trails.{held_in}
+use Rattle.pair_domains.specs.declared.entry.Entry.{Entry}
+use Rattle.pair_domains.specs.declared.entry.Reason.{Reason}
+use Rattle.pair_domains.specs.Trails.{held_in}
 use Rattle.conflict_core.specs.declared.deletion.Deletion.{Deletion}
 use Rattle.conflict_core.specs.declared.deletion.Deletion.TheVariants as deletion
 use Rattle.conflict_core.specs.Named.{deleted}

@@ -9,10 +9,10 @@ use Rattle.account_core.specs.declared.step.Step.TheVariants as step
 use Rattle.account_core.specs.Given.{Decided, given_of}
 use Rattle.account_core.specs.Steps.{AreValidBans, IsValidBan}
 use Rattle.ban_book.specs.Vectors.{AddsNoVector}
-use Rattle.class_refine.specs.declared.entry.Entry.{Entry}
-use Rattle.class_refine.specs.declared.entry.Fate.{Fate}
-use Rattle.class_refine.specs.declared.entry.Fate.TheVariants.{Held, Deleted}
-use Rattle.class_refine.specs.declared.entry.Reason.TheVariants as reason
+use Rattle.pair_domains.specs.declared.entry.Entry.{Entry}
+use Rattle.pair_domains.specs.declared.entry.Fate.{Fate}
+use Rattle.pair_domains.specs.declared.entry.Fate.TheVariants.{Held, Deleted}
+use Rattle.pair_domains.specs.declared.entry.Reason.TheVariants as reason
 
 -- a pair of this kind and one of the other kind, the input's first
 abbrev pub in_order : PortKind → Pair → Pair → List Pair

@@ -7,11 +7,11 @@ use Rattle.net_core.specs.Sides.{Graphs}
 use Rattle.net_core.specs.declared.graphs.Side.{Side}
 use Rattle.account_core.specs.declared.step.Ban.{Ban}
 use Rattle.account_core.specs.Tallies.{port_on}
-use Rattle.class_refine.specs.declared.entry.Entry.{Entry}
-use Rattle.class_refine.specs.declared.entry.Cause.TheVariants.{Choice, LastWay}
-use Rattle.class_refine.specs.declared.entry.Fate.{Fate}
-use Rattle.class_refine.specs.declared.entry.Fate.TheVariants.{Held, Deleted}
-use Rattle.class_refine.specs.Trails.{Domained, IsDeleted, held_in, ports_of}
+use Rattle.pair_domains.specs.declared.entry.Entry.{Entry}
+use Rattle.pair_domains.specs.declared.entry.Cause.TheVariants.{Choice, LastWay}
+use Rattle.pair_domains.specs.declared.entry.Fate.{Fate}
+use Rattle.pair_domains.specs.declared.entry.Fate.TheVariants.{Held, Deleted}
+use Rattle.pair_domains.specs.Trails.{Domained, IsDeleted, held_in, ports_of}
 use Rattle.conflict_core.specs.declared.port.Port.{Port}
 use Rattle.conflict_core.specs.Conflicts.{FitPorts}
 use Rattle.conflict_core.specs.Named.{AreNamed, EachWay, IsLeftOutOr}

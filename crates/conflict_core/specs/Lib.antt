@@ -5,7 +5,7 @@ pub mod Justified
 pub mod Grounded
 pub mod Deletions
 pub mod Pivots
-pub use Rattle.class_refine.specs.Trails
+pub use Rattle.pair_domains.specs.Trails
 pub use Rattle.port_sides.specs.Held
 pub use Rattle.port_covers.specs.Ways
-pub use Rattle.class_refine.specs.Kept
+pub use Rattle.pair_domains.specs.Kept

@@ -7,11 +7,11 @@ use Rattle.account_core.specs.Covers.{IsImpossible}
 use Rattle.account_core.specs.Ports.{Clash}
 use Rattle.ban_book.specs.Covering.{Covers}
 use Rattle.port_covers.specs.Ways.{nth_way}
-use Rattle.class_refine.specs.declared.entry.Entry.{Entry}
-use Rattle.class_refine.specs.declared.entry.Fate.TheVariants.{Deleted}
-use Rattle.class_refine.specs.declared.entry.Reason.{Reason}
-use Rattle.class_refine.specs.declared.entry.Reason.TheVariants as reason
-use Rattle.class_refine.specs.Trails.{Domained, ports_of}
+use Rattle.pair_domains.specs.declared.entry.Entry.{Entry}
+use Rattle.pair_domains.specs.declared.entry.Fate.TheVariants.{Deleted}
+use Rattle.pair_domains.specs.declared.entry.Reason.{Reason}
+use Rattle.pair_domains.specs.declared.entry.Reason.TheVariants as reason
+use Rattle.pair_domains.specs.Trails.{Domained, ports_of}
 use Rattle.conflict_core.specs.declared.port.Port.{Port}
 
 -- a deleted pair's reason is so, and the pairs that it names are among these

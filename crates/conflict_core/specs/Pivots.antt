@@ -1,10 +1,10 @@
 -- What is done about the latest pair of a conflict (the first unique implication point: Marques-Silva and Sakallah, GRASP, 1999).
 use Rattle.std.specs.Prelude.{ℕ, List, ◌∷◌, take, All, Contains, slice_index_or}
 use Rattle.circuits.specs.declared.port.Pair.{Pair}
-use Rattle.class_refine.specs.declared.entry.Entry.{Entry}
-use Rattle.class_refine.specs.declared.entry.Fate.TheVariants.{Held}
-use Rattle.class_refine.specs.declared.entry.Cause.TheVariants.{LastWay}
-use Rattle.class_refine.specs.Trails.{IsOpen, held_in}
+use Rattle.pair_domains.specs.declared.entry.Entry.{Entry}
+use Rattle.pair_domains.specs.declared.entry.Fate.TheVariants.{Held}
+use Rattle.pair_domains.specs.declared.entry.Cause.TheVariants.{LastWay}
+use Rattle.pair_domains.specs.Trails.{IsOpen, held_in}
 use Rattle.conflict_core.specs.declared.resolution.Pivot.{Pivot}
 use Rattle.conflict_core.specs.declared.resolution.Pivot.TheVariants as pivot
 use Rattle.conflict_core.specs.Conflicts.{IsChoiceAt}

@@ -4,7 +4,7 @@ ghost use Rattle.std.specs.Prelude.{◌≡◌, All, AllPairs, Contains, IfOk, On
 ghost use Rattle.ban_book.specs.Covering.{Covers};
 ghost use Rattle.port_sides.specs.Held.{AreApart, AreHeld, IsPart};
 ghost use Rattle.port_covers.specs.Ways.{IsBlock, ways_in};
-ghost use Rattle.class_refine.specs.Trails.{ports_of};
+ghost use Rattle.pair_domains.specs.Trails.{ports_of};
 ghost use Rattle.conflict_core.specs.Conflicts.{FitPorts, IsConflict};
 ghost use Rattle.conflict_core.specs.Grounded.{LearnsMore};
 ghost use Rattle.conflict_core.specs.Named.{AreAllNamed, AreWaysNamed, IsPortOf};
@@ -17,7 +17,7 @@ use crate::refer::refer;
 use account_core::Ban;
 use ban_book::BanBook;
 use circuits::Pair;
-use class_refine::Domains;
+use pair_domains::Domains;
 use port_covers::block::{Block, block_of, ways_in};
 use port_covers::cover::{add_one, hold_cover};
 use port_sides::PairableGraphs;

@@ -2,7 +2,7 @@
 
 ghost use Rattle.std.specs.Prelude.{◌≡◌, Contains, IfNone, IfOk, IfSome, List};
 ghost use Rattle.circuits.specs.declared.port.Pair.{Pair as AnyPair};
-ghost use Rattle.class_refine.specs.Trails.{IsDeleted, IsPairOf};
+ghost use Rattle.pair_domains.specs.Trails.{IsDeleted, IsPairOf};
 ghost use Rattle.conflict_core.specs.Deletions.{IsDeletion, IsExcluded};
 ghost use Rattle.conflict_core.specs.Grounded.{LearnsMore};
 ghost use Rattle.conflict_core.specs.Justified.{IsTrail};
@@ -11,7 +11,7 @@ ghost use Rattle.conflict_core.specs.Named.{AreNamed, deleted};
 use crate::mismatch::{Mismatches, hold_mismatch};
 use ban_book::BanBook;
 use circuits::Pair;
-use class_refine::{Domains, Reason};
+use pair_domains::{Domains, Reason};
 use port_sides::PairableGraphs;
 use std::alloc::{AllocError, Global};
 

@@ -3,13 +3,13 @@
 ghost use Rattle.std.specs.Prelude.{◌≡◌, ◌↔◌, All, AllPairs, Contains, IfOk, IsTrue, OnOk, Some};
 ghost use Rattle.account_core.specs.Covers.{IsImpossible};
 ghost use Rattle.port_sides.specs.Held.{AddsHeld, AreApart, IsPart};
-ghost use Rattle.class_refine.specs.Trails.{IsPairOf};
+ghost use Rattle.pair_domains.specs.Trails.{IsPairOf};
 ghost use Rattle.conflict_core.specs.Named.{AreAllGathered, AreAllNamed, AreNamed, IsGathered, IsLeftOutOr, IsNamedIn};
 
 use crate::mismatch::{Mismatches, made_beside};
 use account_core::Ban;
 use circuits::Pair;
-use class_refine::{Domains, Reason};
+use pair_domains::{Domains, Reason};
 use port_covers::clash::clashing;
 use port_covers::cover::{add_one, add_others};
 use std::alloc::{AllocError, Global};

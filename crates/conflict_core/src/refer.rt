@@ -4,7 +4,7 @@ ghost use Rattle.std.specs.Prelude.{◌≡◌, ◌≢◌, ◌∷◌, All, IfNone
 ghost use Rattle.account_core.specs.Covers.{IsImpossible};
 ghost use Rattle.ban_book.specs.Covering.{Covers};
 ghost use Rattle.port_covers.specs.Ways.{AreClosed, IsClosed};
-ghost use Rattle.class_refine.specs.Trails.{IsPairOf};
+ghost use Rattle.pair_domains.specs.Trails.{IsPairOf};
 ghost use Rattle.conflict_core.specs.Grounded.{LearnsMore};
 ghost use Rattle.conflict_core.specs.Named.{AreAllGathered, IsGathered, IsLeftOutOr, IsNamedIn};
 ghost use Rattle.conflict_core.specs.Resolutions.{LeadsIntoBan, left_out};
@@ -15,8 +15,8 @@ use crate::mismatch::Mismatches;
 use crate::port::Resolved;
 use ban_book::BanBook;
 use circuits::Pair;
-use class_refine::Domains;
 use items::Items;
+use pair_domains::Domains;
 use port_sides::PairableGraphs;
 use std::alloc::{AllocError, Global};
 

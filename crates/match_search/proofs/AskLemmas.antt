@@ -21,10 +21,10 @@ use Rattle.ban_book.specs.Vectors.{AreLastResorts}
 use Rattle.ban_book.proofs.VectorLemmas.{last_resorts_push_other}
 use Rattle.fact_bans.specs.declared.exchanges.SwapPairs.{SwapPairs}
 use Rattle.fact_bans.proofs.HoldingLemmas.{HasHeld, adds_then}
-use Rattle.class_refine.specs.declared.entry.Entry.{Entry}
-use Rattle.class_refine.specs.declared.entry.Fate.TheVariants.{Deleted}
-use Rattle.class_refine.specs.declared.entry.Reason.TheVariants.{Mismatch}
-use Rattle.class_refine.specs.Trails.{AreEntries, Domained, IsOpen, IsPairOf, held_in}
+use Rattle.pair_domains.specs.declared.entry.Entry.{Entry}
+use Rattle.pair_domains.specs.declared.entry.Fate.TheVariants.{Deleted}
+use Rattle.pair_domains.specs.declared.entry.Reason.TheVariants.{Mismatch}
+use Rattle.pair_domains.specs.Trails.{AreEntries, Domained, IsOpen, IsPairOf, held_in}
 use Rattle.conflict_core.specs.Grounded.{AreGrounded, IsGrounded, LearnsMore, StayGrounded, in_order}
 use Rattle.conflict_core.specs.Named.{deleted}
 use Rattle.conflict_core.proofs.GroundedLemmas.{grounded_push}
@@ -32,7 +32,7 @@ use Rattle.conflict_core.specs.Justified.{AreJustified}
 use Rattle.conflict_core.proofs.JustifiedLemmas.{held_append}
 use Rattle.pair_search.specs.Progress.{IsTrail, Propagates, StaysJustified, left}
 use Rattle.pair_search.proofs.StepLemmas.{HasOneMore, justified_one, less_one, one_more_of, trail_on}
-pub use Rattle.pair_refine.proofs.TrailLemmas.{known_of, shown_adds, trail_adds}
+pub use Rattle.class_refine.proofs.TrailLemmas.{known_of, shown_adds, trail_adds}
 use Rattle.match_search.specs.declared.ahead.Ahead.{Ahead}
 use Rattle.match_search.specs.declared.ahead.Ahead.TheVariants as ahead
 use Rattle.match_search.specs.States.{AreInputsAndOutput, AreOfBothKinds, AreSameLoans, Deletes, IsAhead, IsShownTrail, Lent}

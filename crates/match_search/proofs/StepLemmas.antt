@@ -9,7 +9,7 @@ use Rattle.account_core.specs.declared.step.Ban.{Ban}
 use Rattle.oracle_core.specs.Oracles.{Known, Serves}
 use Rattle.table_guess.specs.declared.trials.Trials.{Trials}
 use Rattle.table_guess.specs.Trials.{AreTrials}
-use Rattle.class_refine.specs.Trails.{Domained}
+use Rattle.pair_domains.specs.Trails.{Domained}
 use Rattle.fact_bans.specs.Serving.{HoldsBans}
 use Rattle.fact_bans.proofs.HoldingLemmas.{HasHeld, held_kept, held_one, held_same, held_then, holds_err, holds_last, holds_no_more, holds_ok, holds_stop, may_later}
 use Rattle.conflict_core.specs.Grounded.{LearnsMore, StayGrounded}

@@ -7,7 +7,7 @@ use Rattle.account_core.specs.declared.step.Ban.{Ban}
 use Rattle.account_core.specs.Given.{Decided}
 use Rattle.account_core.specs.Shown.{AreSame, IsEmptyBan, IsShownMatch}
 use Rattle.oracle_core.specs.Oracles.{IsDifference}
-pub use Rattle.pair_refine.specs.Stable.{AreDecidedOn, AreOutputsDecided}
+pub use Rattle.class_refine.specs.Stable.{AreDecidedOn, AreOutputsDecided}
 use Rattle.match_search.specs.declared.guessed.Guessed.{Guessed}
 use Rattle.match_search.specs.declared.guessed.Guessed.TheVariants as guessed
 use Rattle.match_search.specs.declared.found.Found.{Found}

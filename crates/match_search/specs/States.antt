@@ -11,7 +11,7 @@ use Rattle.account_core.specs.Facts.{AreFacts}
 use Rattle.account_core.specs.Given.{decided_by}
 use Rattle.account_core.specs.Shown.{IsShownMatch}
 use Rattle.ban_book.specs.Covering.{Covers}
-use Rattle.class_refine.specs.Trails.{Domained, held_in}
+use Rattle.pair_domains.specs.Trails.{Domained, held_in}
 use Rattle.fact_bans.specs.declared.exchanges.SwapPairs.{SwapPairs}
 use Rattle.fact_bans.specs.Serving.{HoldsBans, MayHold}
 use Rattle.oracle_core.specs.Oracles.{Known, Serves, Suits}
@@ -20,7 +20,7 @@ use Rattle.table_guess.specs.Trials.{AreTrials}
 use Rattle.pair_search.specs.declared.impasse.Impasse.{Impasse}
 use Rattle.pair_search.specs.Impasses.{IsImpasse}
 use Rattle.pair_search.specs.Progress.{left}
-use Rattle.pair_refine.specs.Stable.{AreOutputsDecided}
+use Rattle.class_refine.specs.Stable.{AreOutputsDecided}
 use Rattle.match_search.specs.Founds.{IsDecidedFound, IsFound}
 use Rattle.match_search.specs.declared.found.Found.{Found}
 use Rattle.match_search.specs.declared.session.Session.{Session}
@@ -29,7 +29,7 @@ use Rattle.match_search.specs.declared.ahead.Ahead.TheVariants as ahead
 use Rattle.match_search.specs.declared.ahead.Settled.{Settled}
 use Rattle.match_search.specs.declared.ahead.Settled.TheVariants as settled
 pub use Rattle.fact_bans.specs.Serving.{AreValid, HasServed}
-pub use Rattle.pair_refine.specs.Refining.{IsShownTrail}
+pub use Rattle.class_refine.specs.Refining.{IsShownTrail}
 
 -- What a session has of what it is lent, as far as bans and pairs hang on it, and the names of the loans.
 pub record Lent : Type 0 where

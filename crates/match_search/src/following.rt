@@ -2,7 +2,7 @@
 
 ghost use Rattle.std.specs.Prelude.{◌≤◌, Contains, IfOk, IfSome, OnOk};
 ghost use Rattle.pair_search.specs.Impasses.{IsImpasse};
-ghost use Rattle.class_refine.specs.Trails.{held_in};
+ghost use Rattle.pair_domains.specs.Trails.{held_in};
 ghost use Rattle.pair_search.specs.Progress.{left};
 ghost use Rattle.match_search.specs.States.{Deletes, MayStep, Steps, lent};
 
@@ -12,9 +12,9 @@ use crate::session::Session;
 use crate::trail::PairTrail;
 use crate::unlike::{delete_unlike, list_unlike};
 use circuits::{Pair, PortKind};
+use class_refine::Domains;
 use cnf_core::Stop;
 use oracle_core::Oracle;
-use pair_refine::Domains;
 use pair_search::{Impasse, propagate};
 use port_sides::PairableGraphs;
 use vector_bans::foresee;

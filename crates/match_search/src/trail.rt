@@ -5,7 +5,7 @@ ghost use Rattle.account_core.specs.declared.step.Ban.{Ban as AnyBan};
 ghost use Rattle.pair_search.specs.Progress.{IsTrail};
 
 use circuits::PortKind;
-use pair_refine::Domains;
+use class_refine::Domains;
 use pair_search::Queue;
 use port_sides::PairableGraphs;
 use std::alloc::{AllocError, Global};

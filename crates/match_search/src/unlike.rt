@@ -3,9 +3,9 @@
 ghost use Rattle.std.specs.Prelude.{IfOk, IfSome, OnOk, map, Contains};
 ghost use Rattle.account_core.specs.Given.{decided_by};
 ghost use Rattle.account_core.specs.Ports.{IsKnown};
-ghost use Rattle.class_refine.specs.declared.entry.Fate.TheVariants.{Deleted};
-ghost use Rattle.class_refine.specs.declared.entry.Reason.TheVariants.{Mismatch};
-ghost use Rattle.class_refine.specs.Trails.{held_in};
+ghost use Rattle.pair_domains.specs.declared.entry.Fate.TheVariants.{Deleted};
+ghost use Rattle.pair_domains.specs.declared.entry.Reason.TheVariants.{Mismatch};
+ghost use Rattle.pair_domains.specs.Trails.{held_in};
 ghost use Rattle.conflict_core.specs.Grounded.{IsGrounded};
 ghost use Rattle.match_search.specs.States.{Deletes, GoesOn, MayGoOn, MayStep, Steps, lent};
 
@@ -13,11 +13,11 @@ use crate::asking::input_and_output;
 use crate::session::Session;
 use account_core::port_on;
 use circuits::{Pair, PortKind};
+use class_refine::{Domains, Reason};
 use cnf_core::Stop;
 use fact_bans::{Seen, Unlike, tell_apart};
 use net_core::Side;
 use oracle_core::Oracle;
-use pair_refine::{Domains, Reason};
 use pair_search::is_open;
 use port_sides::PairableGraphs;
 use std::alloc::{AllocError, Global};

@@ -13,14 +13,14 @@ use Rattle.account_core.specs.Tallies.{port_on}
 use Rattle.account_core.specs.declared.step.Ban.{Ban}
 use Rattle.account_core.specs.Given.{Decided}
 use Rattle.account_core.specs.Ports.{Clash}
-use Rattle.class_refine.specs.declared.entry.Entry.{Entry}
-use Rattle.class_refine.specs.declared.entry.Cause.TheVariants.{Choice, LastWay}
-use Rattle.class_refine.specs.declared.entry.Fate.{Fate}
-use Rattle.class_refine.specs.declared.entry.Fate.TheVariants.{Held, Deleted}
-use Rattle.class_refine.specs.declared.entry.Reason.{Reason}
-use Rattle.class_refine.specs.declared.entry.Reason.TheVariants as reason
-use Rattle.class_refine.specs.Numbers.{pairs_of_ports}
-use Rattle.class_refine.specs.Trails.{AreEntries, Domained, IsOpen, IsPairOf, held_in, ports_of}
+use Rattle.pair_domains.specs.declared.entry.Entry.{Entry}
+use Rattle.pair_domains.specs.declared.entry.Cause.TheVariants.{Choice, LastWay}
+use Rattle.pair_domains.specs.declared.entry.Fate.{Fate}
+use Rattle.pair_domains.specs.declared.entry.Fate.TheVariants.{Held, Deleted}
+use Rattle.pair_domains.specs.declared.entry.Reason.{Reason}
+use Rattle.pair_domains.specs.declared.entry.Reason.TheVariants as reason
+use Rattle.pair_domains.specs.Numbers.{pairs_of_ports}
+use Rattle.pair_domains.specs.Trails.{AreEntries, Domained, IsOpen, IsPairOf, held_in, ports_of}
 use Rattle.ban_book.specs.Covering.{Covers}
 use Rattle.conflict_core.specs.Conflicts.{FitPorts, HasNoChoice, IsChoiceAt}
 use Rattle.conflict_core.specs.Grounded.{AreGrounded, IsGrounded, StayGrounded}

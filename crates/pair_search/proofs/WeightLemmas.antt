@@ -8,12 +8,12 @@ use Rattle.std.proofs.lemmas.Map.Made.{IsDistinct-from_AllPairs}
 use Rattle.std.proofs.lemmas.Map.Steps.{length-le_from_distinct_below}
 use Rattle.std.proofs.lemmas.Nat.{row_fits}
 use Rattle.circuits.specs.declared.port.PortKind.TheVariants.{Input}
-use Rattle.class_refine.specs.declared.entry.Entry.{Entry}
-use Rattle.class_refine.specs.declared.entry.Fate.TheVariants.{Held}
-use Rattle.class_refine.specs.declared.entry.Cause.TheVariants.{Choice}
-use Rattle.class_refine.specs.Numbers.{pair_number, pairs_of_ports}
-use Rattle.class_refine.specs.Trails.{IsPairOf}
-use Rattle.class_refine.proofs.NumberLemmas.{pair_number_below, pair_number_same}
+use Rattle.pair_domains.specs.declared.entry.Entry.{Entry}
+use Rattle.pair_domains.specs.declared.entry.Fate.TheVariants.{Held}
+use Rattle.pair_domains.specs.declared.entry.Cause.TheVariants.{Choice}
+use Rattle.pair_domains.specs.Numbers.{pair_number, pairs_of_ports}
+use Rattle.pair_domains.specs.Trails.{IsPairOf}
+use Rattle.pair_domains.proofs.NumberLemmas.{pair_number_below, pair_number_same}
 use Rattle.pair_search.specs.Progress.{is_choice, left_of, open_at_ends, weight, whole}
 
 whole_some : (radix depth : ℕ) → 0 < radix → 0 < whole radix depth

@@ -4,7 +4,7 @@ use Rattle.account_core.specs.declared.step.Ban.{Ban}
 use Rattle.ban_book.specs.Covering.{Covers}
 use Rattle.port_covers.specs.declared.block.Block.{Block}
 use Rattle.port_covers.specs.Ways.{ways_in, IsBlock}
-use Rattle.class_refine.specs.Trails.{Domained, IsDeleted, held_in, ports_of}
+use Rattle.pair_domains.specs.Trails.{Domained, IsDeleted, held_in, ports_of}
 use Rattle.conflict_core.specs.declared.port.Port.{Port}
 use Rattle.conflict_core.specs.Named.{EachWay, IsPortOf}
 use Rattle.pair_search.specs.Progress.{Propagates}

@@ -3,4 +3,4 @@ pub mod Impasses
 pub use Rattle.conflict_core.specs.Conflicts
 pub use Rattle.conflict_core.specs.Grounded
 pub use Rattle.conflict_core.specs.Justified
-pub use Rattle.class_refine.specs.Trails
+pub use Rattle.pair_domains.specs.Trails

@@ -2,12 +2,12 @@
 -- ends (levels of decisions: Marques-Silva and Sakallah, GRASP, 1999).
 use Rattle.std.specs.Prelude.{◌≡◌, ℕ, suc, zero, ◌+◌, ◌-◌, ◌*◌, ◌≤◌, Bool, true, false, cond, List, [], ◌∷◌, ◌++◌}
 use Rattle.account_core.specs.declared.step.Ban.{Ban}
-use Rattle.class_refine.specs.declared.entry.Entry.{Entry}
-use Rattle.class_refine.specs.declared.entry.Cause.TheVariants.{Choice, LastWay}
-use Rattle.class_refine.specs.declared.entry.Fate.{Fate}
-use Rattle.class_refine.specs.declared.entry.Fate.TheVariants.{Held, Deleted}
-use Rattle.class_refine.specs.Numbers.{pairs_of_ports}
-use Rattle.class_refine.specs.Trails.{Domained}
+use Rattle.pair_domains.specs.declared.entry.Entry.{Entry}
+use Rattle.pair_domains.specs.declared.entry.Cause.TheVariants.{Choice, LastWay}
+use Rattle.pair_domains.specs.declared.entry.Fate.{Fate}
+use Rattle.pair_domains.specs.declared.entry.Fate.TheVariants.{Held, Deleted}
+use Rattle.pair_domains.specs.Numbers.{pairs_of_ports}
+use Rattle.pair_domains.specs.Trails.{Domained}
 use Rattle.conflict_core.specs.Grounded.{StayGrounded}
 use Rattle.conflict_core.specs.Justified.{IsJustifiedTrail}
 pub use Rattle.conflict_core.specs.Justified.{IsTrail}

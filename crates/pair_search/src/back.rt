@@ -12,8 +12,8 @@ use crate::impasse::{Impasse, conflict_of};
 use crate::queue::Queue;
 use account_core::Ban;
 use ban_book::BanBook;
-use class_refine::{Domains, Reason};
 use conflict_core::{Back, LearnedBan, Mismatches, choice_between, resolve};
+use pair_domains::{Domains, Reason};
 use port_sides::PairableGraphs;
 use std::alloc::{AllocError, Global};
 

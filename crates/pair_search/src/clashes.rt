@@ -2,16 +2,16 @@
 
 ghost use Rattle.std.specs.Prelude.{◌≡◌, Contains, OnOk};
 ghost use Rattle.account_core.specs.Tallies.{port_on};
-ghost use Rattle.class_refine.specs.Trails.{IsPairOf, held_in};
+ghost use Rattle.pair_domains.specs.Trails.{IsPairOf, held_in};
 ghost use Rattle.conflict_core.specs.Justified.{IsJustifiedTrail};
 ghost use Rattle.pair_search.specs.Progress.{Propagates};
 
 use crate::ports::way_of;
 use account_core::{Ban, port_on};
 use circuits::Pair;
-use class_refine::{Domains, Reason};
 use conflict_core::Port;
 use net_core::Side;
+use pair_domains::{Domains, Reason};
 use std::alloc::AllocError;
 
 /// Deletes the open ways of the port that a held pair has of a circuit: each of them clashes with it.

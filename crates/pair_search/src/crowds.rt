@@ -2,12 +2,12 @@
 
 ghost use Rattle.std.specs.Prelude.{All, IfOk, IfSome, IsTrue};
 ghost use Rattle.port_covers.specs.Ways.{IsBlock};
-ghost use Rattle.class_refine.specs.Trails.{IsDeleted, IsPairOf, ports_of};
+ghost use Rattle.pair_domains.specs.Trails.{IsDeleted, IsPairOf, ports_of};
 ghost use Rattle.pair_search.specs.Impasses.{HasNoWays};
 
 use crate::partners::Partners;
 use circuits::{Pair, PortKind};
-use class_refine::Domains;
+use pair_domains::Domains;
 use port_covers::block::{Block, marked, ways_in};
 use std::alloc::{AllocError, Global};
 

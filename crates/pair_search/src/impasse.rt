@@ -1,15 +1,15 @@
 //! Where a search doesn't go on.
 
 ghost use Rattle.std.specs.Prelude.{◌≡◌, IfOk};
-ghost use Rattle.class_refine.specs.Trails.{held_in};
+ghost use Rattle.pair_domains.specs.Trails.{held_in};
 ghost use Rattle.conflict_core.specs.Conflicts.{IsConflict};
 ghost use Rattle.conflict_core.specs.Grounded.{LearnsMore};
 ghost use Rattle.conflict_core.specs.Justified.{IsTrail};
 ghost use Rattle.pair_search.specs.Impasses.{IsImpasse};
 
 use ban_book::BanBook;
-use class_refine::Domains;
 use conflict_core::{Conflict, Mismatches, Port, conflict_of_ban, cover_block, cover_port};
+use pair_domains::Domains;
 use port_covers::block::Block;
 use port_sides::PairableGraphs;
 use std::alloc::{AllocError, Global};

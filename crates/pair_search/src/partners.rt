@@ -2,7 +2,7 @@
 
 use crate::units::is_known;
 use circuits::{Pair, PortKind};
-use class_refine::Domains;
+use pair_domains::Domains;
 use std::alloc::{AllocError, Global};
 
 /// No port.

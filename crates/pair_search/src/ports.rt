@@ -4,7 +4,7 @@ ghost use Rattle.std.specs.Prelude.{◌≡◌, ◌<◌, ◌≤◌, ◌*◌, ◌^
 ghost use Rattle.net_core.specs.declared.graphs.Side.TheVariants.{First, Second};
 ghost use Rattle.port_covers.specs.Ways.{nth_way};
 ghost use Rattle.account_core.specs.Tallies.{port_on};
-ghost use Rattle.class_refine.specs.Trails.{IsDeleted, IsFreePort, IsOpen, IsPairOf, held_in, ports_of};
+ghost use Rattle.pair_domains.specs.Trails.{IsDeleted, IsFreePort, IsOpen, IsPairOf, held_in, ports_of};
 ghost use Rattle.conflict_core.specs.Justified.{IsJustifiedTrail};
 ghost use Rattle.conflict_core.specs.Named.{IsPortOf};
 ghost use Rattle.pair_search.specs.Impasses.{HasNoWay, IsImpasse};
@@ -13,9 +13,9 @@ ghost use Rattle.pair_search.specs.Progress.{Propagates, StaysJustified, left};
 use crate::impasse::Impasse;
 use account_core::Ban;
 use circuits::Pair;
-use class_refine::{Cause, Domains, Reason};
 use conflict_core::Port;
 use net_core::Side;
+use pair_domains::{Cause, Domains, Reason};
 use port_covers::ways::nth_way;
 use std::alloc::AllocError;
 

@@ -1,7 +1,7 @@
 //! What follows of the pairs that are held and deleted.
 
 ghost use Rattle.std.specs.Prelude.{◌≡◌, ◌<◌};
-ghost use Rattle.class_refine.specs.Trails.{ports_of};
+ghost use Rattle.pair_domains.specs.Trails.{ports_of};
 ghost use Rattle.conflict_core.specs.Justified.{IsJustifiedTrail};
 ghost use Rattle.pair_search.specs.Impasses.{Follows};
 
@@ -13,9 +13,9 @@ use crate::queue::Queue;
 use crate::units::{apply, is_held, is_known};
 use account_core::{Ban, port_on};
 use circuits::Pair;
-use class_refine::{Domains, Entry, Fate};
 use conflict_core::Port;
 use net_core::Side;
+use pair_domains::{Domains, Entry, Fate};
 use std::alloc::{AllocError, Global};
 
 /// Where the search doesn't go on, if that was found.

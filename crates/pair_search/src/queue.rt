@@ -4,8 +4,8 @@ use crate::partners::Partners;
 use crate::units::is_held;
 use account_core::Ban;
 use circuits::{Pair, PortKind};
-use class_refine::Domains;
 use conflict_core::Mismatches;
+use pair_domains::Domains;
 use std::alloc::{AllocError, Global};
 
 /// No watcher.

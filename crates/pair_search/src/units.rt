@@ -2,14 +2,14 @@
 
 ghost use Rattle.std.specs.Prelude.{◌≡◌, ◌<◌, ◌∷◌, All, Contains, IfNone, IfOk, IsTrue, OnOk, length};
 ghost use Rattle.ban_book.specs.Covering.{Covers};
-ghost use Rattle.class_refine.specs.Trails.{IsOpen, IsPairOf, held_in};
+ghost use Rattle.pair_domains.specs.Trails.{IsOpen, IsPairOf, held_in};
 ghost use Rattle.conflict_core.specs.Justified.{IsJustifiedTrail};
 ghost use Rattle.pair_search.specs.Progress.{Propagates};
 
 use account_core::Ban;
 use circuits::Pair;
-use class_refine::{Domains, Reason};
 use net_core::Side;
+use pair_domains::{Domains, Reason};
 use std::alloc::AllocError;
 
 /// Where all pairs of a ban but one are held, and that one is open, deletes it. It answers whether all are held.

@@ -9,9 +9,9 @@ use Rattle.net_core.specs.declared.graphs.Side.{Side}
 use Rattle.net_core.specs.declared.graphs.Side.TheVariants.{First}
 use Rattle.port_sides.specs.Held.{IsOf, IsTaken, IsWhole}
 use Rattle.port_covers.proofs.ListLemmas.{any_of_contained}
-use Rattle.class_refine.specs.declared.entry.Entry.{Entry}
-use Rattle.class_refine.specs.Trails.{IsHeldAt, held_in}
-use Rattle.class_refine.proofs.EntryLemmas.{of_at}
+use Rattle.pair_domains.specs.declared.entry.Entry.{Entry}
+use Rattle.pair_domains.specs.Trails.{IsHeldAt, held_in}
+use Rattle.pair_domains.proofs.EntryLemmas.{of_at}
 use Rattle.conflict_core.specs.Conflicts.{FitPorts}
 use Rattle.conflict_core.specs.declared.port.Port.{Port}
 

@@ -3,15 +3,15 @@
 ghost use Rattle.std.specs.Prelude.{ℕ, ◌≡◌, ◌<◌, false, IfNone, IfOk, IfSome, IsTrue};
 ghost use Rattle.net_core.specs.declared.graphs.Side.TheVariants as AnySide;
 ghost use Rattle.port_sides.specs.Held.{IsTaken, IsWhole};
-ghost use Rattle.class_refine.specs.Trails.{IsFreePort, held_in, ports_of};
+ghost use Rattle.pair_domains.specs.Trails.{IsFreePort, held_in, ports_of};
 ghost use Rattle.conflict_core.specs.Conflicts.{FitPorts};
 
 use crate::fewest::fewest_ways;
 use crate::guide::Guide;
 use circuits::PortKind;
-use class_refine::Domains;
 use conflict_core::Port;
 use net_core::Side;
+use pair_domains::Domains;
 use port_sides::PairableGraphs;
 use std::alloc::{AllocError, Global};
 

@@ -1,16 +1,16 @@
 //! The port that has the fewest ways left for its weight.
 
 ghost use Rattle.std.specs.Prelude.{◌<◌};
-ghost use Rattle.class_refine.specs.Trails.{ports_of};
+ghost use Rattle.pair_domains.specs.Trails.{ports_of};
 
 use crate::reads::Reads;
 use crate::weights::Weights;
 use account_core::port_on;
 use circuits::{Pair, PortKind};
-use class_refine::Domains;
 use conflict_core::Port;
 use items::Items;
 use net_core::Side;
+use pair_domains::Domains;
 use std::alloc::{AllocError, Global};
 
 // A port, how many ways it has left, and its weight.

@@ -2,7 +2,7 @@
 
 ghost use Rattle.std.specs.Prelude.{◌≡◌, [], IfOk, IsTrue, List, OnOk, false};
 ghost use Rattle.account_core.specs.Given.{Decided as AnyFact};
-ghost use Rattle.class_refine.specs.Trails.{IsFreePort, IsOpen, IsPairOf};
+ghost use Rattle.pair_domains.specs.Trails.{IsFreePort, IsOpen, IsPairOf};
 ghost use Rattle.conflict_core.specs.Grounded.{AreGrounded};
 ghost use Rattle.conflict_core.specs.Justified.{IsTrail};
 ghost use Rattle.net_core.specs.declared.graphs.Side.TheVariants as AnySide;
@@ -15,12 +15,12 @@ use crate::sample_circuits::{
 use account_core::Ban;
 use ban_book::BanBook;
 use circuits::{Pair, PortKind};
-use class_refine::{Cause, Domains};
+use class_refine::{Refined, refine};
 use cnf_core::Stop;
 use fact_bans::Seen;
 use net_core::{Graphs, Side};
 use oracle_core::Oracle;
-use pair_refine::{Refined, refine};
+use pair_domains::{Cause, Domains};
 use pair_search::is_open;
 use port_sides::PairableGraphs;
 use query_core::Ledger;

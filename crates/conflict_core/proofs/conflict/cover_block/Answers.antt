@@ -4,7 +4,7 @@ use Rattle.account_core.specs.Ports.{IsKnown}
 use Rattle.ban_book.specs.Covering.{Covers}
 use Rattle.port_covers.specs.Ways.{ways_in, AreClosed, IsBlock}
 use Rattle.port_covers.proofs.BookLemmas.{part_known}
-use Rattle.class_refine.specs.Trails.{IsPairOf}
+use Rattle.pair_domains.specs.Trails.{IsPairOf}
 use Rattle.conflict_core.specs.Resolutions.{left_out}
 use Rattle.conflict_core.proofs.ConflictLemmas.{gathered_as, resolved_among, second_ports}
 use Rattle.conflict_core.proofs.NamedLemmas.{named_as, ways_known}

@@ -3,7 +3,7 @@ use Rattle.port_covers.specs.declared.block.Block.{Block}
 use Rattle.port_covers.specs.Ways.{block_of, ways_in, IsBlock}
 use Rattle.port_covers.proofs.BookLemmas.{port_is_block}
 use Rattle.port_covers.proofs.ClosedLemmas.{all_of_port}
-use Rattle.class_refine.specs.Trails.{ports_of}
+use Rattle.pair_domains.specs.Trails.{ports_of}
 use Rattle.conflict_core.specs.Named.{AreAllNamed, IsLeftOutOr, IsNamedIn}
 use Rattle.conflict_core.specs.Resolutions.{left_out}
 use Rattle.conflict_core.proofs.conflict.cover_port.Goals as goal

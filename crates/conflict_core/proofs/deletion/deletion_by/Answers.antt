@@ -1,6 +1,6 @@
 use Rattle.std.proofs.Common.{subst}
 use Rattle.std.specs.Prelude.{Contains}
-use Rattle.class_refine.specs.declared.entry.Reason.{Reason}
+use Rattle.pair_domains.specs.declared.entry.Reason.{Reason}
 use Rattle.conflict_core.specs.Named.{AreNamed, deleted}
 use Rattle.conflict_core.proofs.GroundedLemmas.{covers_two, learns_mismatch}
 use Rattle.conflict_core.proofs.deletion.deletion_by.Goals as goal

@@ -1,7 +1,7 @@
 use Rattle.std.proofs.Common.{subst, ◌∙◌, take}
 use Rattle.std.proofs.lemmas.List.{get_or_default}
-use Rattle.class_refine.specs.declared.entry.Entry.{Entry}
-use Rattle.class_refine.specs.Trails.{held_in}
+use Rattle.pair_domains.specs.declared.entry.Entry.{Entry}
+use Rattle.pair_domains.specs.Trails.{held_in}
 use Rattle.conflict_core.specs.Justified.{IsJustified}
 use Rattle.conflict_core.specs.Named.{AreNamed, deleted}
 use Rattle.conflict_core.proofs.deletion.deletion_of.Goals as goal

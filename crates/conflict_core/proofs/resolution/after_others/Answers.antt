@@ -1,9 +1,9 @@
 use Rattle.std.proofs.Common.{◌<◌, ◌+◌, length, List, [], take, All, Contains, ap, subst, arith}
 use Rattle.circuits.specs.declared.port.Pair.{Pair}
-use Rattle.class_refine.specs.declared.entry.Entry.{Entry}
-use Rattle.class_refine.specs.declared.entry.Fate.TheVariants.{Held}
-use Rattle.class_refine.specs.declared.entry.Cause.TheVariants.{Choice}
-use Rattle.class_refine.specs.Trails.{held_in}
+use Rattle.pair_domains.specs.declared.entry.Entry.{Entry}
+use Rattle.pair_domains.specs.declared.entry.Fate.TheVariants.{Held}
+use Rattle.pair_domains.specs.declared.entry.Cause.TheVariants.{Choice}
+use Rattle.pair_domains.specs.Trails.{held_in}
 use Rattle.conflict_core.specs.Conflicts.{IsLastOf}
 use Rattle.conflict_core.proofs.PivotLemmas.{front_more, others_before, others_none}
 use Rattle.conflict_core.proofs.resolution.after_others.Goals as goal

@@ -1,7 +1,7 @@
 use Rattle.std.proofs.Common.{false}
 use Rattle.circuits.specs.declared.port.Pair.{Pair}
 use Rattle.circuits.specs.declared.port.PortKind.TheVariants.{Input}
-use Rattle.class_refine.specs.Trails.{held_in}
+use Rattle.pair_domains.specs.Trails.{held_in}
 use Rattle.conflict_core.proofs.PivotLemmas.{held_pair_of, lent_held}
 use Rattle.conflict_core.proofs.resolution.held_at.Goals as goal
 

@@ -1,6 +1,6 @@
 use Rattle.std.proofs.Common.{List, get_or, subst}
-use Rattle.class_refine.specs.declared.entry.Entry.{Entry}
-use Rattle.class_refine.specs.Trails.{held_in}
+use Rattle.pair_domains.specs.declared.entry.Entry.{Entry}
+use Rattle.pair_domains.specs.Trails.{held_in}
 use Rattle.conflict_core.specs.Conflicts.{IsChoiceAt}
 use Rattle.conflict_core.proofs.PivotLemmas.{chosen_at, forced_at, split_at, split_own}
 use Rattle.conflict_core.proofs.resolution.pivot_at.Goals as goal

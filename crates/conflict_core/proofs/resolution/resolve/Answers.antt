@@ -1,6 +1,6 @@
 use Rattle.std.proofs.Common.{◌<◌, ◌+◌, List, length, take, All, Contains, sym, subst, arith}
 use Rattle.circuits.specs.declared.port.Pair.{Pair}
-use Rattle.class_refine.specs.Trails.{held_in}
+use Rattle.pair_domains.specs.Trails.{held_in}
 use Rattle.ban_book.specs.Covering.{Covers}
 use Rattle.conflict_core.proofs.GroundedLemmas.{learns_twice, trail_later}
 use Rattle.conflict_core.proofs.PivotLemmas.{back_is}

@@ -3,9 +3,9 @@ use Rattle.circuits.specs.declared.port.Pair.{Pair}
 use Rattle.account_core.specs.Tallies.{port_on}
 use Rattle.port_sides.specs.Held.{AreHeld}
 use Rattle.port_covers.specs.Ways.{nth_way}
-use Rattle.class_refine.specs.declared.entry.Fate.TheVariants.{Held}
-use Rattle.class_refine.specs.declared.entry.Cause.TheVariants.{LastWay}
-use Rattle.class_refine.specs.Trails.{held_in}
+use Rattle.pair_domains.specs.declared.entry.Fate.TheVariants.{Held}
+use Rattle.pair_domains.specs.declared.entry.Cause.TheVariants.{LastWay}
+use Rattle.pair_domains.specs.Trails.{held_in}
 use Rattle.conflict_core.specs.Named.{IsLeftOutOr, IsNamedIn}
 use Rattle.conflict_core.proofs.JustifiedLemmas.{ways_before}
 use Rattle.conflict_core.proofs.PivotLemmas.{held_first, held_known}

@@ -1,6 +1,6 @@
-use Rattle.class_refine.specs.declared.entry.Entry.{Entry}
-use Rattle.class_refine.specs.declared.entry.Fate.TheVariants.{Deleted}
-use Rattle.class_refine.specs.declared.entry.Reason.TheVariants as reason
+use Rattle.pair_domains.specs.declared.entry.Entry.{Entry}
+use Rattle.pair_domains.specs.declared.entry.Fate.TheVariants.{Deleted}
+use Rattle.pair_domains.specs.declared.entry.Reason.TheVariants as reason
 use Rattle.pair_search.proofs.StepLemmas.{back_at, back_less, stays_back}
 use Rattle.pair_search.proofs.back.go_back.Goals as goal
 

@@ -1,6 +1,6 @@
 -- The entries before the first choice follow, and are shown, as they were.
 use Rattle.std.proofs.Common.{◌∙◌, length, sym, ap, arith}
-use Rattle.class_refine.specs.Trails.{Domained}
+use Rattle.pair_domains.specs.Trails.{Domained}
 use Rattle.pair_search.proofs.StepLemmas.{stays_front, stays_none, zero_before, zero_whole}
 use Rattle.pair_search.proofs.back.start_over.Goals as goal
 

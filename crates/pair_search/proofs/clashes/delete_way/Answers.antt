@@ -1,7 +1,7 @@
 use Rattle.std.proofs.Common.{refl}
-use Rattle.class_refine.specs.declared.entry.Entry.{Entry}
-use Rattle.class_refine.specs.declared.entry.Fate.TheVariants.{Deleted}
-use Rattle.class_refine.specs.declared.entry.Reason.TheVariants as reason
+use Rattle.pair_domains.specs.declared.entry.Entry.{Entry}
+use Rattle.pair_domains.specs.declared.entry.Fate.TheVariants.{Deleted}
+use Rattle.pair_domains.specs.declared.entry.Reason.TheVariants as reason
 use Rattle.pair_search.proofs.StepLemmas.{clash_of, one_more_of, propagates_none, propagates_one, share_of}
 use Rattle.pair_search.proofs.clashes.delete_way.Goals as goal
 

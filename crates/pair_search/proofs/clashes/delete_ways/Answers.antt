@@ -1,5 +1,5 @@
 use Rattle.std.proofs.Common.{◌∙◌, sym, arith}
-use Rattle.class_refine.proofs.TableLemmas.{in_range}
+use Rattle.pair_domains.proofs.TableLemmas.{in_range}
 use Rattle.pair_search.proofs.StepLemmas.{ports_after, propagates_none, propagates_two, stays_held}
 use Rattle.pair_search.proofs.clashes.delete_ways.Goals as goal
 

@@ -1,7 +1,7 @@
 use Rattle.std.proofs.Common.{All, subst}
 use Rattle.std.proofs.lemmas.List.{take_all}
 use Rattle.std.proofs.lemmas.List.Elements.{All-more}
-use Rattle.class_refine.specs.Trails.{IsDeleted}
+use Rattle.pair_domains.specs.Trails.{IsDeleted}
 use Rattle.pair_search.proofs.crowds.are_deleted.Goals as goal
 
 pub remains-requires : goal.remains-requires

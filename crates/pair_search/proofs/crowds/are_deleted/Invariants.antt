@@ -1,5 +1,5 @@
 use Rattle.std.proofs.Common.{take, All}
-use Rattle.class_refine.specs.Trails.{IsDeleted}
+use Rattle.pair_domains.specs.Trails.{IsDeleted}
 use Rattle.pair_search.proofs.crowds.are_deleted.Given as goal
 
 abbrev pub invariant-loop-way : goal.invariant-loop-way

@@ -1,5 +1,5 @@
 use Rattle.std.proofs.Common.{◌∙◌, All, sym, subst}
-use Rattle.class_refine.specs.Trails.{IsDeleted, IsPairOf}
+use Rattle.pair_domains.specs.Trails.{IsDeleted, IsPairOf}
 use Rattle.conflict_core.proofs.NamedLemmas.{ways_known}
 use Rattle.pair_search.proofs.crowds.crowd.Goals as goal
 

@@ -1,7 +1,7 @@
 use Rattle.std.proofs.Common.{refl}
-use Rattle.class_refine.specs.declared.entry.Entry.{Entry}
-use Rattle.class_refine.specs.declared.entry.Fate.TheVariants.{Held}
-use Rattle.class_refine.specs.declared.entry.Cause.TheVariants.{LastWay}
+use Rattle.pair_domains.specs.declared.entry.Entry.{Entry}
+use Rattle.pair_domains.specs.declared.entry.Fate.TheVariants.{Held}
+use Rattle.pair_domains.specs.declared.entry.Cause.TheVariants.{LastWay}
 use Rattle.pair_search.proofs.PortLemmas.{last_way}
 use Rattle.pair_search.proofs.StepLemmas.{one_more_of, propagates_none, propagates_one}
 use Rattle.pair_search.proofs.ports.apply_port.Goals as goal

@@ -1,9 +1,9 @@
 use Rattle.std.proofs.Common.{refl, subst}
-use Rattle.class_refine.specs.declared.entry.Entry.{Entry}
-use Rattle.class_refine.specs.declared.entry.Fate.TheVariants.{Held, Deleted}
-use Rattle.class_refine.specs.declared.entry.Cause.TheVariants.{Choice}
-use Rattle.class_refine.specs.declared.entry.Reason.TheVariants as reason
-use Rattle.class_refine.specs.Trails.{IsDeleted}
+use Rattle.pair_domains.specs.declared.entry.Entry.{Entry}
+use Rattle.pair_domains.specs.declared.entry.Fate.TheVariants.{Held, Deleted}
+use Rattle.pair_domains.specs.declared.entry.Cause.TheVariants.{Choice}
+use Rattle.pair_domains.specs.declared.entry.Reason.TheVariants as reason
+use Rattle.pair_domains.specs.Trails.{IsDeleted}
 use Rattle.pair_search.proofs.PortLemmas.{open_of_free}
 use Rattle.pair_search.proofs.StepLemmas.{clash_of, less_chosen, less_one, one_more_of, stays_none, stays_one}
 use Rattle.pair_search.proofs.ports.branch.Goals as goal

@@ -1,5 +1,5 @@
 use Rattle.std.proofs.Common.{subst}
-use Rattle.class_refine.specs.Trails.{IsDeleted}
+use Rattle.pair_domains.specs.Trails.{IsDeleted}
 use Rattle.port_covers.specs.Ways.{nth_way}
 use Rattle.pair_search.proofs.PortLemmas.{gone_more}
 use Rattle.pair_search.proofs.ports.remaining.Goals as goal

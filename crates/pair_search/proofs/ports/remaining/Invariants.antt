@@ -1,6 +1,6 @@
 use Rattle.std.proofs.Common.{ℕ, ◌<◌, ◌≤◌}
 use Rattle.port_covers.specs.Ways.{nth_way}
-use Rattle.class_refine.specs.Trails.{IsDeleted}
+use Rattle.pair_domains.specs.Trails.{IsDeleted}
 use Rattle.pair_search.proofs.ports.remaining.Given as goal
 
 abbrev pub invariant-loop-number : goal.invariant-loop-number

@@ -1,6 +1,6 @@
 use Rattle.std.proofs.Common.{sym, subst, ap, ◌∙◌}
 use Rattle.account_core.specs.Tallies.{port_on}
-use Rattle.class_refine.specs.Trails.{IsPairOf}
+use Rattle.pair_domains.specs.Trails.{IsPairOf}
 use Rattle.port_covers.proofs.ClosedLemmas.{port_of_way}
 use Rattle.conflict_core.proofs.NamedLemmas.{way_known}
 use Rattle.pair_search.proofs.ports.way_of.Goals as goal

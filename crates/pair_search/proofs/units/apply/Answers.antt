@@ -1,9 +1,9 @@
 use Rattle.std.proofs.Common.{◌∷◌, refl}
 use Rattle.std.proofs.lemmas.Bool.{and_parts}
-use Rattle.class_refine.specs.declared.entry.Entry.{Entry}
-use Rattle.class_refine.specs.declared.entry.Fate.TheVariants.{Deleted}
-use Rattle.class_refine.specs.declared.entry.Reason.TheVariants as reason
-use Rattle.class_refine.specs.Trails.{held_in}
+use Rattle.pair_domains.specs.declared.entry.Entry.{Entry}
+use Rattle.pair_domains.specs.declared.entry.Fate.TheVariants.{Deleted}
+use Rattle.pair_domains.specs.declared.entry.Reason.TheVariants as reason
+use Rattle.pair_domains.specs.Trails.{held_in}
 use Rattle.conflict_core.proofs.ConflictLemmas.{covers_lent}
 use Rattle.pair_search.proofs.StepLemmas.{one_more_of, propagates_one}
 use Rattle.pair_search.proofs.units.apply.Goals as goal

@@ -1,7 +1,7 @@
 use Rattle.std.proofs.Common.{◌∷◌, All, Contains, subst}
 use Rattle.std.proofs.lemmas.List.{take_all}
 use Rattle.std.proofs.lemmas.List.Elements.{All-more}
-use Rattle.class_refine.specs.Trails.{held_in}
+use Rattle.pair_domains.specs.Trails.{held_in}
 use Rattle.pair_search.proofs.units.are_others_held.Goals as goal
 
 pub loop-pair-preserved : goal.loop-pair-preserved

@@ -1,5 +1,5 @@
 use Rattle.std.proofs.Common.{◌∷◌, take, All, Contains}
-use Rattle.class_refine.specs.Trails.{held_in}
+use Rattle.pair_domains.specs.Trails.{held_in}
 use Rattle.pair_search.proofs.units.are_others_held.Given as goal
 
 abbrev pub invariant-loop-pair : goal.invariant-loop-pair

@@ -1,4 +1,4 @@
-use Rattle.class_refine.specs.Trails.{held_in}
+use Rattle.pair_domains.specs.Trails.{held_in}
 use Rattle.pair_search.proofs.units.is_held_or.Goals as goal
 use Rattle.circuits.proofs.Lists.{contains_cons}
 

@@ -1,4 +1,4 @@
-use Rattle.class_refine.specs.Trails.{held_in}
+use Rattle.pair_domains.specs.Trails.{held_in}
 use Rattle.search_guide.proofs.FreeLemmas.{whole_if}
 use Rattle.search_guide.proofs.choosing.first_free.Goals as goal
 

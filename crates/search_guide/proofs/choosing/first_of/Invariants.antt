@@ -1,7 +1,7 @@
 use Rattle.std.proofs.Common.{ℕ, ◌<◌}
 use Rattle.net_core.specs.declared.graphs.Side.TheVariants.{First}
 use Rattle.port_sides.specs.Held.{IsTaken}
-use Rattle.class_refine.specs.Trails.{held_in}
+use Rattle.pair_domains.specs.Trails.{held_in}
 use Rattle.search_guide.proofs.choosing.first_of.Given as goal
 
 abbrev pub invariant-loop-number : goal.invariant-loop-number

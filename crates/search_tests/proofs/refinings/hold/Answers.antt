@@ -1,8 +1,8 @@
 use Rattle.std.proofs.Common.{ap, subst, sym}
-use Rattle.class_refine.specs.declared.entry.Entry.{Entry}
-use Rattle.class_refine.specs.declared.entry.Fate.TheVariants.{Held}
-use Rattle.class_refine.specs.declared.entry.Cause.TheVariants.{Choice}
-use Rattle.class_refine.specs.Trails.{Domained}
+use Rattle.pair_domains.specs.declared.entry.Entry.{Entry}
+use Rattle.pair_domains.specs.declared.entry.Fate.TheVariants.{Held}
+use Rattle.pair_domains.specs.declared.entry.Cause.TheVariants.{Choice}
+use Rattle.pair_domains.specs.Trails.{Domained}
 use Rattle.conflict_core.specs.Grounded.{AreGrounded}
 use Rattle.conflict_core.proofs.GroundedLemmas.{grounded_push}
 use Rattle.search_tests.proofs.refinings.hold.Goals as goal

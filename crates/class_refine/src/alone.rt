@@ -1,0 +1,61 @@
+//! Bans that are within the held pairs alone.
+
+ghost use Rattle.std.specs.Prelude.{◌≡◌, IfNone, IfOk, IfSome};
+ghost use Rattle.ban_book.specs.Covering.{Covers};
+ghost use Rattle.port_sides.specs.Held.{AreHeld};
+ghost use Rattle.class_refine.specs.Rows.{AreGrounds, AreInputsOf, ShowNothingAt, decided};
+ghost use Rattle.class_refine.specs.Refining.{AddsShown};
+ghost use Rattle.class_refine.specs.Stable.{HaveNoBan, HaveNoSwapMismatch};
+
+use crate::grounds::Grounds;
+use crate::shown::held_ban;
+use crate::swaps::swap_ban;
+use ban_book::BanBook;
+use circuits::Pair;
+use std::alloc::{AllocError, Global};
+
+/// The number of a ban within the held pairs: one that was held, or that decided claims show of them, which is held now.
+pub(crate) fn exclude_held(
+    alloc: Global,
+    grounds: &Grounds<'_>,
+    held: &[Pair],
+    book: &mut BanBook,
+) -> Result<Option<u64>, AllocError>
+    requires grounds { AreGrounds grounds.now }
+    requires held { AreHeld grounds.now.graphs.now held.now }
+    requires inputs { AreInputsOf held.now grounds.now.inputs.now }
+    ensures adds { AddsShown grounds.now.graphs.now (decided grounds.now) book.old book.new }
+    ensures found { IfOk result (λ dead. IfSome dead (Covers book.new held.now)) }
+    ensures no_ban { IfOk result (λ dead. IfNone dead (HaveNoBan book.new held.now)) }
+    ensures no_facts { IfOk result (λ dead. IfNone dead
+        (ShowNothingAt grounds.now.graphs.now (decided grounds.now) grounds.now.inputs.now held.now)) }
+    ensures no_swap { IfOk result (λ dead. IfNone dead (HaveNoSwapMismatch grounds.now.graphs.now (decided grounds.now) held.now)) }
+{
+    if let Some(number) = book.covering(held) {
+        return Ok(Some(number));
+    }
+    match held_ban(alloc, grounds, held, grounds.inputs)? {
+        Some(ban) => Ok(Some(book.hold(ban)?)),
+        None => exclude_by_swaps(alloc, grounds, held, book),
+    }
+}
+
+// That of one that decided claims of two inputs show of them, which is held now. Where there is none, bans stay.
+fn exclude_by_swaps(
+    alloc: Global,
+    grounds: &Grounds<'_>,
+    held: &[Pair],
+    book: &mut BanBook,
+) -> Result<Option<u64>, AllocError>
+    requires grounds { AreGrounds grounds.now }
+    requires held { AreHeld grounds.now.graphs.now held.now }
+    ensures adds { AddsShown grounds.now.graphs.now (decided grounds.now) book.old book.new }
+    ensures found { IfOk result (λ dead. IfSome dead (Covers book.new held.now)) }
+    ensures same { IfOk result (λ dead. IfNone dead (book.new ≡ book.old)) }
+    ensures no_swap { IfOk result (λ dead. IfNone dead (HaveNoSwapMismatch grounds.now.graphs.now (decided grounds.now) held.now)) }
+{
+    let Some(ban) = swap_ban(alloc, grounds, held)? else {
+        return Ok(None);
+    };
+    Ok(Some(book.hold(ban)?))
+}

@@ -1,0 +1,140 @@
+//! Refining, from its beginning.
+
+ghost use Rattle.std.specs.Prelude.{◌≡◌, IfNone, IfOk, IfSome, map};
+ghost use Rattle.account_core.specs.Facts.{AreFacts};
+ghost use Rattle.account_core.specs.Given.{decided_by};
+ghost use Rattle.ban_book.specs.Covering.{Covers};
+ghost use Rattle.pair_domains.specs.Trails.{held_in};
+ghost use Rattle.conflict_core.specs.Grounded.{AreGrounded};
+ghost use Rattle.conflict_core.specs.Justified.{IsTrail};
+ghost use Rattle.fact_bans.specs.Serving.{HoldsBans, MayHold};
+ghost use Rattle.class_refine.specs.Refining.{IsShownTrail, Refines};
+ghost use Rattle.class_refine.specs.Rows.{AreAllRows, AreGrounds, AreInputsOf, decided};
+ghost use Rattle.class_refine.specs.Settling.{MaySettle};
+ghost use Rattle.class_refine.specs.Stable.{IsRefined, IsStable};
+
+use crate::alone::exclude_held;
+use crate::grounds::Grounds;
+use crate::inputs::inputs_of;
+use crate::ports::cover_empty;
+use crate::refined::Refined;
+use crate::rows::{Rows, rows_of};
+use crate::settling::settle_all;
+use account_core::Fact;
+use ban_book::BanBook;
+use cnf_core::Stop;
+use fact_bans::Seen;
+use oracle_core::Oracle;
+use pair_domains::Domains;
+use port_sides::PairableGraphs;
+use query_core::Ledger;
+use std::alloc::{AllocError, Global};
+
+/// Deletes, of two circuits' pairs, each that can't stand beside the held ones, until nothing excludes one that isn't
+/// deleted: it clashes with no held pair, no ban of the book is within them and it, and no mismatch and no tally is valid
+/// for them and it. The claims of one input of all outputs are decided first; of claims of two inputs only those count
+/// that are decided already. Each deletion has a reason, of which `deletion_of` finds or makes the ban, and no pair is
+/// held, so that one pass is enough.
+///
+/// Where a ban is within the held pairs alone, or a port has no way left, its ban is answered, and the pass ends there.
+///
+/// It is complete, and expensive for it: each way is tried against all bans, all held pairs, and all facts of two inputs.
+/// The search propagates more cheaply, and refines whole matchings alone, of which no way is left to try.
+///
+/// # Errors
+///
+/// `Spent` where a line had to be learned and the ledger's budget was spent. `Memory` when out of memory.
+pub fn refine<O: Oracle>(
+    alloc: Global,
+    graphs: &PairableGraphs<'_>,
+    oracle: &mut O,
+    domains: &mut Domains,
+    seen: &mut Seen,
+    book: &mut BanBook,
+    ledger: &mut Ledger,
+) -> Result<Refined, Stop>
+    requires may { MayHold graphs.now (O.known oracle.old) ledger.old book.old }
+    requires trail { IsShownTrail graphs.now (O.known oracle.old) book.old domains.old }
+    ensures holds { HoldsBans graphs.now (O.known oracle.old) (O.known oracle.new) ledger.old ledger.new book.old book.new result }
+    ensures refines { Refines graphs.now (map decided_by (O.known oracle.new).facts) book.old book.new domains.old domains.new }
+    ensures trail { IsShownTrail graphs.now (O.known oracle.new) book.new domains.new }
+    ensures refined { IfOk result (IsRefined graphs.now (map decided_by (O.known oracle.new).facts) book.new domains.new) }
+{
+    let _facts = oracle.facts();
+    let rows = rows_of(alloc, graphs, oracle, seen, ledger)?;
+    Ok(refine_by(alloc, graphs, oracle.facts(), &rows, domains, book)?)
+}
+
+// Refines by the rows of all outputs.
+fn refine_by<'a>(
+    alloc: Global,
+    graphs: &'a PairableGraphs<'a>,
+    facts: &'a [Fact],
+    rows: &'a Rows,
+    domains: &mut Domains,
+    book: &mut BanBook,
+) -> Result<Refined, AllocError>
+    requires lawful { AreFacts graphs.now facts.now }
+    requires rows { AreAllRows graphs.now (map decided_by facts.now) rows.now }
+    requires trail { IsTrail graphs.now book.old domains.old }
+    requires shown { AreGrounded graphs.now (map decided_by facts.now) domains.old.entries }
+    ensures refines { Refines graphs.now (map decided_by facts.now) book.old book.new domains.old domains.new }
+    ensures refined { IfOk result (IsRefined graphs.now (map decided_by facts.now) book.new domains.new) }
+{
+    let inputs = inputs_of(alloc, domains.pairs())?;
+    let grounds = Grounds {
+        graphs,
+        facts,
+        rows,
+        inputs: &inputs,
+    };
+    match exclude(alloc, &grounds, domains, book)? {
+        Some(ban) => Ok(Refined::Dead(ban)),
+        None => Ok(Refined::Stable),
+    }
+}
+
+// The number of a ban within the held pairs, where there is one that is in the book, that facts show, or that is found as pairs
+// are settled.
+fn exclude(
+    alloc: Global,
+    grounds: &Grounds<'_>,
+    domains: &mut Domains,
+    book: &mut BanBook,
+) -> Result<Option<u64>, AllocError>
+    requires grounds { AreGrounds grounds.now }
+    requires trail { IsTrail grounds.now.graphs.now book.old domains.old }
+    requires shown { AreGrounded grounds.now.graphs.now (decided grounds.now) domains.old.entries }
+    requires inputs { AreInputsOf (held_in domains.old.entries) grounds.now.inputs.now }
+    ensures refines { Refines grounds.now.graphs.now (decided grounds.now) book.old book.new domains.old domains.new }
+    ensures dead { IfOk result (λ dead. IfSome dead (Covers book.new (held_in domains.new.entries))) }
+    ensures stable { IfOk result (λ dead. IfNone dead
+        (IsStable grounds.now.graphs.now (decided grounds.now) book.new domains.new)) }
+{
+    let _lawful = domains.entries();
+    match exclude_held(alloc, grounds, domains.pairs(), book)? {
+        Some(ban) => Ok(Some(ban)),
+        None => exclude_beside(alloc, grounds, domains, book),
+    }
+}
+
+// That of one that is found as pairs are settled, or of a port that then has no way left.
+fn exclude_beside(
+    alloc: Global,
+    grounds: &Grounds<'_>,
+    domains: &mut Domains,
+    book: &mut BanBook,
+) -> Result<Option<u64>, AllocError>
+    requires may { MaySettle grounds.now book.old domains.old }
+    requires shown { AreGrounded grounds.now.graphs.now (decided grounds.now) domains.old.entries }
+    ensures refines { Refines grounds.now.graphs.now (decided grounds.now) book.old book.new domains.old domains.new }
+    ensures dead { IfOk result (λ dead. IfSome dead (Covers book.new (held_in domains.new.entries))) }
+    ensures stable { IfOk result (λ dead. IfNone dead
+        (IsStable grounds.now.graphs.now (decided grounds.now) book.new domains.new)) }
+{
+    let _lawful = domains.entries();
+    match settle_all(alloc, grounds, domains, book)? {
+        Some(ban) => Ok(Some(ban)),
+        None => cover_empty(alloc, grounds.graphs, domains, book),
+    }
+}

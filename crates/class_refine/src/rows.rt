@@ -1,0 +1,95 @@
+//! The rows of all outputs.
+
+ghost use Rattle.std.specs.Prelude.{◌≡◌, ◌<◌, [], IfOk, length, map, slice_index_or};
+ghost use Rattle.net_core.specs.Sides.{graph_of};
+ghost use Rattle.account_core.specs.Given.{decided_by};
+ghost use Rattle.oracle_core.specs.Oracles.{Serves};
+ghost use Rattle.fact_bans.specs.Serving.{MayAsk};
+ghost use Rattle.class_refine.specs.Rows.{AreAllRows, AreRowsOf};
+
+use crate::swap_index::swaps_of;
+use claim_rows::InputTold;
+use cnf_core::Stop;
+use fact_bans::{Seen, claims_of};
+use indexmap::IndexMap;
+use items::Items;
+use net_core::Side;
+use oracle_core::Oracle;
+use port_sides::PairableGraphs;
+use query_core::{Claim, Ledger};
+use std::alloc::Global;
+
+/// What is told of each output of both circuits: a row with its claims of one input, in the order of the outputs.
+pub(crate) struct Rows {
+    pub(crate) first: Items<Items<InputTold>>,
+    pub(crate) second: Items<Items<InputTold>>,
+    /// The numbers of the facts of claims of two inputs, by claim.
+    pub(crate) swaps: IndexMap<Claim, u64>,
+}
+
+// By hand, and so one call wherever a value ends: a derived drop is expanded there, field by field, and makes proofs long.
+impl Drop for Rows {
+    fn drop(self) {
+        let Rows {
+            first: _first,
+            second: _second,
+            swaps: _swaps,
+        } = self;
+    }
+}
+
+/// Has the claims of one input of all outputs decided. Each output has to go to one of the other circuit, so that none of them is
+/// decided in vain.
+pub(crate) fn rows_of<O: Oracle>(
+    alloc: Global,
+    graphs: &PairableGraphs<'_>,
+    oracle: &mut O,
+    seen: &mut Seen,
+    ledger: &mut Ledger,
+) -> Result<Rows, Stop>
+    requires may { MayAsk graphs.now (O.known oracle.old) ledger.old }
+    ensures serves { Serves (O.known oracle.old) (O.known oracle.new) ledger.old ledger.new result }
+    ensures rows { IfOk result (AreAllRows graphs.now (map decided_by (O.known oracle.new).facts)) }
+{
+    let _facts = oracle.facts();
+    let first = side_rows(alloc, graphs, oracle, Side::First, seen, ledger)?;
+    let second = side_rows(alloc, graphs, oracle, Side::Second, seen, ledger)?;
+    let swaps = swaps_of(alloc, oracle.facts())?;
+    Ok(Rows {
+        first,
+        second,
+        swaps,
+    })
+}
+
+// Has those of one circuit decided.
+fn side_rows<O: Oracle>(
+    alloc: Global,
+    graphs: &PairableGraphs<'_>,
+    oracle: &mut O,
+    side: Side,
+    seen: &mut Seen,
+    ledger: &mut Ledger,
+) -> Result<Items<Items<InputTold>>, Stop>
+    requires may { MayAsk graphs.now (O.known oracle.old) ledger.old }
+    ensures serves { Serves (O.known oracle.old) (O.known oracle.new) ledger.old ledger.new result }
+    ensures rows { IfOk result (AreRowsOf graphs.now (map decided_by (O.known oracle.new).facts) side
+        (length (graph_of graphs.now side).outputs)) }
+{
+    let _facts = oracle.facts();
+    let outputs = graphs.side(side).outputs().len() as u32;
+    let mut rows = Items::new(alloc);
+    for output in 0..outputs {
+        let row = claims_of(alloc, graphs, oracle, side, output, seen, ledger)?;
+        rows.push(row)?;
+    }
+    Ok(rows)
+}
+
+/// The row of an output.
+pub(crate) fn row_at(rows: &Items<Items<InputTold>>, output: u32) -> &[InputTold]
+    requires { output < length rows.now }
+    ensures { result.now ≡ slice_index_or rows.now output [] }
+{
+    &rows[output as usize]
+}

@@ -1,0 +1,236 @@
+//! Settling pairs: each is deleted, or nothing excludes it beside the held ones.
+
+ghost use Rattle.std.specs.Prelude.{◌≡◌, ◌<◌, ◌∷◌, IfNone, IfOk, IfSome};
+ghost use Rattle.ban_book.specs.Covering.{Covers};
+ghost use Rattle.claim_rows.specs.Shown.{IsShownBan};
+ghost use Rattle.pair_domains.specs.declared.entry.Fate.TheVariants.{Deleted};
+ghost use Rattle.pair_domains.specs.Trails.{IsOpen, IsPairOf, held_in, ports_of};
+ghost use Rattle.conflict_core.specs.Grounded.{IsGrounded};
+ghost use Rattle.conflict_core.specs.Named.{AreNamed};
+ghost use Rattle.class_refine.specs.Rows.{decided};
+ghost use Rattle.class_refine.specs.Settling.{Excludes, IsClear, MaySettle, Settles};
+ghost use Rattle.class_refine.specs.Stable.{HaveNoBan};
+
+use crate::grounds::Grounds;
+use crate::shown::way_ban;
+use crate::swaps::swap_ban;
+use account_core::Ban;
+use ban_book::BanBook;
+use circuits::{Pair, PortKind};
+use conflict_core::Port;
+use net_core::Side;
+use pair_domains::{Domains, Reason};
+use pair_search::way_of;
+use port_covers::clash::clashing;
+use std::alloc::{AllocError, Global};
+
+/// What excludes a pair beside the held ones.
+#[derive(Debug, Drop)]
+pub(crate) enum Exclusion {
+    /// A held pair that it clashes with, or a ban that is held.
+    Known(Reason),
+    /// A ban that decided claims show, which isn't held yet.
+    Shown(Ban),
+}
+
+/// Settles all pairs, unless a ban within the held ones is found. It answers that one's number. Which kind comes first is free: no pair
+/// is held meanwhile, so that one that is deleted excludes no other.
+pub(crate) fn settle_all(
+    alloc: Global,
+    grounds: &Grounds<'_>,
+    domains: &mut Domains,
+    book: &mut BanBook,
+) -> Result<Option<u64>, AllocError>
+    requires may { MaySettle grounds.now book.old domains.old }
+    ensures { Settles grounds.now book.old book.new domains.old domains.new
+        (λ pair. IsPairOf domains.old.inputs domains.old.outputs pair) result }
+{
+    if let Some(dead) = settle_kind(alloc, grounds, domains, PortKind::Output, book)? {
+        return Ok(Some(dead));
+    }
+    settle_kind(alloc, grounds, domains, PortKind::Input, book)
+}
+
+// Settles the pairs of a kind.
+fn settle_kind(
+    alloc: Global,
+    grounds: &Grounds<'_>,
+    domains: &mut Domains,
+    kind: PortKind,
+    book: &mut BanBook,
+) -> Result<Option<u64>, AllocError>
+    requires may { MaySettle grounds.now book.old domains.old }
+    ensures { Settles grounds.now book.old book.new domains.old domains.new
+        (λ pair. (pair.kind ≡ kind) × IsPairOf domains.old.inputs domains.old.outputs pair) result }
+{
+    for from in 0..domains.ports(kind) {
+        if let Some(dead) = settle_port(alloc, grounds, domains, kind, from, book)? {
+            return Ok(Some(dead));
+        }
+    }
+    Ok(None)
+}
+
+// Settles the pairs of a port of the first circuit.
+fn settle_port(
+    alloc: Global,
+    grounds: &Grounds<'_>,
+    domains: &mut Domains,
+    kind: PortKind,
+    from: u32,
+    book: &mut BanBook,
+) -> Result<Option<u64>, AllocError>
+    requires may { MaySettle grounds.now book.old domains.old }
+    requires from { from < ports_of domains.old.inputs domains.old.outputs kind }
+    ensures { Settles grounds.now book.old book.new domains.old domains.new
+        (λ pair. (pair.kind ≡ kind) × (pair.from ≡ from) × IsPairOf domains.old.inputs domains.old.outputs pair) result }
+{
+    let port = Port {
+        side: Side::First,
+        kind,
+        number: from,
+    };
+    let count = domains.ports(kind);
+    for number in 0..2 * count as u64 {
+        let way = way_of(domains, port, number);
+        if let Some(dead) = settle(alloc, grounds, domains, way, book)? {
+            return Ok(Some(dead));
+        }
+    }
+    Ok(None)
+}
+
+// Settles a pair. One that is held or deleted is settled.
+fn settle(
+    alloc: Global,
+    grounds: &Grounds<'_>,
+    domains: &mut Domains,
+    way: Pair,
+    book: &mut BanBook,
+) -> Result<Option<u64>, AllocError>
+    requires may { MaySettle grounds.now book.old domains.old }
+    requires known { IsPairOf domains.old.inputs domains.old.outputs way }
+    ensures { Settles grounds.now book.old book.new domains.old domains.new
+        (λ pair. pair ≡ way) result }
+{
+    let _lawful = domains.entries();
+    match domains.fate(way) {
+        Some(_) => Ok(None),
+        None => settle_open(alloc, grounds, domains, way, book),
+    }
+}
+
+// Settles an open pair: deletes it where something excludes it.
+fn settle_open(
+    alloc: Global,
+    grounds: &Grounds<'_>,
+    domains: &mut Domains,
+    way: Pair,
+    book: &mut BanBook,
+) -> Result<Option<u64>, AllocError>
+    requires may { MaySettle grounds.now book.old domains.old }
+    requires known { IsPairOf domains.old.inputs domains.old.outputs way }
+    requires open { IsOpen domains.old.entries way }
+    ensures { Settles grounds.now book.old book.new domains.old domains.new
+        (λ pair. pair ≡ way) result }
+{
+    let Some(exclusion) = exclusion_of(alloc, grounds, domains, way, book)? else {
+        return Ok(None);
+    };
+    match exclusion {
+        Exclusion::Known(reason) => delete(grounds, domains, way, reason, book),
+        Exclusion::Shown(ban) => delete_by(grounds, domains, way, ban, book),
+    }
+}
+
+// What excludes a pair beside the held ones: one that it clashes with, a held ban, or a ban that decided claims show, of one
+// input first. So what needs no new ban is found first, and then the bans of the fewest pairs.
+fn exclusion_of(
+    alloc: Global,
+    grounds: &Grounds<'_>,
+    domains: &Domains,
+    way: Pair,
+    book: &BanBook,
+) -> Result<Option<Exclusion>, AllocError>
+    requires may { MaySettle grounds.now book.now domains.now }
+    requires known { IsPairOf domains.now.inputs domains.now.outputs way }
+    ensures found { IfOk result (λ found. IfSome found
+        (Excludes grounds.now book.now (held_in domains.now.entries) way)) }
+    ensures none { IfOk result (λ found. IfNone found
+        (IsClear grounds.now book.now (held_in domains.now.entries) way)) }
+{
+    let _lawful = domains.entries();
+    let held = domains.pairs();
+    if let Some(with) = clashing(held, way) {
+        return Ok(Some(Exclusion::Known(Reason::Clash(with))));
+    }
+    let pairs = beside(alloc, held, way)?;
+    if let Some(number) = book.covering(&pairs) {
+        return Ok(Some(Exclusion::Known(Reason::Ban(number))));
+    }
+    if let Some(ban) = way_ban(alloc, grounds, held, way)? {
+        return Ok(Some(Exclusion::Shown(ban)));
+    }
+    match swap_ban(alloc, grounds, &pairs)? {
+        Some(ban) => Ok(Some(Exclusion::Shown(ban))),
+        None => Ok(None),
+    }
+}
+
+// Holds a ban that facts show, and deletes the pair that it excludes beside the held ones. A ban that is within these alone is
+// answered.
+fn delete_by(
+    grounds: &Grounds<'_>,
+    domains: &mut Domains,
+    way: Pair,
+    ban: Ban,
+    book: &mut BanBook,
+) -> Result<Option<u64>, AllocError>
+    requires shown { IsShownBan grounds.now.graphs.now (decided grounds.now) (way ∷ held_in domains.old.entries) ban }
+    requires known { IsPairOf domains.old.inputs domains.old.outputs way }
+    requires open { IsOpen domains.old.entries way }
+    ensures { Settles grounds.now book.old book.new domains.old domains.new
+        (λ pair. pair ≡ way) result }
+{
+    let _ = grounds;
+    let _lawful = domains.entries();
+    let number = book.hold(ban)?;
+    if let Some(dead) = book.covering(domains.pairs()) {
+        return Ok(Some(dead));
+    }
+    domains.delete(way, Reason::Ban(number))?;
+    Ok(None)
+}
+
+// Deletes a pair that clashes with a held one, or that a held ban excludes beside them.
+fn delete(
+    grounds: &Grounds<'_>,
+    domains: &mut Domains,
+    way: Pair,
+    reason: Reason,
+    book: &BanBook,
+) -> Result<Option<u64>, AllocError>
+    requires no_ban { HaveNoBan book.now (held_in domains.old.entries) }
+    requires named { AreNamed book.now (held_in domains.old.entries) way reason }
+    requires shown { IsGrounded grounds.now.graphs.now (decided grounds.now) way (Deleted reason) }
+    requires known { IsPairOf domains.old.inputs domains.old.outputs way }
+    requires open { IsOpen domains.old.entries way }
+    ensures { Settles grounds.now book.now book.now domains.old domains.new
+        (λ pair. pair ≡ way) result }
+{
+    let _ = grounds;
+    let _ = book;
+    let _lawful = domains.entries();
+    domains.delete(way, reason)?;
+    Ok(None)
+}
+
+// A pair, and some after it.
+fn beside(alloc: Global, held: &[Pair], way: Pair) -> Result<Vec<Pair>, AllocError>
+    ensures { IfOk result (λ pairs. pairs.items ≡ way ∷ held.now) }
+{
+    let mut pairs = Vec::new(alloc);
+    pairs.push(way)?;
+    pairs.extend_from_slice(held)?;
+    Ok(pairs)
+}

@@ -1,0 +1,113 @@
+//! Bans of held pairs that decided claims show.
+
+ghost use Rattle.std.specs.Prelude.{◌≡◌, [], ◌∷◌, ◌++◌, All, IfNone, IfOk, IfSome};
+ghost use Rattle.circuits.specs.declared.port.PortKind.TheVariants as AnyKind;
+ghost use Rattle.account_core.specs.Ports.{IsKnown};
+ghost use Rattle.ban_book.specs.Vectors.{HaveNoFacts};
+ghost use Rattle.claim_rows.specs.Shown.{IsShownBan};
+ghost use Rattle.port_sides.specs.Held.{AreHeld};
+ghost use Rattle.class_refine.specs.Rows.{AreGrounds, AreInputs, AreInputsOf, ShowNothingAt, decided};
+
+use crate::grounds::Grounds;
+use crate::rows::row_at;
+use account_core::Ban;
+use circuits::{Pair, PortKind};
+use claim_rows::ban_by_facts;
+use std::alloc::{AllocError, Global};
+
+/// The ban that decided claims show of a way beside the held pairs, of which they show none: of an input's with each held
+/// output's, of an output's with all held inputs'.
+pub(crate) fn way_ban(
+    alloc: Global,
+    grounds: &Grounds<'_>,
+    held: &[Pair],
+    way: Pair,
+) -> Result<Option<Ban>, AllocError>
+    requires grounds { AreGrounds grounds.now }
+    requires held { AreHeld grounds.now.graphs.now held.now }
+    requires inputs { AreInputsOf held.now grounds.now.inputs.now }
+    requires alone { ShowNothingAt grounds.now.graphs.now (decided grounds.now) grounds.now.inputs.now held.now }
+    requires known { IsKnown grounds.now.graphs.now way }
+    ensures shown { IfOk result (λ found. IfSome found (IsShownBan grounds.now.graphs.now (decided grounds.now) (way ∷ held.now))) }
+    ensures none { IfOk result (λ found. IfNone found (HaveNoFacts grounds.now.graphs.now (decided grounds.now) (way ∷ held.now))) }
+{
+    match way.kind {
+        PortKind::Input => held_ban(alloc, grounds, held, &[way]),
+        PortKind::Output => output_ban(alloc, grounds, grounds.inputs, way),
+    }
+}
+
+/// The ban that decided claims show of pairs of inputs and one of some outputs.
+pub(crate) fn held_ban(
+    alloc: Global,
+    grounds: &Grounds<'_>,
+    held: &[Pair],
+    inputs: &[Pair],
+) -> Result<Option<Ban>, AllocError>
+    requires grounds { AreGrounds grounds.now }
+    requires inputs { AreInputs grounds.now.graphs.now inputs.now }
+    requires held { All (IsKnown grounds.now.graphs.now) held.now }
+    ensures shown { IfOk result (λ found. IfSome found
+        (IsShownBan grounds.now.graphs.now (decided grounds.now) (inputs.now ++ held.now))) }
+    ensures none { IfOk result (λ found. IfNone found
+        (ShowNothingAt grounds.now.graphs.now (decided grounds.now) inputs.now held.now)) }
+{
+    for pair in held.iter() {
+        if let Some(ban) = pair_ban(alloc, grounds, inputs, *pair)? {
+            return Ok(Some(ban));
+        }
+    }
+    Ok(None)
+}
+
+// That of pairs of inputs and another pair, if it is of an output.
+fn pair_ban(
+    alloc: Global,
+    grounds: &Grounds<'_>,
+    inputs: &[Pair],
+    pair: Pair,
+) -> Result<Option<Ban>, AllocError>
+    requires grounds { AreGrounds grounds.now }
+    requires inputs { AreInputs grounds.now.graphs.now inputs.now }
+    requires known { IsKnown grounds.now.graphs.now pair }
+    ensures shown { IfOk result (λ found. IfSome found
+        (IsShownBan grounds.now.graphs.now (decided grounds.now) (inputs.now ++ pair ∷ []))) }
+    ensures none { IfOk result (λ found. IfNone found
+        (pair.kind ≡ AnyKind.Output → HaveNoFacts grounds.now.graphs.now (decided grounds.now) (inputs.now ++ pair ∷ []))) }
+{
+    match pair.kind {
+        PortKind::Input => Ok(None),
+        PortKind::Output => output_ban(alloc, grounds, inputs, pair),
+    }
+}
+
+// That of pairs of inputs and an output's.
+fn output_ban(
+    alloc: Global,
+    grounds: &Grounds<'_>,
+    inputs: &[Pair],
+    output: Pair,
+) -> Result<Option<Ban>, AllocError>
+    requires grounds { AreGrounds grounds.now }
+    requires inputs { AreInputs grounds.now.graphs.now inputs.now }
+    requires known { IsKnown grounds.now.graphs.now output }
+    requires kind { output.kind ≡ AnyKind.Output }
+    ensures shown { IfOk result (λ found. IfSome found
+        (IsShownBan grounds.now.graphs.now (decided grounds.now) (inputs.now ++ output ∷ []))) }
+    ensures none { IfOk result (λ found. IfNone found
+        (HaveNoFacts grounds.now.graphs.now (decided grounds.now) (inputs.now ++ output ∷ []))) }
+{
+    let pairs = with_output(alloc, inputs, output)?;
+    let first = row_at(&grounds.rows.first, output.from);
+    let second = row_at(&grounds.rows.second, output.to);
+    ban_by_facts(alloc, grounds.graphs, &pairs, output, first, second)
+}
+
+// Some pairs, and one more after them.
+fn with_output(alloc: Global, inputs: &[Pair], output: Pair) -> Result<Vec<Pair>, AllocError>
+    ensures { IfOk result (λ pairs. pairs.items ≡ inputs.now ++ output ∷ []) }
+{
+    let mut pairs = Vec::from_slice(alloc, inputs)?;
+    pairs.push(output)?;
+    Ok(pairs)
+}

@@ -1,0 +1,6 @@
+pub mod Trails
+pub mod Numbers
+pub mod Kept
+pub use Rattle.account_core.specs.Ports
+pub use Rattle.account_core.specs.Tallies
+pub use Rattle.port_sides.specs.Held

@@ -1,0 +1,10 @@
+//! The signed pairs of two circuits with as many ports: which are held, which are deleted, and why.
+#![tactic(auto)]
+
+mod domains;
+mod entry;
+mod numbers;
+mod tables;
+
+pub use domains::Domains;
+pub use entry::{Cause, Entry, Fate, Reason};

@@ -1,5 +1,0 @@
-use Rattle.pair_refine.proofs.InputLemmas.{IsTaking}
-use Rattle.pair_refine.proofs.inputs.inputs_of.Given as goal
-
-abbrev pub invariant-loop-pair : goal.invariant-loop-pair
-invariant-loop-pair l = IsTaking l.held l.inputs.items l.pair-index

@@ -1,5 +1,0 @@
-use Rattle.pair_refine.proofs.StableLemmas.{covers_conflict}
-use Rattle.pair_refine.proofs.ports.cover.Goals as goal
-
-pub returns-clause-found : goal.returns-clause-found
-returns-clause-found c = covers_conflict c.conflict_of.new.book _ c.in_ok-conflict.conflict c.in_ok-conflict.ensures.conflict

@@ -1,7 +1,0 @@
-use Rattle.std.proofs.Common.{ℕ, ◌<◌}
-use Rattle.class_refine.specs.Trails.{IsDeleted}
-use Rattle.port_covers.specs.Ways.{nth_way}
-use Rattle.pair_refine.proofs.ports.has_left.Given as goal
-
-abbrev pub invariant-loop-number : goal.invariant-loop-number
-invariant-loop-number l = (k : ℕ) → k < l.number → IsDeleted l.domains.entries (nth_way l.port.side l.port.kind l.port.number k)

@@ -1,7 +1,0 @@
-use Rattle.std.proofs.Common.{ℕ, ◌<◌}
-use Rattle.pair_refine.specs.Rows.{decided}
-use Rattle.pair_refine.specs.Swaps.{AgreesAt}
-use Rattle.pair_refine.proofs.swaps.swap_ban.Given as goal
-
-abbrev pub invariant-loop-number : goal.invariant-loop-number
-invariant-loop-number l = (k : ℕ) → k < l.number → AgreesAt (decided l.grounds) l.pairs k
