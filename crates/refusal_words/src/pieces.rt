@@ -52,7 +52,7 @@ fn seek_in_open<S: Shelf, K: Seek>(
     let mut piece = zeros(alloc, PIECE)?;
     for _ in 0..u64::MAX {
         if seek_in_next(alloc, shelf, &mut piece, seeker)? == Wanted::Nothing {
-            break;
+            return Ok(());
         }
     }
     Ok(())
