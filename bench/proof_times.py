@@ -1,6 +1,6 @@
 """Prints what the proofs of crates took, part by part and function by function, by the times at which their files were written into
 `crates/NAME/out/incremental`. It tells what it should only where a crate was proved from nothing by one job, as by
-`bench/keep_proofs.sh`.
+`bench/prove.py build`.
 With --sizes it prints which borrow parts are the largest, in megabytes of their files: these don't hang on what else the machine
 does, and tell of a single function that was proved again too. Then what those of a size took.
 
