@@ -47,15 +47,12 @@ impl Seek for LineSearch {
         let mut rest = piece;
         // each turn but the last takes a line feed
         for _ in 0..=piece.len() {
-            let end = line_length(rest);
-            let whole = end < rest.len();
-            if self.take_part(&rest[..end], whole)? == Wanted::Nothing {
+            let (part, after) = rest.split_at(line_length(rest));
+            if self.take_part(part, !after.is_empty())? == Wanted::Nothing {
                 return Ok(Wanted::Nothing);
             }
-            if !whole {
-                break;
-            }
-            rest = &rest[end + 1..];
+            let [_feed, next @ ..] = after else { break };
+            rest = next;
         }
         Ok(Wanted::More)
     }
