@@ -1,0 +1,137 @@
+"""What files of a stranger cost. See hostile.sh.
+
+    hostile.py PROGRAM [--limit SECONDS] [NAME ..]
+"""
+import argparse
+import os
+import sys
+import tempfile
+from measured_run import timed
+
+ZERO, ONE = ".names {}\n", ".names {}\n1\n"
+
+
+def blif(inputs, outputs, lines):
+    """A BLIF netlist with these names and covers."""
+    return f".model m\n.inputs {' '.join(inputs)}\n.outputs {' '.join(outputs)}\n{''.join(lines)}.end\n"
+
+
+def names(letter, count):
+    return [f"{letter}{i}" for i in range(count)]
+
+
+def constants(count, cover):
+    """A circuit of as many inputs as outputs, all of which are one constant."""
+    return blif(names("i", count), names("o", count), [cover.format(f"o{k}") for k in range(count)])
+
+
+def ands(count, last="11 1\n"):
+    """As many ANDs of two inputs each, of which the last one may be another gate."""
+    covers = [f".names i{2 * k} i{2 * k + 1} o{k}\n" + ("11 1\n" if k + 1 < count else last) for k in range(count)]
+    return blif(names("i", 2 * count), names("o", count), covers)
+
+
+def chain(count, gate, inputs=None):
+    """Gates in a row, each over the one before it and an input."""
+    inputs = inputs or count
+    lines, last = [], "i0"
+    for k in range(1, count):
+        lines.append(f".names {last} i{k % inputs} {'o' if k + 1 == count else f's{k}'}\n{gate}")
+        last = f"s{k}"
+    return blif(names("i", inputs), ["o"], lines)
+
+
+OR, AND, XOR = "1- 1\n-1 1\n", "11 1\n", "10 1\n01 1\n"
+
+
+def pairs(count):
+    return " ".join(f"o{k}+{k}" for k in range(count))
+
+
+def cover_account(ports):
+    """A ban of all outputs' pairs by a vector of unknowns, and one by a cover over half of the inputs, each way of which names it."""
+    half = ports // 2
+    ways = " ".join(["0"] * (2 * half * (ports - half + 1)))
+    lists = f"{' '.join(map(str, range(half)))} / {' '.join(map(str, range(ports - half + 1)))}"
+    return f"npnp 1\nban {pairs(ports)} : vector 0 ={'x' * ports}\nban {pairs(ports)} : cover in {lists} / {ways}\nend\n"
+
+
+def vector_account(ports):
+    """As many bans by a vector as there are ports."""
+    line = f"ban {pairs(ports)} : vector 0 ={'x' * ports}\n"
+    return "npnp 1\n" + line * ports + "end\n"
+
+
+def fails_account(lines):
+    return "npnp 1\n" + "fails a 0 down 0 =1111\n" * lines + "end\n"
+
+
+def beside_chain(gates):
+    """An output of four inputs, and another one over a long chain of gates."""
+    lines = [".names i0 i1 i2 i3 o\n1--- 1\n"]
+    last = "i0"
+    for k in range(gates):
+        lines.append(f".names {last} i{k % 4} {'p' if k + 1 == gates else f's{k}'}\n" + (AND if k % 2 else OR))
+        last = f"s{k}"
+    return blif(names("i", 4), ["o", "p"], lines)
+
+
+def rows_netlist(count):
+    """One cover with this many rows."""
+    return ".model m\n.inputs a b\n.outputs o\n.names a b o\n" + "01 1\n" * count + ".end\n"
+
+
+# a name; the two sizes; what is written, by size; the words; the first line that is wanted, or the status alone
+def rows():
+    both = ("first", "second", "account")
+    checked = ("check", *both)
+    yield "cover between ports, one ban named by each way (check)", (256, 512), lambda n: (constants(n, ZERO), constants(n, ONE), cover_account(n)), checked, "rejected line 4 order"
+    yield "vector bans over all ports (check)", (128, 256), lambda n: (constants(n, ZERO), constants(n, ONE), vector_account(n)), checked, None
+    yield "fails, each beside 200,000 gates (check)", (500, 1000), lambda n: (beside_chain(200_000),) * 2 + (fails_account(n),), checked, None
+    yield "ANDs against as many with one XOR (match)", (256, 512), lambda n: (ands(n), ands(n, XOR), ""), ("match", *both), "no matching"
+    yield "ANDs with themselves (match)", (256, 512), lambda n: (ands(n), ands(n), ""), ("match", *both), "matched"
+    yield "XOR of all inputs with itself (match)", (512, 1024), lambda n: (chain(n, XOR),) * 2 + ("",), ("match", *both), "matched"
+    yield "rows of one cover with themselves (match)", (250_000, 500_000), lambda n: (rows_netlist(n),) * 2 + ("",), ("match", *both), "matched"
+    yield "OR of all inputs (info)", (128, 256), lambda n: (chain(n, OR),), ("info", "first"), "inputs"
+    yield "XOR of all inputs (info)", (64, 128), lambda n: (chain(n, XOR),), ("info", "first"), "inputs"
+    yield "chain over eight inputs (info)", (25_000, 50_000), lambda n: (chain(n, AND, 8),), ("info", "first"), "inputs"
+    yield "rows of one cover (info)", (125_000, 250_000), lambda n: (rows_netlist(n),), ("info", "first"), "inputs"
+    yield "bytes of a file that isn't a netlist (info)", (30_000_000, 60_000_000), lambda n: ("a" * n,), ("info", "first"), "malformed"
+
+
+def run(program, limit, folder, texts, words):
+    for name, text in zip(("first", "second", "account"), texts):
+        with open(os.path.join(folder, name), "w", encoding="ascii") as it:
+            it.write(text)
+    paths = [os.path.join(folder, it) if it in ("first", "second", "account") else it for it in words]
+    printed, status, seconds, memory = timed(limit, folder, program, *paths)
+    return printed.split("\n")[0] if status is not None else None, seconds, memory
+
+
+def main():
+    words = argparse.ArgumentParser(prog="bench/hostile.sh", description="what files of a stranger cost")
+    words.add_argument("program")
+    words.add_argument("--limit", type=int, default=60, help="processor seconds of a run (60)")
+    words.add_argument("names", nargs="*", help="rows by their first words")
+    choices = words.parse_args()
+    failed = False
+    print(f"{'file':58}{'size':>10}{'seconds':>10}{'MiB':>7}{'size':>10}{'seconds':>10}{'MiB':>7}{'growth':>8}")
+    for name, sizes, texts, command, wanted in rows():
+        if choices.names and not any(name.startswith(it) for it in choices.names):
+            continue
+        told, line = [], f"{name:58}"
+        for size in sizes:
+            with tempfile.TemporaryDirectory() as folder:
+                first, seconds, memory = run(choices.program, choices.limit, folder, texts(size), command)
+            told.append(seconds if first is not None else None)
+            line += f"{size:>10,}" + (f"{seconds:>10.2f}{memory / 1024:>7.0f}" if first is not None else f"{'late':>10}{'':>7}")
+            if first is not None and wanted is not None and not first.startswith(wanted):
+                line += f" WRONG: {first}"
+                failed = True
+        growth = f"{told[1] / told[0]:8.1f}" if all(told) else f"{'':8}"
+        print(line + growth, flush=True)
+    sys.exit(failed)
+
+
+if __name__ == "__main__":
+    main()
