@@ -113,7 +113,7 @@ def main():
     words.add_argument("program")
     words.add_argument("--limit", type=int, default=60, help="processor seconds of a run (60)")
     words.add_argument("names", nargs="*", help="rows by their first words")
-    choices = words.parse_args()
+    choices = words.parse_intermixed_args()
     failed = False
     print(f"{'file':58}{'size':>10}{'seconds':>10}{'MiB':>7}{'size':>10}{'seconds':>10}{'MiB':>7}{'growth':>8}")
     for name, sizes, texts, command, wanted in rows():
