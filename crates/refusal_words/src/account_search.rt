@@ -97,8 +97,8 @@ impl Text {
 pub(crate) struct ConclusionSearch {
     /// How many bans came.
     bans: u64,
-    /// The last ban without pairs, by its number.
-    last: Option<(u64, Step)>,
+    /// The last ban without pairs, and its number.
+    last: Option<(u64, Record)>,
     found: bool,
 }
 
@@ -114,16 +114,22 @@ impl ConclusionSearch {
     /// The step of the ban that the conclusion names.
     pub(crate) fn step(&self) -> Option<&Step> {
         match &self.last {
-            Some((_, step)) if self.found => Some(step),
+            Some((_, Record::Ban(ban))) if self.found => Some(&ban.step),
             _ => None,
         }
     }
 
-    fn note_ban(&mut self, ban: Ban) {
-        if ban.pairs.is_empty() {
-            self.last = Some((self.bans, ban.step));
+    /// Counts a ban, and keeps one without pairs.
+    fn note_ban(&mut self, record: Record) {
+        let Record::Ban(ban) = &record else {
+            return;
+        };
+        let number = self.bans;
+        self.bans = number.saturating_add(1);
+        let refuses = ban.pairs.is_empty();
+        if refuses {
+            self.last = Some((number, record));
         }
-        self.bans = self.bans.saturating_add(1);
     }
 
     fn note_conclusion(&mut self, conclusion: &Conclusion) {
@@ -142,19 +148,12 @@ impl ConclusionSearch {
 
 impl Search for ConclusionSearch {
     fn next(&mut self, record: Record) -> Wanted {
-        match record {
-            Record::Ban(ban) => {
-                self.note_ban(ban);
-                Wanted::More
-            }
-            Record::Conclusion(conclusion) => {
-                self.note_conclusion(&conclusion);
-                Wanted::Nothing
-            }
-            Record::Header | Record::End => Wanted::More,
-            Record::Fact(_fact) => Wanted::More,
-            Record::Line(_line) => Wanted::More,
+        if let Record::Conclusion(conclusion) = &record {
+            self.note_conclusion(conclusion);
+            return Wanted::Nothing;
         }
+        self.note_ban(record);
+        Wanted::More
     }
 }
 
@@ -163,30 +162,34 @@ impl Search for ConclusionSearch {
 pub(crate) struct BanSearch {
     /// How many bans come before it.
     before: u64,
-    ban: Option<Ban>,
+    /// The ban, once it came.
+    found: Option<Record>,
 }
 
 impl BanSearch {
     pub(crate) fn new(number: u64) -> BanSearch {
         BanSearch {
             before: number,
-            ban: None,
+            found: None,
         }
     }
 
     /// The ban, if it was found.
     pub(crate) fn ban(&self) -> Option<&Ban> {
-        self.ban.as_ref()
+        match &self.found {
+            Some(Record::Ban(ban)) => Some(ban),
+            _ => None,
+        }
     }
 }
 
 impl Search for BanSearch {
     fn next(&mut self, record: Record) -> Wanted {
-        let Record::Ban(ban) = record else {
+        let Record::Ban(_) = &record else {
             return Wanted::More;
         };
         if self.before == 0 {
-            self.ban = Some(ban);
+            self.found = Some(record);
             return Wanted::Nothing;
         }
         self.before -= 1;
@@ -221,10 +224,10 @@ impl ClaimSearch {
 
 impl Search for ClaimSearch {
     fn next(&mut self, record: Record) -> Wanted {
-        let Record::Fact(head) = record else {
+        let Record::Fact(head) = &record else {
             return Wanted::More;
         };
-        let claim = claim_of(&head);
+        let claim = claim_of(head);
         if self.facts == self.numbers.0 {
             self.claims.0 = Some(claim);
         }
