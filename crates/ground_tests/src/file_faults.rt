@@ -127,9 +127,9 @@ fn is_unreadable(shelf: &mut DiskShelf<HostRuntime>, name: &str) -> Result<bool,
 #[test]
 fn tells_why_a_call_failed(rt: HostRuntime) -> Result<(), Fail> {
     let mut shelf = DiskShelf::new(rt);
-    assert!(rt; is_unreadable(&mut shelf, "..")?);
+    assert!(rt; is_unreadable(&mut shelf, ".")?);
     let folder = "Is a directory (os error 21)";
-    assert!(rt; tells(rt.alloc(), &shelf, "..", folder)?);
+    assert!(rt; tells(rt.alloc(), &shelf, ".", folder)?);
     let absent = "shelf_core_absent_folder/file";
     assert!(rt; shelf.create(absent).is_err());
     let nowhere = "No such file or directory (os error 2)";
