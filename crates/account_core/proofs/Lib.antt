@@ -9,3 +9,4 @@ pub mod ImageLemmas
 pub mod StepLemmas
 pub mod OrderedPairs
 pub mod SentOnly
+pub mod PortLemmas

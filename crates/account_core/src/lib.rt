@@ -1,8 +1,9 @@
-//! What an account says, as plain data.
+//! What an account says: facts, bans with their steps, conclusions.
 #![tactic(auto)]
 
 mod conclusion;
 mod fact;
+mod pairable;
 mod ports;
 mod sent;
 mod step;
@@ -10,6 +11,7 @@ pub mod step_laws;
 
 pub use conclusion::Conclusion;
 pub use fact::{Evidence, Fact, FactHead};
+pub use pairable::PairableGraphs;
 pub use ports::{have_as_many, other_side, port_on, ports_in, way};
 pub use sent::values_sent;
 pub use step::{Ban, Step, Tallied};

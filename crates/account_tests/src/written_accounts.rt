@@ -12,7 +12,7 @@ use items::{Few, Items};
 use net_core::{Matching, Side};
 use std::alloc::{AllocError, Global};
 use std::test::Fail;
-use text_out::put_all;
+use text_core::put_all;
 
 /// Input 0 goes to input 1, input 1 to input 0 inverted, and the output to the output inverted.
 fn crossed(alloc: Global) -> Result<Matching, AllocError>

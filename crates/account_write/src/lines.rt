@@ -9,7 +9,7 @@ use account_core::{Ban, Evidence, Fact};
 use account_file::{Record, put_ban, put_fails, put_holds, put_log_line, put_record};
 use cnf_core::{Log, LogLine};
 use std::alloc::AllocError;
-use text_out::Parts;
+use text_core::Parts;
 
 /// The lines of an account that are still to be printed. Its parts are lines: an account need never be whole in memory.
 #[derive(Drop)]

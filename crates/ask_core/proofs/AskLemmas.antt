@@ -26,8 +26,8 @@ use Rattle.query_core.specs.Ledgers.{Ledgered, charging_of, one_if, opened, with
 use Rattle.query_core.proofs.ChargingLemmas.{asked_after, is_opened}
 use Rattle.learn_solver.specs.Solvers.{IsExtended, Solving, wanted}
 use Rattle.learn_solver.specs.Solvers.{IsStopped as IsSolverStopped}
-use Rattle.dense_solver.specs.Renamings.{AreShort}
-use Rattle.dense_solver.specs.Solved.{start_of, with_lines_of}
+use Rattle.ask_core.specs.Renamings.{AreShort}
+use Rattle.ask_core.specs.Solved.{start_of, with_lines_of}
 use Rattle.ask_core.specs.Answers.{IsAskedIn, IsAskedWith, IsStoppedAfter}
 use Rattle.circuits.proofs.Lists.{All-front, All-back}
 

@@ -1,2 +1,7 @@
 pub mod AskLemmas
 pub mod BoundLemmas
+pub mod RenameLemmas
+pub mod LineLemmas
+pub mod BaseLemmas
+pub mod SmallLemmas
+pub mod FullLemmas

@@ -4,3 +4,6 @@ pub use Rattle.claim_core.specs.Formulas
 pub use Rattle.claim_core.specs.ConeClauses
 pub use Rattle.query_core.specs.Ledgers
 pub use Rattle.cnf_core.specs.Derivations
+pub mod Renamings
+pub mod Solved
+pub use Rattle.learn_solver.specs.Solvers

@@ -9,10 +9,10 @@ ghost use Rattle.ask_core.specs.Answers.{Asks, IsAskedWith, IsPaidFor};
 
 use crate::question::Answer;
 use crate::vector::vector_of;
+use bit_list::Marks;
 use cnf_core::{LogLine, Stop};
 use learn_solver::{Finding, QuestionGuide, Solver, solve_guided};
 use net_core::Graphs;
-use number_marks::Marks;
 use query_core::{ConeClauses, Ledger, Query, QueryBase};
 use std::alloc::Global;
 

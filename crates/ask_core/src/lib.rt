@@ -1,9 +1,33 @@
 //! One question about two cones, answered by a vector or by a refutation.
 #![tactic(auto)]
 
+mod base;
+mod charging;
+mod classes;
+mod clauses;
+mod gates;
 mod guided;
+mod guiding;
+mod joint;
+mod lines;
+mod names;
+mod pairs;
+mod places;
 mod question;
+mod small;
+mod solving;
+mod tab;
+mod telling;
 mod vector;
+mod verdict;
 
+pub use base::DenseBase;
+pub use gates::{LitGate, gates_of, inputs_of};
 pub use guided::ask_guided;
+pub use guiding::agenda_of;
+pub use lines::translated;
+pub use pairs::{GatePair, pairs_of};
 pub use question::{Answer, ask, ask_watched};
+pub use solving::solve_dense;
+pub use tab::Tab;
+pub use verdict::DenseVerdict;

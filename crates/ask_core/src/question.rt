@@ -8,8 +8,8 @@ ghost use Rattle.joint_hash.specs.Trees.{AreJoined};
 ghost use Rattle.ask_core.specs.Answers.{Asks, IsAskedIn, IsPaidFor, JoinsTrees};
 
 use crate::vector::vector_of;
+use crate::{DenseVerdict, Tab, solve_dense};
 use cnf_core::{Log, LogLine, Stop};
-use dense_solver::{DenseVerdict, Tab, solve_dense};
 use items::Items;
 use joint_hash::merge;
 use net_core::Graphs;

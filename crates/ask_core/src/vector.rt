@@ -6,9 +6,9 @@ ghost use Rattle.claim_core.specs.Formulas.{formula_of};
 ghost use Rattle.claim_core.specs.ConeClauses.{MeetsCones};
 ghost use Rattle.ask_core.specs.Answers.{IsVector};
 
+use bit_list::Marks;
 use items::Items;
 use net_core::Graphs;
-use number_marks::Marks;
 use query_core::Query;
 use std::alloc::{AllocError, Global};
 

@@ -1,6 +1,22 @@
-//! Bans that are held while a match is sought.
+//! The bans that are held, and those that ports and rows of claims show.
 #![tactic(auto)]
 
+pub mod block;
 mod book;
+pub mod clash;
+pub mod cover;
+mod mismatched;
+mod mismatches;
+pub mod needed;
+mod ports;
+mod row_bans;
+mod tallies;
+mod told;
+pub mod ways;
 
 pub use book::BanBook;
+pub use mismatched::{Carried, Unlike, carry, mismatch_ban, unlike_of};
+pub use ports::{moved_value, one_input, two_inputs};
+pub use row_bans::ban_by_facts;
+pub use tallies::{Lists, tally_ban};
+pub use told::{InputTold, Told};

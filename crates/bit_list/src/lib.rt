@@ -1,6 +1,8 @@
-//! A list of bits, as vectors of circuits are, 64 bits in a word.
+//! Lists of bits, packed, and marks of numbers.
 #![tactic(auto)]
 
 mod bits;
+mod marks;
 
 pub use bits::Bits;
+pub use marks::Marks;

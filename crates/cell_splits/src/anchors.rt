@@ -4,10 +4,9 @@
 use crate::climbing::climbed;
 use crate::lane_counts::LaneCounts;
 use crate::state::State;
-use flip_sim::{Draws, FlipSim, Lanes, bit_of};
 use items::Items;
 use net_core::Side;
-use port_cells::{literal_of, port_at};
+use port_cells::{Draws, FlipSim, Lanes, bit_of, literal_of, port_at};
 use std::alloc::{AllocError, Global};
 use word_sim::mix;
 

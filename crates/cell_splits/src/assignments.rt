@@ -3,9 +3,8 @@
 use crate::exact::is_shared;
 use crate::patterns::Patterns;
 use crate::state::State;
-use flip_sim::{Draws, FlipSim, Lanes, all_lanes};
 use net_core::Side;
-use port_cells::{Cells, Counts, Tally, port_at};
+use port_cells::{Cells, Counts, Draws, FlipSim, Lanes, Tally, all_lanes, port_at};
 use std::alloc::{AllocError, Global};
 
 /// Up to how many free inputs have all values: the 256 lanes of a block hold all of eight.

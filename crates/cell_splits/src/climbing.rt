@@ -1,8 +1,8 @@
 //! Vectors on which many inputs matter, found by mutation and selection.
 
 use crate::lane_counts::LaneCounts;
-use flip_sim::{Draws, FlipSim, Lanes, bit_of, with_bit};
 use items::Items;
+use port_cells::{Draws, FlipSim, Lanes, bit_of, with_bit};
 use std::alloc::{AllocError, Global};
 
 /// The most generations. With half as many adders of 128 bits aren't guessed, and twice as many gain nothing.

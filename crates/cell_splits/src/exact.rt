@@ -2,9 +2,8 @@
 
 use crate::patterns::Patterns;
 use crate::state::State;
-use flip_sim::{FlipSim, Lanes, ones_in};
 use net_core::Side;
-use port_cells::{Cells, cell_at, literal_of, mix_lanes, port_at};
+use port_cells::{Cells, FlipSim, Lanes, cell_at, literal_of, mix_lanes, ones_in, port_at};
 use std::alloc::{AllocError, Global};
 use word_sim::mix;
 

@@ -1,6 +1,6 @@
 //! A number for each of 256 vectors.
 
-use flip_sim::{Lanes, bit_of, ones_in, replicated};
+use port_cells::{Lanes, bit_of, ones_in, replicated};
 use std::alloc::{AllocError, Global};
 use std::cmp::Reverse;
 

@@ -1,8 +1,7 @@
 //! Vectors that are constant on cells of inputs, so that it is known which vectors of the other circuit they correspond to.
 
-use flip_sim::{Draws, FlipSim, Lanes, bit_of, replicated};
 use net_core::Side;
-use port_cells::Cells;
+use port_cells::{Cells, Draws, FlipSim, Lanes, bit_of, replicated};
 use std::alloc::{AllocError, Global};
 
 /// Every other vector of a word.

@@ -1,9 +1,8 @@
 //! Vectors on which gates have values that they hardly ever have, found by walks from the gates down to inputs.
 
-use flip_sim::{Draws, FlipSim, Lanes, ones_in, replicated};
 use items::Items;
 use net_core::Lit;
-use port_cells::port_at;
+use port_cells::{Draws, FlipSim, Lanes, ones_in, port_at, replicated};
 use std::alloc::{AllocError, Global};
 
 /// On how many blocks of 256 drawn vectors gates are looked at first. A fourth of them does as well for 29 pairs.

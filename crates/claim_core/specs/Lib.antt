@@ -11,3 +11,4 @@ pub use Rattle.cnf_core.specs.Clauses
 pub use Rattle.cnf_core.specs.Derivations
 pub use Rattle.net_core.specs.Sides
 pub use Rattle.net_core.specs.Cones
+pub mod Rows

@@ -1,5 +1,4 @@
-//! What is asked of the outputs of two circuits, as plain data: claims and queries, what they mean, and the definitions of a
-//! query's clauses. Their code and the ledger stand in `query_core`.
+//! What is asked of circuits, as plain data.
 #![tactic(auto)]
 
 mod claim_queries;
@@ -7,6 +6,7 @@ mod claims;
 pub mod fact_laws;
 mod feeds;
 mod images;
+mod info;
 pub mod laws;
 mod matches;
 mod query;
@@ -15,5 +15,6 @@ pub use claim_queries::of_claim;
 pub use claims::{Claim, Shape};
 pub use feeds::Feeds;
 pub use images::{image, pair_of};
+pub use info::{OutputInfo, Sym, Unate};
 pub use matches::of_match;
 pub use query::{Cone, Feed, Query};

@@ -8,9 +8,9 @@ use Rattle.circuits.specs.declared.port.Pair.{Pair}
 use Rattle.circuits.specs.declared.port.PortKind.TheVariants.{Input, Output}
 use Rattle.net_core.specs.Sides.{Graphs}
 use Rattle.account_core.specs.Ports.{AreOrdered, IsKnown, StandInOrder}
-use Rattle.claim_rows.specs.Rows.{HasOneOutput}
-use Rattle.claim_rows.proofs.MismatchLemmas.{input_before}
-use Rattle.port_sides.specs.Held.{AddsHeld, AreHeld, IsPart}
+use Rattle.ban_book.specs.Rows.{HasOneOutput}
+use Rattle.ban_book.proofs.MismatchLemmas.{input_before}
+use Rattle.account_core.specs.Held.{AddsHeld, AreHeld, IsPart}
 use Rattle.class_refine.specs.Rows.{AreInputs, AreInputsOf}
 use Rattle.circuits.proofs.Lists.{contains_cons}
 

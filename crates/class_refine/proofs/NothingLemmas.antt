@@ -16,10 +16,10 @@ use Rattle.account_core.specs.Ports.{AreOrdered, IsKnown}
 use Rattle.ban_book.specs.Vectors.{HasOneInput, HaveNoFacts, IsShownBy}
 use Rattle.ban_book.proofs.CarriedLemmas.{IsCarried, carried_by, one_back}
 use Rattle.ban_book.proofs.ShownLemmas.{tally_in}
-use Rattle.claim_rows.specs.Shown.{IsShownBan}
-use Rattle.claim_rows.proofs.MismatchLemmas.{one_image, pair_of-one}
-use Rattle.port_sides.specs.Held.{AreHeld}
-use Rattle.port_covers.proofs.ListLemmas.{among_more}
+use Rattle.ban_book.specs.Shown.{IsShownBan}
+use Rattle.ban_book.proofs.MismatchLemmas.{one_image, pair_of-one}
+use Rattle.account_core.specs.Held.{AreHeld}
+use Rattle.ban_book.proofs.BlockListLemmas.{among_more}
 use Rattle.class_refine.specs.Rows.{AreInputsOf, ShowNothingAt}
 use Rattle.class_refine.proofs.InputLemmas.{inputs_known, kinds_differ, one_input, ordered_with}
 use Rattle.circuits.proofs.Lists.{cons_cases}

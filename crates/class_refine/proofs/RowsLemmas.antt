@@ -12,9 +12,9 @@ use Rattle.account_core.specs.Facts.{AreFacts}
 use Rattle.account_core.specs.Given.{Decided, decided_by}
 use Rattle.account_core.specs.Ports.{ports_in, IsKnown}
 use Rattle.oracle_core.specs.Oracles.{Grows, Known, Suits}
-use Rattle.claim_rows.specs.declared.told.InputTold.{InputTold}
-use Rattle.claim_rows.specs.Rows.{AreRows, IsRow}
-use Rattle.claim_rows.proofs.RowLemmas.{inputs_decided}
+use Rattle.ban_book.specs.declared.told.InputTold.{InputTold}
+use Rattle.ban_book.specs.Rows.{AreRows, IsRow}
+use Rattle.ban_book.proofs.RowLemmas.{inputs_decided}
 use Rattle.fact_bans.specs.Serving.{HasServed}
 use Rattle.fact_bans.proofs.FactLemmas.{row_grows}
 use Rattle.fact_bans.proofs.ServeLemmas.{served_same, served_then}

@@ -19,11 +19,11 @@ use Rattle.pair_domains.specs.declared.entry.Reason.{Reason}
 use Rattle.pair_domains.specs.Trails.{Domained, IsDeleted, IsPairOf, held_in, is_held}
 use Rattle.pair_domains.proofs.EntryLemmas.{one_if}
 use Rattle.pair_domains.proofs.NumberLemmas.{same_pair}
-use Rattle.conflict_core.specs.Named.{deleted}
-use Rattle.port_sides.specs.Held.{AreApart}
-use Rattle.port_covers.specs.Ways.{nth_way}
-use Rattle.port_covers.proofs.ListLemmas.{among_more, contained_of_any}
-use Rattle.port_covers.proofs.OrderLemmas.{held_apart}
+use Rattle.pair_search.specs.Named.{deleted}
+use Rattle.account_core.specs.Held.{AreApart}
+use Rattle.ban_book.specs.Ways.{nth_way}
+use Rattle.ban_book.proofs.BlockListLemmas.{among_more, contained_of_any}
+use Rattle.ban_book.proofs.OrderLemmas.{held_apart}
 use Rattle.pair_search.proofs.PortLemmas.{held_by}
 use Rattle.class_refine.specs.declared.grounds.Grounds.{Grounds}
 use Rattle.class_refine.specs.Refining.{OnlyDeletes, Refines}

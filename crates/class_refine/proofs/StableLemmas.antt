@@ -1,16 +1,16 @@
 -- Where all pairs are settled, and no port is without a way.
 use Rattle.std.proofs.Common.{ℕ, ◌<◌, List, get_or, sym, subst, inl, inr}
 use Rattle.ban_book.specs.Covering.{Covers}
-use Rattle.conflict_core.specs.declared.conflict.Conflict.{Conflict}
-use Rattle.conflict_core.specs.Conflicts.{IsConflict}
-use Rattle.port_covers.proofs.ListLemmas.{among_more}
+use Rattle.pair_search.specs.declared.conflict.Conflict.{Conflict}
+use Rattle.pair_search.specs.Conflicts.{IsConflict}
+use Rattle.ban_book.proofs.BlockListLemmas.{among_more}
 use Rattle.circuits.specs.declared.port.Pair.{Pair}
 use Rattle.circuits.specs.declared.port.PortKind.{PortKind}
 use Rattle.net_core.specs.declared.graphs.Side.{Side}
 use Rattle.account_core.specs.declared.step.Ban.{Ban}
-use Rattle.port_sides.specs.Held.{AreHeld}
+use Rattle.account_core.specs.Held.{AreHeld}
 use Rattle.pair_domains.specs.Trails.{AreDomains, Domained, IsPairOf, held_in, ports_of}
-use Rattle.conflict_core.proofs.PivotLemmas.{held_known}
+use Rattle.pair_search.proofs.PivotLemmas.{held_known}
 use Rattle.class_refine.specs.declared.grounds.Grounds.{Grounds}
 use Rattle.class_refine.specs.Refining.{Refines}
 use Rattle.class_refine.specs.Rows.{decided}

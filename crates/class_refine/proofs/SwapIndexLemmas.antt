@@ -6,7 +6,7 @@ use Rattle.claim_core.specs.declared.claims.Claim.{Claim}
 use Rattle.claim_core.specs.contracts.claims.ClaimPartialEq.TheImpl.{eq-value as claim_eq}
 use Rattle.claim_core.proofs.EqualLemmas.{claim_decides}
 use Rattle.account_core.specs.Given.{Decided, fact_at, given_of}
-use Rattle.claim_rows.specs.Told.{IsToldAs}
+use Rattle.ban_book.specs.Told.{IsToldAs}
 use Rattle.class_refine.specs.Stable.{HasTwoInputs}
 use Rattle.class_refine.specs.Swaps.{IsIndexOfFirst, IsSwapIndex, SaysOf, number_in}
 use borrow.Author.Count.{below_more}

@@ -18,13 +18,13 @@ use Rattle.account_core.specs.Mismatches.{IsImage}
 use Rattle.account_core.specs.Ports.{IsKnown}
 use Rattle.account_core.proofs.Matched.{pair_of-held}
 use Rattle.ban_book.specs.Vectors.{AreDecided}
-use Rattle.claim_rows.specs.Mismatched.{mismatch_of, unlike_of}
-use Rattle.claim_rows.specs.Shown.{IsShownBan}
-use Rattle.claim_rows.specs.Told.{IsToldAs}
-use Rattle.claim_rows.proofs.MismatchLemmas.{inputs_image, some_pair, three_known, three_ordered}
-use Rattle.claim_rows.proofs.MismatchedLemmas.{mismatch_valid}
-use Rattle.port_sides.specs.Held.{AreApart}
-use Rattle.port_covers.proofs.OrderLemmas.{held_apart}
+use Rattle.ban_book.specs.Mismatched.{mismatch_of, unlike_of}
+use Rattle.ban_book.specs.Shown.{IsShownBan}
+use Rattle.ban_book.specs.Told.{IsToldAs}
+use Rattle.ban_book.proofs.MismatchLemmas.{inputs_image, some_pair, three_known, three_ordered}
+use Rattle.ban_book.proofs.MismatchedLemmas.{mismatch_valid}
+use Rattle.account_core.specs.Held.{AreApart}
+use Rattle.ban_book.proofs.OrderLemmas.{held_apart}
 use Rattle.class_refine.specs.declared.swaps.Exchange.{Exchange}
 use Rattle.class_refine.specs.Stable.{HaveNoSwapMismatch}
 use Rattle.class_refine.specs.Swaps.{IsExchange, carried_to}

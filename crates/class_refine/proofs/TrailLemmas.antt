@@ -16,19 +16,19 @@ use Rattle.oracle_core.specs.Oracles.{Grows, Known}
 use Rattle.fact_bans.specs.Serving.{AreValid, HasServed, OnlyAdds}
 use Rattle.fact_bans.proofs.HoldingLemmas.{HasHeld}
 use Rattle.fact_bans.proofs.ServeLemmas.{valid_grows}
-use Rattle.claim_rows.specs.Shown.{IsShownBan}
+use Rattle.ban_book.specs.Shown.{IsShownBan}
 use Rattle.pair_domains.specs.declared.entry.Entry.{Entry}
 use Rattle.pair_domains.specs.declared.entry.Fate.TheVariants.{Deleted}
 use Rattle.pair_domains.specs.declared.entry.Reason.{Reason}
 use Rattle.pair_domains.specs.Trails.{AreDomains, Domained, IsOpen, IsPairOf, held_in, ports_of}
-use Rattle.conflict_core.specs.Grounded.{AreGrounded, IsGrounded, LearnsMore}
-use Rattle.conflict_core.specs.Justified.{IsTrail}
-use Rattle.conflict_core.specs.Named.{AreNamed, deleted}
-use Rattle.conflict_core.proofs.GroundedLemmas.{grounded_later, grounded_push}
-use Rattle.conflict_core.proofs.JustifiedLemmas.{held_append, justified_later}
+use Rattle.pair_search.specs.Grounded.{AreGrounded, IsGrounded, LearnsMore}
+use Rattle.pair_search.specs.Justified.{IsTrail}
+use Rattle.pair_search.specs.Named.{AreNamed, deleted}
+use Rattle.pair_search.proofs.GroundedLemmas.{grounded_later, grounded_push}
+use Rattle.pair_search.proofs.JustifiedLemmas.{held_append, justified_later}
 use Rattle.pair_search.proofs.StepLemmas.{HasOneMore, justified_one, less_one, one_more_of, trail_on}
 use Rattle.class_refine.specs.Refining.{AddsShown, IsShownTrail, OnlyDeletes, Refines}
-pub use Rattle.conflict_core.proofs.ConflictLemmas.{known_of}
+pub use Rattle.pair_search.proofs.ConflictLemmas.{known_of}
 
 -- bans that come change nothing of what follows
 trail_after : (graphs : Graphs) (before added after : List Ban) (d : Domained) → after ≡ before ++ added → IsTrail graphs before d → IsTrail graphs after d

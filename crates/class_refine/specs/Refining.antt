@@ -7,8 +7,8 @@ use Rattle.account_core.specs.Steps.{AreValidBans}
 use Rattle.ban_book.specs.Vectors.{AddsNoVector}
 use Rattle.pair_domains.specs.declared.entry.Entry.{Entry}
 use Rattle.pair_domains.specs.Trails.{Domained, held_in}
-use Rattle.conflict_core.specs.Grounded.{AreGrounded}
-use Rattle.conflict_core.specs.Justified.{IsTrail}
+use Rattle.pair_search.specs.Grounded.{AreGrounded}
+use Rattle.pair_search.specs.Justified.{IsTrail}
 use Rattle.oracle_core.specs.Oracles.{Known}
 use Rattle.pair_search.specs.Progress.{left}
 

@@ -10,9 +10,9 @@ use Rattle.account_core.specs.Facts.{AreFacts}
 use Rattle.account_core.specs.Given.{Decided, decided_by}
 use Rattle.account_core.specs.Ports.{AreOrdered, IsKnown}
 use Rattle.ban_book.specs.Vectors.{HaveNoFacts}
-use Rattle.claim_rows.specs.declared.told.InputTold.{InputTold}
-use Rattle.claim_rows.specs.Rows.{IsRow}
-use Rattle.port_sides.specs.Held.{IsPart}
+use Rattle.ban_book.specs.declared.told.InputTold.{InputTold}
+use Rattle.ban_book.specs.Rows.{IsRow}
+use Rattle.account_core.specs.Held.{IsPart}
 use Rattle.class_refine.specs.declared.grounds.Grounds.{Grounds}
 use Rattle.class_refine.specs.declared.rows.Rows.{Rows}
 use Rattle.class_refine.specs.Swaps.{IsSwapIndex}

@@ -4,12 +4,12 @@ use Rattle.circuits.specs.declared.port.Pair.{Pair}
 use Rattle.account_core.specs.Covers.{IsImpossible}
 use Rattle.account_core.specs.declared.step.Ban.{Ban}
 use Rattle.ban_book.specs.Covering.{Covers}
-use Rattle.claim_rows.specs.Shown.{IsShownBan}
+use Rattle.ban_book.specs.Shown.{IsShownBan}
 use Rattle.pair_domains.specs.declared.entry.Fate.TheVariants.{Deleted}
 use Rattle.pair_domains.specs.Trails.{Domained, IsDeleted, held_in}
-use Rattle.conflict_core.specs.Grounded.{IsGrounded}
-use Rattle.conflict_core.specs.Justified.{IsTrail}
-use Rattle.conflict_core.specs.Named.{AreNamed}
+use Rattle.pair_search.specs.Grounded.{IsGrounded}
+use Rattle.pair_search.specs.Justified.{IsTrail}
+use Rattle.pair_search.specs.Named.{AreNamed}
 use Rattle.class_refine.specs.declared.grounds.Grounds.{Grounds}
 use Rattle.class_refine.specs.declared.settling.Exclusion.{Exclusion}
 use Rattle.class_refine.specs.declared.settling.Exclusion.TheVariants as exclusion

@@ -14,7 +14,7 @@ use Rattle.account_core.specs.declared.step.Ban.{Ban}
 use Rattle.account_core.specs.declared.step.Step.TheVariants as step
 use Rattle.ban_book.specs.Covering.{Covers, IsWithin}
 use Rattle.ban_book.specs.Vectors.{AreInputsDecided, HaveNoFacts, IsShownBy}
-use Rattle.port_sides.specs.Held.{IsOf}
+use Rattle.account_core.specs.Held.{IsOf}
 use Rattle.pair_domains.specs.Trails.{Domained, IsDeleted, IsPairOf, held_in, ports_of}
 use Rattle.class_refine.specs.declared.refined.Refined.{Refined}
 use Rattle.class_refine.specs.declared.refined.Refined.TheVariants as refined

@@ -2,7 +2,7 @@
 
 ghost use Rattle.std.specs.Prelude.{◌≡◌, IfNone, IfOk, IfSome};
 ghost use Rattle.ban_book.specs.Covering.{Covers};
-ghost use Rattle.port_sides.specs.Held.{AreHeld};
+ghost use Rattle.account_core.specs.Held.{AreHeld};
 ghost use Rattle.class_refine.specs.Rows.{AreGrounds, AreInputsOf, ShowNothingAt, decided};
 ghost use Rattle.class_refine.specs.Refining.{AddsShown};
 ghost use Rattle.class_refine.specs.Stable.{HaveNoBan, HaveNoSwapMismatch};

@@ -1,9 +1,8 @@
 //! What pairs are settled by.
 
 use crate::rows::Rows;
-use account_core::Fact;
+use account_core::{Fact, PairableGraphs};
 use circuits::Pair;
-use port_sides::PairableGraphs;
 
 /// What pairs are settled by: two circuits, facts of them, what these tell of all outputs, and which inputs have a held pair.
 #[derive(Clone, Copy)]

@@ -2,11 +2,11 @@
 
 ghost use Rattle.std.specs.Prelude.{◌≡◌, All, AllPairs, Contains, IfOk, OnOk};
 ghost use Rattle.circuits.specs.declared.port.PortKind.TheVariants.{Input as InputKind};
-ghost use Rattle.port_sides.specs.Held.{AddsHeld, AreApart, IsPart};
+ghost use Rattle.account_core.specs.Held.{AddsHeld, AreApart, IsPart};
 ghost use Rattle.class_refine.specs.Rows.{AreInputsOf};
 
+use ban_book::cover::add_one;
 use circuits::{Pair, PortKind};
-use port_covers::cover::add_one;
 use std::alloc::{AllocError, Global};
 
 /// The held pairs of inputs, in the order that bans have.

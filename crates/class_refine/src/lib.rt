@@ -14,7 +14,7 @@ mod shown;
 mod swap_index;
 mod swaps;
 
-pub use conflict_core::{Deletion, Mismatches, deletion_of};
 pub use pair_domains::{Cause, Domains, Entry, Fate, Reason};
+pub use pair_search::{Deletion, Mismatches, deletion_of};
 pub use refined::Refined;
 pub use refining::refine;

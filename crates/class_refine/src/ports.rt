@@ -5,19 +5,18 @@ ghost use Rattle.net_core.specs.declared.graphs.Side.{Side as AnySide};
 ghost use Rattle.circuits.specs.declared.port.PortKind.{PortKind as AnyKind};
 ghost use Rattle.ban_book.specs.Covering.{Covers};
 ghost use Rattle.pair_domains.specs.Trails.{held_in, ports_of};
-ghost use Rattle.conflict_core.specs.Grounded.{LearnsMore};
-ghost use Rattle.conflict_core.specs.Justified.{IsTrail};
-ghost use Rattle.conflict_core.specs.Named.{IsPortOf};
+ghost use Rattle.pair_search.specs.Grounded.{LearnsMore};
+ghost use Rattle.pair_search.specs.Justified.{IsTrail};
+ghost use Rattle.pair_search.specs.Named.{IsPortOf};
 ghost use Rattle.pair_search.specs.Impasses.{HasNoWay};
 ghost use Rattle.class_refine.specs.Stable.{HasLeft};
 
+use account_core::PairableGraphs;
 use ban_book::BanBook;
 use circuits::PortKind;
-use conflict_core::{Mismatches, Port};
 use net_core::Side;
 use pair_domains::Domains;
-use pair_search::{Impasse, conflict_of, way_of};
-use port_sides::PairableGraphs;
+use pair_search::{Impasse, Mismatches, Port, conflict_of, way_of};
 use std::alloc::{AllocError, Global};
 
 /// Holds the ban that says that a port has no way left beside the held pairs, if there is such a port, and answers its number.

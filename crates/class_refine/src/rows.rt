@@ -8,14 +8,14 @@ ghost use Rattle.fact_bans.specs.Serving.{MayAsk};
 ghost use Rattle.class_refine.specs.Rows.{AreAllRows, AreRowsOf};
 
 use crate::swap_index::swaps_of;
-use claim_rows::InputTold;
+use account_core::PairableGraphs;
+use ban_book::InputTold;
 use cnf_core::Stop;
 use fact_bans::{Seen, claims_of};
 use indexmap::IndexMap;
 use items::Items;
 use net_core::Side;
 use oracle_core::Oracle;
-use port_sides::PairableGraphs;
 use query_core::{Claim, Ledger};
 use std::alloc::Global;
 

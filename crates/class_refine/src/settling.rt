@@ -2,11 +2,11 @@
 
 ghost use Rattle.std.specs.Prelude.{◌≡◌, ◌<◌, ◌∷◌, IfNone, IfOk, IfSome};
 ghost use Rattle.ban_book.specs.Covering.{Covers};
-ghost use Rattle.claim_rows.specs.Shown.{IsShownBan};
+ghost use Rattle.ban_book.specs.Shown.{IsShownBan};
 ghost use Rattle.pair_domains.specs.declared.entry.Fate.TheVariants.{Deleted};
 ghost use Rattle.pair_domains.specs.Trails.{IsOpen, IsPairOf, held_in, ports_of};
-ghost use Rattle.conflict_core.specs.Grounded.{IsGrounded};
-ghost use Rattle.conflict_core.specs.Named.{AreNamed};
+ghost use Rattle.pair_search.specs.Grounded.{IsGrounded};
+ghost use Rattle.pair_search.specs.Named.{AreNamed};
 ghost use Rattle.class_refine.specs.Rows.{decided};
 ghost use Rattle.class_refine.specs.Settling.{Excludes, IsClear, MaySettle, Settles};
 ghost use Rattle.class_refine.specs.Stable.{HaveNoBan};
@@ -16,12 +16,11 @@ use crate::shown::way_ban;
 use crate::swaps::swap_ban;
 use account_core::Ban;
 use ban_book::BanBook;
+use ban_book::clash::clashing;
 use circuits::{Pair, PortKind};
-use conflict_core::Port;
 use net_core::Side;
 use pair_domains::{Domains, Reason};
-use pair_search::way_of;
-use port_covers::clash::clashing;
+use pair_search::{Port, way_of};
 use std::alloc::{AllocError, Global};
 
 /// What excludes a pair beside the held ones.

@@ -4,15 +4,15 @@ ghost use Rattle.std.specs.Prelude.{◌≡◌, [], ◌∷◌, ◌++◌, All, IfN
 ghost use Rattle.circuits.specs.declared.port.PortKind.TheVariants as AnyKind;
 ghost use Rattle.account_core.specs.Ports.{IsKnown};
 ghost use Rattle.ban_book.specs.Vectors.{HaveNoFacts};
-ghost use Rattle.claim_rows.specs.Shown.{IsShownBan};
-ghost use Rattle.port_sides.specs.Held.{AreHeld};
+ghost use Rattle.ban_book.specs.Shown.{IsShownBan};
+ghost use Rattle.account_core.specs.Held.{AreHeld};
 ghost use Rattle.class_refine.specs.Rows.{AreGrounds, AreInputs, AreInputsOf, ShowNothingAt, decided};
 
 use crate::grounds::Grounds;
 use crate::rows::row_at;
 use account_core::Ban;
+use ban_book::ban_by_facts;
 use circuits::{Pair, PortKind};
-use claim_rows::ban_by_facts;
 use std::alloc::{AllocError, Global};
 
 /// The ban that decided claims show of a way beside the held pairs, of which they show none: of an input's with each held

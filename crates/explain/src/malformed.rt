@@ -9,8 +9,8 @@ use crate::places::{line_around, place_of};
 use crate::remedies::Remedy;
 use net_file::{NetFault, NetKind};
 use refusal_words::Shown;
+use run_steps::{File, ReadStop, read_file};
 use shelf_core::Shelf;
-use shelf_files::{File, ReadStop, read_file};
 use std::alloc::Global;
 
 /// The most bytes of a netlist that is read.

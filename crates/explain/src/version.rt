@@ -4,4 +4,4 @@
 pub(crate) const VERSION: &str = "0.4.0";
 
 /// The kit that it is proved with, as `rt version` prints it.
-pub(crate) const KIT: &str = "rattle-kit-13b logic dac8208d650f15bf";
+pub(crate) const KIT: &str = "rattle-kit-13f logic dac8208d650f15bf";

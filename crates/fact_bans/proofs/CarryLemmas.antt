@@ -6,8 +6,8 @@ use Rattle.net_core.specs.Sides.{Graphs}
 use Rattle.net_core.specs.declared.graphs.Side.TheVariants.{First, Second}
 use Rattle.claim_core.specs.declared.claims.Shape.TheVariants.{Swap}
 use Rattle.claim_core.specs.Images.{moved_value, one_input, two_inputs}
-use Rattle.claim_rows.specs.declared.mismatched.Carried.{Carried}
-use Rattle.claim_rows.proofs.MismatchLemmas.{first_placed, input_before, input_from, input_image, input_to, inputs_image, is_image, one_placed, second_placed, three_known, three_ordered, two_known, two_ordered, two_placed}
+use Rattle.ban_book.specs.declared.mismatched.Carried.{Carried}
+use Rattle.ban_book.proofs.MismatchLemmas.{first_placed, input_before, input_from, input_image, input_to, inputs_image, is_image, one_placed, second_placed, three_known, three_ordered, two_known, two_ordered, two_placed}
 use Rattle.fact_bans.specs.declared.exchanges.SwapPairs.{SwapPairs}
 use Rattle.fact_bans.specs.Carrying.{AreSwapPairs, Carry, IsPairOf, all_of}
 

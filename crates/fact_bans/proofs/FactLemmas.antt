@@ -12,12 +12,12 @@ use Rattle.query_core.specs.Ledgers.{Ledgered}
 use Rattle.oracle_core.specs.Oracles.{Grows, Known, Suits}
 use Rattle.account_core.specs.Facts.{AreFacts}
 use Rattle.std.proofs.lemmas.Result.{IfOk-weaker}
-use Rattle.claim_rows.specs.declared.told.InputTold.{InputTold}
-use Rattle.claim_rows.specs.Rows.{IsRow, IsTold}
-use Rattle.claim_rows.specs.Told.{AddsFact, IsToldAs}
-use Rattle.claim_rows.specs.Listed.{ListsOf}
-use Rattle.claim_rows.proofs.ListedLemmas.{lists_both, lists_none, lists_one, lists_stay, told_stays}
-use Rattle.claim_rows.proofs.RowLemmas.{row_none, row_push, row_stays}
+use Rattle.ban_book.specs.declared.told.InputTold.{InputTold}
+use Rattle.ban_book.specs.Rows.{IsRow, IsTold}
+use Rattle.ban_book.specs.Told.{AddsFact, IsToldAs}
+use Rattle.ban_book.specs.Listed.{ListsOf}
+use Rattle.ban_book.proofs.ListedLemmas.{lists_both, lists_none, lists_one, lists_stay, told_stays}
+use Rattle.ban_book.proofs.RowLemmas.{row_none, row_push, row_stays}
 use Rattle.fact_bans.specs.declared.lists.Wanted.{Wanted}
 use Rattle.fact_bans.specs.Serving.{HasServed}
 use Rattle.fact_bans.specs.Wanted.{ListsWanted, shaped_by}

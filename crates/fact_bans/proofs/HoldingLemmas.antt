@@ -15,9 +15,9 @@ use Rattle.oracle_core.specs.Oracles.{Known, Serves}
 use Rattle.ban_book.specs.Vectors.{AreLastResorts, IsLastResort, IsVector}
 use Rattle.ban_book.proofs.BookLemmas.{valid_push}
 use Rattle.ban_book.proofs.VectorLemmas.{last_resorts_push_other}
-use Rattle.port_covers.specs.Ways.{HoldsMore}
-use Rattle.claim_rows.specs.declared.tallies.Lists.{Lists}
-use Rattle.claim_rows.specs.Listed.{tally_of}
+use Rattle.ban_book.specs.Ways.{HoldsMore}
+use Rattle.ban_book.specs.declared.tallies.Lists.{Lists}
+use Rattle.ban_book.specs.Listed.{tally_of}
 use Rattle.fact_bans.specs.Serving.{AreValid, HasServed, HoldsBans, MayHold, OnlyAdds}
 use Rattle.fact_bans.proofs.ServeLemmas.{served_one, served_same, served_then, serves_err, serves_ok, serves_last, serves_memory, valid_grows}
 

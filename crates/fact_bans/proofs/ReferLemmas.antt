@@ -13,8 +13,8 @@ use Rattle.account_core.specs.Covers.{ways, IsReference}
 use Rattle.account_core.specs.Given.{Decided, given_of}
 use Rattle.account_core.specs.Ports.{AreOrdered, IsKnown}
 use Rattle.oracle_core.specs.Oracles.{Known}
-use Rattle.port_covers.specs.Ways.{AreClosed, IsClosed}
-use Rattle.port_covers.proofs.BlockLemmas.{each_in}
+use Rattle.ban_book.specs.Ways.{AreClosed, IsClosed}
+use Rattle.ban_book.proofs.BlockLemmas.{each_in}
 use Rattle.fact_bans.specs.Carrying.{IsPairOf}
 use Rattle.fact_bans.specs.Referred.{AreReferred, IsReferred}
 use Rattle.fact_bans.specs.Serving.{MayHold, OnlyAdds}

@@ -7,7 +7,7 @@ use Rattle.net_core.specs.Sides.{Graphs}
 use Rattle.claim_core.specs.Claims.{IsClaim}
 use Rattle.account_core.specs.Mismatches.{IsImage}
 use Rattle.account_core.specs.Ports.{AreOrdered, IsKnown}
-use Rattle.claim_rows.specs.declared.mismatched.Carried.{Carried}
+use Rattle.ban_book.specs.declared.mismatched.Carried.{Carried}
 use Rattle.fact_bans.specs.declared.exchanges.SwapPairs.{SwapPairs}
 
 -- A pair of ports of this kind, which exist.

@@ -8,6 +8,6 @@ pub use Rattle.account_core.specs.Facts
 pub use Rattle.oracle_core.specs.Oracles
 pub use Rattle.ban_book.specs.Covering
 pub use Rattle.ban_book.specs.Vectors
-pub use Rattle.claim_rows.specs.Listed
-pub use Rattle.claim_rows.specs.Mismatched
-pub use Rattle.claim_rows.specs.Told
+pub use Rattle.ban_book.specs.Listed
+pub use Rattle.ban_book.specs.Mismatched
+pub use Rattle.ban_book.specs.Told

@@ -7,7 +7,7 @@ use Rattle.account_core.specs.Facts.{AreFacts}
 use Rattle.account_core.specs.Given.{decided_by}
 use Rattle.account_core.specs.Tallies.{AreBothOfEach, AreOfEach}
 use Rattle.oracle_core.specs.Oracles.{Known, Suits}
-use Rattle.claim_rows.specs.Listed.{ListsOf}
+use Rattle.ban_book.specs.Listed.{ListsOf}
 use Rattle.fact_bans.specs.declared.lists.Wanted.{Wanted}
 
 -- shapes of both claims of each input, or of one

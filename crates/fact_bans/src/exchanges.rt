@@ -10,13 +10,12 @@ ghost use Rattle.fact_bans.specs.Serving.{HoldsBans, MayHold};
 
 use crate::mismatched::hold_by;
 use crate::seen::Seen;
-use ban_book::BanBook;
+use account_core::PairableGraphs;
+use ban_book::{BanBook, Carried, moved_value, two_inputs};
 use circuits::Pair;
-use claim_rows::{Carried, moved_value, two_inputs};
 use cnf_core::Stop;
 use net_core::Side;
 use oracle_core::Oracle;
-use port_sides::PairableGraphs;
 use query_core::{Claim, Ledger, Shape};
 use std::alloc::Global;
 

@@ -15,7 +15,7 @@ mod swaps;
 mod tallies;
 mod told;
 
-pub use claim_rows::Unlike;
+pub use ban_book::Unlike;
 pub use exchanges::{SwapPairs, swap_mismatch};
 pub use mismatches::{mismatch, tell_apart};
 pub use refusal::refuse;

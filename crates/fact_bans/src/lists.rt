@@ -9,7 +9,7 @@ ghost use Rattle.fact_bans.specs.Wanted.{ListsWanted, MayList};
 
 use crate::seen::Seen;
 use crate::told::add_fact;
-use claim_rows::one_input;
+use ban_book::one_input;
 use cnf_core::Stop;
 use items::Items;
 use net_core::Side;

@@ -5,18 +5,17 @@ ghost use Rattle.account_core.specs.Facts.{AreFacts};
 ghost use Rattle.account_core.specs.Given.{decided_by};
 ghost use Rattle.ban_book.specs.Covering.{Covers};
 ghost use Rattle.oracle_core.specs.Oracles.{Serves, Suits};
-ghost use Rattle.claim_rows.specs.Mismatched.{IsBanBy, mismatch_of};
+ghost use Rattle.ban_book.specs.Mismatched.{IsBanBy, mismatch_of};
 ghost use Rattle.fact_bans.specs.Carrying.{Carry};
 ghost use Rattle.fact_bans.specs.Serving.{HoldsBans, MayHold};
 
 use crate::seen::Seen;
 use crate::told::decide;
-use ban_book::BanBook;
+use account_core::PairableGraphs;
+use ban_book::{BanBook, Carried, Unlike, mismatch_ban, unlike_of};
 use circuits::Pair;
-use claim_rows::{Carried, Unlike, mismatch_ban, unlike_of};
 use cnf_core::Stop;
 use oracle_core::Oracle;
-use port_sides::PairableGraphs;
 use query_core::Ledger;
 use std::alloc::Global;
 

@@ -5,19 +5,18 @@ ghost use Rattle.circuits.specs.declared.port.PortKind.TheVariants.{Input, Outpu
 ghost use Rattle.account_core.specs.Given.{decided_by};
 ghost use Rattle.ban_book.specs.Covering.{Covers};
 ghost use Rattle.oracle_core.specs.Oracles.{Serves};
-ghost use Rattle.claim_rows.specs.Mismatched.{IsBanBy, mismatch_of};
+ghost use Rattle.ban_book.specs.Mismatched.{IsBanBy, mismatch_of};
 ghost use Rattle.fact_bans.specs.Carrying.{IsPairOf};
 ghost use Rattle.fact_bans.specs.Serving.{HoldsBans, MayAsk, MayHold};
 
 use crate::mismatched::{hold_by, unlike_by};
 use crate::seen::Seen;
-use ban_book::BanBook;
+use account_core::PairableGraphs;
+use ban_book::{BanBook, Unlike, carry, moved_value};
 use circuits::Pair;
-use claim_rows::{Unlike, carry, moved_value};
 use cnf_core::Stop;
 use net_core::Side;
 use oracle_core::Oracle;
-use port_sides::PairableGraphs;
 use query_core::Ledger;
 use std::alloc::Global;
 

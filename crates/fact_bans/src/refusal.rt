@@ -8,19 +8,19 @@ ghost use Rattle.ban_book.specs.Covering.{Covers};
 ghost use Rattle.fact_bans.specs.Carrying.{IsPairOf};
 ghost use Rattle.fact_bans.specs.Referred.{AreReferred};
 ghost use Rattle.fact_bans.specs.Serving.{HoldsBans, MayHold};
-ghost use Rattle.port_covers.specs.Ways.{IsBlock, ways_in};
+ghost use Rattle.ban_book.specs.Ways.{IsBlock, ways_in};
 
 use crate::classes::Classes;
 use crate::seen::Seen;
 use crate::tallies::tally;
+use account_core::PairableGraphs;
 use ban_book::BanBook;
+use ban_book::block::{Block, marked, ways_in};
+use ban_book::cover::hold_cover;
 use circuits::{Pair, PortKind};
 use cnf_core::Stop;
 use items::Items;
 use oracle_core::Oracle;
-use port_covers::block::{Block, marked, ways_in};
-use port_covers::cover::hold_cover;
-use port_sides::PairableGraphs;
 use query_core::Ledger;
 use std::alloc::{AllocError, Global};
 

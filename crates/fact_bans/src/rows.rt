@@ -4,17 +4,17 @@ ghost use Rattle.std.specs.Prelude.{◌≡◌, ◌<◌, IfOk, length, map};
 ghost use Rattle.net_core.specs.Sides.{graph_of};
 ghost use Rattle.account_core.specs.Given.{decided_by};
 ghost use Rattle.oracle_core.specs.Oracles.{Serves, Suits};
-ghost use Rattle.claim_rows.specs.Rows.{IsRow, IsTold};
+ghost use Rattle.ban_book.specs.Rows.{IsRow, IsTold};
 ghost use Rattle.fact_bans.specs.Serving.{MayAsk};
 
 use crate::seen::Seen;
 use crate::told::decide;
-use claim_rows::InputTold;
+use account_core::PairableGraphs;
+use ban_book::InputTold;
 use cnf_core::Stop;
 use items::Items;
 use net_core::Side;
 use oracle_core::Oracle;
-use port_sides::PairableGraphs;
 use query_core::{Claim, Ledger, Shape};
 use std::alloc::Global;
 

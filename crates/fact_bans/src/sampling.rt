@@ -1,9 +1,8 @@
 //! Claims of one input that vectors break.
 
 use account_core::Tallied;
-use flip_sim::{Draws, FlipSim, Lanes, all_lanes, blocks_of_all};
 use net_core::Graph;
-use port_cells::{Counts, Influence, Tally};
+use port_cells::{Counts, Draws, FlipSim, Influence, Lanes, Tally, all_lanes, blocks_of_all};
 use std::alloc::{AllocError, Global};
 
 /// How many words of gates may be computed of a circuit: about a tenth of a second. On half and on twice as many five near misses

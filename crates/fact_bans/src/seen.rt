@@ -2,9 +2,8 @@
 
 use crate::sampling::{Flips, sampled};
 use crate::swaps::{Swaps, blocks_for_swaps, swaps_seen};
-use account_core::Tallied;
+use account_core::{PairableGraphs, Tallied};
 use net_core::Side;
-use port_sides::PairableGraphs;
 use query_core::{Claim, Shape};
 use std::alloc::{AllocError, Global};
 

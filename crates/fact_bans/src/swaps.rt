@@ -1,8 +1,8 @@
 //! Claims of two inputs that vectors break.
 
 use crate::sampling::put_block;
-use flip_sim::{Draws, FlipSim, Lanes, blocks_of_all, ones_in};
 use net_core::Graph;
+use port_cells::{Draws, FlipSim, Lanes, blocks_of_all, ones_in};
 use query_core::Shape;
 use std::alloc::{AllocError, Global};
 

@@ -6,21 +6,19 @@ ghost use Rattle.account_core.specs.Given.{decided_by};
 ghost use Rattle.account_core.specs.Tallies.{port_on};
 ghost use Rattle.ban_book.specs.Covering.{Covers};
 ghost use Rattle.oracle_core.specs.Oracles.{Serves};
-ghost use Rattle.claim_rows.specs.Listed.{AreLists};
+ghost use Rattle.ban_book.specs.Listed.{AreLists};
 ghost use Rattle.fact_bans.specs.Carrying.{IsPairOf};
 ghost use Rattle.fact_bans.specs.Serving.{HoldsBans, MayAsk, MayHold};
 
 use crate::lists::{Wanted, list};
 use crate::plan::Plan;
 use crate::seen::Seen;
-use account_core::{other_side, port_on};
-use ban_book::BanBook;
+use account_core::{PairableGraphs, other_side, port_on};
+use ban_book::{BanBook, Lists, tally_ban};
 use circuits::Pair;
-use claim_rows::{Lists, tally_ban};
 use cnf_core::Stop;
 use net_core::Side;
 use oracle_core::Oracle;
-use port_sides::PairableGraphs;
 use query_core::Ledger;
 use std::alloc::Global;
 

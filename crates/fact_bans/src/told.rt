@@ -4,11 +4,11 @@ ghost use Rattle.std.specs.Prelude.{◌≡◌, ◌++◌, ◌∷◌, [], IfOk, If
 ghost use Rattle.claim_core.specs.Claims.{IsClaim};
 ghost use Rattle.account_core.specs.Given.{decided_by};
 ghost use Rattle.oracle_core.specs.Oracles.{IsNumberOf, Serves, Suits};
-ghost use Rattle.claim_rows.specs.Told.{AddsFact, IsToldAs};
+ghost use Rattle.ban_book.specs.Told.{AddsFact, IsToldAs};
 
 use crate::seen::Seen;
 use account_core::Fact;
-use claim_rows::Told;
+use ban_book::Told;
 use cnf_core::Stop;
 use items::Items;
 use oracle_core::Oracle;

@@ -6,11 +6,11 @@ use Rattle.std.proofs.lemmas.List.{length-set, set_comm}
 use Rattle.std.specs.Bool.{Decides}
 use Rattle.circuits.specs.Literals.{bit, differ}
 use Rattle.claim_core.specs.Claims.{NoFall, with_input}
-use Rattle.output_info.specs.declared.info.Unate.{Unate}
-use Rattle.output_info.specs.declared.info.Unate.TheVariants.{Positive, Negative, Binate}
+use Rattle.claim_core.specs.declared.info.Unate.{Unate}
+use Rattle.claim_core.specs.declared.info.Unate.TheVariants.{Positive, Negative, Binate}
 use Rattle.claim_core.specs.Facts.{cofactor}
 use Rattle.fact_tests.specs.Outputs.{IsAlike, may_be_alike}
-use Rattle.output_info.specs.Rows.{IsEntry, IsUnate}
+use Rattle.claim_core.specs.Rows.{IsEntry, IsUnate}
 use Rattle.claim_core.proofs.ClaimLaws.{set-here}
 use Rattle.fact_tests.proofs.OneRow.{one_unate}
 

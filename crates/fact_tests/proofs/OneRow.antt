@@ -3,13 +3,13 @@ use Rattle.std.proofs.Common.{◌≡◌, ◌⊎◌, ℕ, zero, suc, ◌<◌, Boo
 use Rattle.std.proofs.lemmas.List.{get_or_default}
 use Rattle.circuits.specs.Literals.{bit}
 use Rattle.claim_core.specs.Claims.{with_input}
-use Rattle.output_info.specs.declared.info.OutputInfo.{OutputInfo}
-use Rattle.output_info.specs.declared.info.Unate.{Unate}
-use Rattle.output_info.specs.declared.info.Unate.TheVariants.{Positive, Negative, Binate}
-use Rattle.output_info.specs.declared.info.Sym.{Sym}
-use Rattle.output_info.specs.declared.info.Sym.TheVariants.{Symmetric, Skew, Both}
+use Rattle.claim_core.specs.declared.info.OutputInfo.{OutputInfo}
+use Rattle.claim_core.specs.declared.info.Unate.{Unate}
+use Rattle.claim_core.specs.declared.info.Unate.TheVariants.{Positive, Negative, Binate}
+use Rattle.claim_core.specs.declared.info.Sym.{Sym}
+use Rattle.claim_core.specs.declared.info.Sym.TheVariants.{Symmetric, Skew, Both}
 use Rattle.claim_core.specs.Facts.{InSupport, IsPositive, IsNegative, IsSymmetric, IsSkew}
-use Rattle.output_info.specs.Rows.{IsUnate, IsSym, IsEntry, ListsSupport, IsPair, IsBefore, ListsPairs, IsRow}
+use Rattle.claim_core.specs.Rows.{IsUnate, IsSym, IsEntry, ListsSupport, IsPair, IsBefore, ListsPairs, IsRow}
 use Rattle.claim_core.proofs.ClaimLaws.{no_fall_both, set-here}
 
 -- lists that ascend and have the same elements

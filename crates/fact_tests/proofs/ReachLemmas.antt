@@ -11,7 +11,7 @@ use Rattle.net_core.specs.Cones.{output_signal}
 use Rattle.claim_core.specs.Claims.{output_bit, with_input}
 use Rattle.claim_core.specs.Formulas.{reaching}
 use Rattle.claim_core.specs.Facts.{InSupport}
-use Rattle.net_supports.specs.Supports.{only_input, output_reaches}
+use Rattle.sim_signature.specs.Supports.{only_input, output_reaches}
 use Rattle.fact_tests.proofs.StructureLemmas.{length-only_input, only_at, operand_marked}
 use Rattle.claim_core.proofs.AssignmentLemmas.{gate_agrees}
 

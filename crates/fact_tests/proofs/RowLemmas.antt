@@ -10,12 +10,12 @@ use Rattle.circuits.specs.Functions.{Computes}
 use Rattle.circuits.specs.Literals.{EachAt, bit}
 use Rattle.circuits.specs.Netlists.{Net}
 use Rattle.claim_core.specs.Claims.{output_bit}
-use Rattle.output_info.specs.declared.info.OutputInfo.{OutputInfo}
-use Rattle.output_info.specs.declared.info.Unate.{Unate}
-use Rattle.output_info.specs.declared.info.Unate.TheVariants.{Positive}
-use Rattle.output_info.specs.declared.info.Sym.{Sym}
+use Rattle.claim_core.specs.declared.info.OutputInfo.{OutputInfo}
+use Rattle.claim_core.specs.declared.info.Unate.{Unate}
+use Rattle.claim_core.specs.declared.info.Unate.TheVariants.{Positive}
+use Rattle.claim_core.specs.declared.info.Sym.{Sym}
 use Rattle.claim_core.specs.Facts.{InSupport, IsSymmetric, IsSkew}
-use Rattle.output_info.specs.Rows.{IsEntry, ListsSupport, IsPair, IsBefore, ListsPairs, IsRow, AreRows, AreRowsOf}
+use Rattle.claim_core.specs.Rows.{IsEntry, ListsSupport, IsPair, IsBefore, ListsPairs, IsRow, AreRows, AreRowsOf}
 use Rattle.fact_tests.specs.Outputs.{IsDependence, IsSymmetry, entry_of, pair_of}
 
 -- what is among the first entries is among more

@@ -36,7 +36,7 @@ use Rattle.claim_core.proofs.EqualLemmas.{bool_decides}
 use Rattle.query_core.proofs.ReachingLemmas.{differ_at}
 use Rattle.net_core.proofs.ConeLemmas.{within_bit}
 use Rattle.claim_core.proofs.FormulaLemmas.{count_of, first_output, second_output, gate_clause_count, length-feeds_differ}
-use Rattle.net_supports.specs.Supports.{only_input, output_reaches}
+use Rattle.sim_signature.specs.Supports.{only_input, output_reaches}
 use Rattle.fact_tests.specs.Supports.{IsOutside, closing_line}
 use Rattle.joint_hash.proofs.SharedLemmas.{same_literals}
 use Rattle.sim_signature.specs.Sightings.{first_of, last_of}

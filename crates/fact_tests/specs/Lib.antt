@@ -5,7 +5,7 @@ pub mod Kept
 pub mod Books
 pub mod Outputs
 pub use Rattle.account_core.specs.Facts as DecidedFacts
-pub use Rattle.net_supports.specs.Supports as Reached
+pub use Rattle.sim_signature.specs.Supports as Reached
 pub use Rattle.oracle_core.specs.Oracles
 pub use Rattle.oracle_core.specs.Work
 pub use Rattle.ask_core.specs.Answers
@@ -13,4 +13,4 @@ pub use Rattle.claim_core.specs.Claims
 pub use Rattle.claim_core.specs.ClaimQueries
 pub use Rattle.claim_core.specs.Facts
 pub use Rattle.claim_core.specs.Queries
-pub use Rattle.output_info.specs.Rows
+pub use Rattle.claim_core.specs.Rows

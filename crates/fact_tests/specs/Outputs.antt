@@ -8,12 +8,12 @@ use Rattle.oracle_core.specs.Oracles.{Known, Suits}
 use Rattle.claim_core.specs.declared.claims.Shape.{Shape}
 use Rattle.claim_core.specs.declared.claims.Shape.TheVariants.{Swap}
 use Rattle.claim_core.specs.Claims.{output_bit}
-use Rattle.output_info.specs.declared.info.Unate.{Unate}
-use Rattle.output_info.specs.declared.info.Unate.TheVariants.{Positive, Negative, Binate}
-use Rattle.output_info.specs.declared.info.Sym.{Sym}
-use Rattle.output_info.specs.declared.info.Sym.TheVariants.{Symmetric, Skew, Both}
+use Rattle.claim_core.specs.declared.info.Unate.{Unate}
+use Rattle.claim_core.specs.declared.info.Unate.TheVariants.{Positive, Negative, Binate}
+use Rattle.claim_core.specs.declared.info.Sym.{Sym}
+use Rattle.claim_core.specs.declared.info.Sym.TheVariants.{Symmetric, Skew, Both}
 use Rattle.claim_core.specs.Facts.{InSupport, IsSymmetric, IsSkew}
-use Rattle.output_info.specs.Rows.{IsUnate, IsSym}
+use Rattle.claim_core.specs.Rows.{IsUnate, IsSym}
 
 -- An oracle of these circuits, which may be asked in this ledger.
 pub record MayAsk (graphs : Graphs) (known : Known) (ledger : Ledgered) : Type 0 where

@@ -3,7 +3,7 @@ use Rattle.std.specs.Prelude.{◌≡◌, ℕ, ◌+◌, ◌*◌, false, [], ◌�
 use Rattle.circuits.specs.Netlists.{Net}
 use Rattle.cnf_core.specs.declared.log.LogLine.{LogLine}
 use Rattle.net_core.specs.Sides.{Graphs, graph_of}
-use Rattle.net_supports.specs.Supports.{output_reaches}
+use Rattle.sim_signature.specs.Supports.{output_reaches}
 use Rattle.claim_core.specs.declared.claims.Claim.{Claim}
 use Rattle.claim_core.specs.declared.claims.Shape.{Shape}
 use Rattle.claim_core.specs.declared.claims.Shape.TheVariants.{Up, Down, Swap}

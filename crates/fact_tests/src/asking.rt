@@ -12,10 +12,9 @@ use account_core::Evidence;
 use ask_core::{Answer, ask_watched};
 use cnf_core::{Log, LogLine, Stop};
 use items::Items;
-use log_parts::trim;
 use net_core::Graphs;
 use query_core::{Claim, Ledger, Query, count_of, of_claim};
-use shared_lemmas::SharedLemmas;
+use shared_lemmas::{SharedLemmas, trim};
 use std::alloc::{AllocError, Global};
 use watch_core::Watch;
 

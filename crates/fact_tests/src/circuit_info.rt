@@ -2,16 +2,16 @@
 
 ghost use Rattle.std.specs.Prelude.{◌≡◌, IfOk};
 ghost use Rattle.oracle_core.specs.Oracles.{Serves, Suits};
-ghost use Rattle.output_info.specs.Rows.{AreRows};
+ghost use Rattle.claim_core.specs.Rows.{AreRows};
 
 use crate::fact_book::FactBook;
 use crate::rows::rows_by;
+use claim_core::OutputInfo;
 use cnf_core::Stop;
 use net_core::Graphs;
-use net_supports::Supports;
 use oracle_core::Oracle;
-use output_info::OutputInfo;
 use query_core::Ledger;
+use sim_signature::Supports;
 use std::alloc::Global;
 use watch_core::Watch;
 

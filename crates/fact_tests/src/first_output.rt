@@ -5,13 +5,13 @@ ghost use Rattle.std.specs.Bool.{Decides};
 ghost use Rattle.oracle_core.specs.Oracles.{Serves};
 ghost use Rattle.claim_core.specs.Claims.{IsPlaced, ShapeHolds};
 ghost use Rattle.fact_tests.specs.Outputs.{MayAsk};
-ghost use Rattle.net_supports.specs.Supports.{output_reaches};
+ghost use Rattle.sim_signature.specs.Supports.{output_reaches};
 
 use cnf_core::Stop;
 use net_core::{Graphs, Side};
-use net_supports::Supports;
 use oracle_core::Oracle;
 use query_core::{Claim, Ledger, Shape};
+use sim_signature::Supports;
 use std::alloc::Global;
 
 /// An output of the first of two circuits.

@@ -3,14 +3,14 @@
 ghost use Rattle.std.specs.Prelude.{◌≡◌, ◌<◌, ◌++◌, IfOk, OnOk, length};
 ghost use Rattle.oracle_core.specs.Oracles.{Serves};
 ghost use Rattle.fact_tests.specs.Outputs.{MayAsk, entry_of, function_at, inputs_in};
-ghost use Rattle.output_info.specs.Rows.{ListsSupport};
+ghost use Rattle.claim_core.specs.Rows.{ListsSupport};
 
 use crate::first_output::FirstOutput;
 use crate::unate_test::unateness;
+use claim_core::Unate;
 use cnf_core::Stop;
 use items::Items;
 use oracle_core::Oracle;
-use output_info::Unate;
 use query_core::Ledger;
 use std::alloc::{AllocError, Global};
 

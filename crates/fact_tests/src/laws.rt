@@ -6,10 +6,10 @@ ghost use Rattle.circuits.specs.Functions.{Computes};
 ghost use Rattle.circuits.specs.Literals.{bit};
 ghost use Rattle.circuits.specs.Netlists.{IsOrdered, Net};
 ghost use Rattle.claim_core.specs.Claims.{output_bit};
-ghost use Rattle.output_info.specs.declared.info.OutputInfo.{OutputInfo as Row};
+ghost use Rattle.claim_core.specs.declared.info.OutputInfo.{OutputInfo as Row};
 ghost use Rattle.claim_core.specs.Facts.{InSupport};
-ghost use Rattle.output_info.specs.Rows.{AreRows, AreRowsOf, IsRow};
-ghost use Rattle.net_supports.specs.Supports.{output_reaches};
+ghost use Rattle.claim_core.specs.Rows.{AreRows, AreRowsOf, IsRow};
+ghost use Rattle.sim_signature.specs.Supports.{output_reaches};
 
 /// The rows of a netlist in order are those of the circuit that it computes.
 pub fn rows_of_a_circuit()

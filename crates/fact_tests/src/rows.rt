@@ -3,17 +3,17 @@
 ghost use Rattle.std.specs.Prelude.{◌≡◌, ◌<◌, IfOk, length};
 ghost use Rattle.oracle_core.specs.Oracles.{Serves, Suits};
 ghost use Rattle.fact_tests.specs.Outputs.{MayAsk, function_at, inputs_in};
-ghost use Rattle.output_info.specs.Rows.{AreRows, IsRow};
+ghost use Rattle.claim_core.specs.Rows.{AreRows, IsRow};
 
 use crate::first_output::FirstOutput;
 use crate::func_support::support;
 use crate::symmetry_test::symmetries;
+use claim_core::OutputInfo;
 use cnf_core::Stop;
 use net_core::Graphs;
-use net_supports::Supports;
 use oracle_core::Oracle;
-use output_info::OutputInfo;
 use query_core::Ledger;
+use sim_signature::Supports;
 use std::alloc::Global;
 
 /// What an oracle knows of each output of the first circuit: a row for each.

@@ -5,13 +5,13 @@ ghost use Rattle.std.specs.Bool.{Decides};
 ghost use Rattle.oracle_core.specs.Oracles.{Serves};
 ghost use Rattle.claim_core.specs.Claims.{IsPlaced};
 ghost use Rattle.fact_tests.specs.Outputs.{IsAlike, IsSymmetry, MayAsk, function_at, half_swap, inputs_in, may_be_alike, pair_of, symmetry};
-ghost use Rattle.output_info.specs.Rows.{IsEntry, ListsPairs, ListsSupport};
+ghost use Rattle.claim_core.specs.Rows.{IsEntry, ListsPairs, ListsSupport};
 
 use crate::first_output::FirstOutput;
+use claim_core::{Sym, Unate};
 use cnf_core::Stop;
 use items::Items;
 use oracle_core::Oracle;
-use output_info::{Sym, Unate};
 use query_core::{Ledger, Shape};
 use std::alloc::{AllocError, Global};
 

@@ -5,9 +5,9 @@ ghost use Rattle.oracle_core.specs.Oracles.{Serves};
 ghost use Rattle.fact_tests.specs.Outputs.{IsDependence, MayAsk, dependence, function_at, inputs_in};
 
 use crate::first_output::FirstOutput;
+use claim_core::Unate;
 use cnf_core::Stop;
 use oracle_core::Oracle;
-use output_info::Unate;
 use query_core::{Ledger, Shape};
 use std::alloc::Global;
 

@@ -1,6 +1,6 @@
 //! Marks of numbers: few of many, and so many that they go to a table.
 
-use number_marks::Marks;
+use bit_list::Marks;
 use std::alloc::{AllocError, Global};
 use std::test::Fail;
 

@@ -13,10 +13,10 @@ use Rattle.account_core.specs.declared.step.Ban.{Ban}
 use Rattle.account_core.specs.Given.{Decided, decided_by, given_of}
 use Rattle.account_core.specs.Steps.{IsValidBan}
 use Rattle.account_core.specs.declared.step.Step.TheVariants as step
-use Rattle.claim_rows.specs.declared.mismatched.Unlike.{Unlike}
-use Rattle.claim_rows.specs.Mismatched.{IsBanBy, mismatch_of}
+use Rattle.ban_book.specs.declared.mismatched.Unlike.{Unlike}
+use Rattle.ban_book.specs.Mismatched.{IsBanBy, mismatch_of}
 use Rattle.oracle_core.specs.Oracles.{Known}
-use Rattle.table_guess.specs.Trials.{AreTrials}
+use Rattle.match_guess.specs.Trials.{AreTrials}
 use Rattle.ban_book.specs.Vectors.{AreLastResorts}
 use Rattle.ban_book.proofs.VectorLemmas.{last_resorts_push_other}
 use Rattle.fact_bans.specs.declared.exchanges.SwapPairs.{SwapPairs}
@@ -25,11 +25,11 @@ use Rattle.pair_domains.specs.declared.entry.Entry.{Entry}
 use Rattle.pair_domains.specs.declared.entry.Fate.TheVariants.{Deleted}
 use Rattle.pair_domains.specs.declared.entry.Reason.TheVariants.{Mismatch}
 use Rattle.pair_domains.specs.Trails.{AreEntries, Domained, IsOpen, IsPairOf, held_in}
-use Rattle.conflict_core.specs.Grounded.{AreGrounded, IsGrounded, LearnsMore, StayGrounded, in_order}
-use Rattle.conflict_core.specs.Named.{deleted}
-use Rattle.conflict_core.proofs.GroundedLemmas.{grounded_push}
-use Rattle.conflict_core.specs.Justified.{AreJustified}
-use Rattle.conflict_core.proofs.JustifiedLemmas.{held_append}
+use Rattle.pair_search.specs.Grounded.{AreGrounded, IsGrounded, LearnsMore, StayGrounded, in_order}
+use Rattle.pair_search.specs.Named.{deleted}
+use Rattle.pair_search.proofs.GroundedLemmas.{grounded_push}
+use Rattle.pair_search.specs.Justified.{AreJustified}
+use Rattle.pair_search.proofs.JustifiedLemmas.{held_append}
 use Rattle.pair_search.specs.Progress.{IsTrail, Propagates, StaysJustified, left}
 use Rattle.pair_search.proofs.StepLemmas.{HasOneMore, justified_one, less_one, one_more_of, trail_on}
 pub use Rattle.class_refine.proofs.TrailLemmas.{known_of, shown_adds, trail_adds}

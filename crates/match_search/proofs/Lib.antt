@@ -3,3 +3,4 @@ pub mod AskLemmas
 pub mod StepLemmas
 pub mod CompareLemmas
 pub mod SearchLemmas
+pub mod FreeLemmas

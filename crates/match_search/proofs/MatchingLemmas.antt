@@ -9,9 +9,9 @@ use Rattle.circuits.specs.Bijections.{IsSignedBijection}
 use Rattle.net_core.specs.Sides.{Graphs}
 use Rattle.net_core.specs.declared.graphs.Side.TheVariants.{First}
 use Rattle.account_core.specs.Ports.{ports_in, IsKnown}
-use Rattle.port_sides.specs.Held.{AreHeld, IsEntryOf, IsOf, IsWhole}
-use Rattle.port_covers.proofs.ListLemmas.{contained_of_any}
-use Rattle.port_covers.proofs.OrderLemmas.{held_apart}
+use Rattle.account_core.specs.Held.{AreHeld, IsEntryOf, IsOf, IsWhole}
+use Rattle.ban_book.proofs.BlockListLemmas.{contained_of_any}
+use Rattle.ban_book.proofs.OrderLemmas.{held_apart}
 
 -- The pair of a port, with the port's entry.
 pub record IsPaired (held : List Pair) (kind : PortKind) (entries : List (ℕ × Bool)) (port : ℕ) (pair : Pair) : Type 0 where

@@ -7,13 +7,13 @@ use Rattle.net_core.specs.Sides.{Graphs}
 use Rattle.query_core.specs.Ledgers.{Ledgered}
 use Rattle.account_core.specs.declared.step.Ban.{Ban}
 use Rattle.oracle_core.specs.Oracles.{Known, Serves}
-use Rattle.table_guess.specs.declared.trials.Trials.{Trials}
-use Rattle.table_guess.specs.Trials.{AreTrials}
+use Rattle.match_guess.specs.declared.trials.Trials.{Trials}
+use Rattle.match_guess.specs.Trials.{AreTrials}
 use Rattle.pair_domains.specs.Trails.{Domained}
 use Rattle.fact_bans.specs.Serving.{HoldsBans}
 use Rattle.fact_bans.proofs.HoldingLemmas.{HasHeld, held_kept, held_one, held_same, held_then, holds_err, holds_last, holds_no_more, holds_ok, holds_stop, may_later}
-use Rattle.conflict_core.specs.Grounded.{LearnsMore, StayGrounded}
-use Rattle.conflict_core.proofs.GroundedLemmas.{grounded_none}
+use Rattle.pair_search.specs.Grounded.{LearnsMore, StayGrounded}
+use Rattle.pair_search.proofs.GroundedLemmas.{grounded_none}
 use Rattle.pair_search.specs.Progress.{IsTrail, Propagates, StaysJustified}
 use Rattle.match_search.specs.States.{AreSameLoans, GoesOn, Lent, MayGoOn, MayStep, Steps}
 use Rattle.match_search.proofs.AskLemmas.{IsUnderWay, held_learned, shown_adds, shown_follows, shown_stays}

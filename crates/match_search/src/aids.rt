@@ -1,13 +1,13 @@
 //! What a search goes by.
 
 ghost use Rattle.std.specs.Prelude.{IfOk};
-ghost use Rattle.table_guess.specs.Trials.{AreTrials};
+ghost use Rattle.match_guess.specs.Trials.{AreTrials};
 
+use crate::Guide;
+use account_core::PairableGraphs;
 use fact_bans::Seen;
-use port_sides::PairableGraphs;
-use search_guide::Guide;
+use match_guess::Trials;
 use std::alloc::{AllocError, Global};
-use table_guess::Trials;
 
 /// What a search goes by: what guides it, vectors that pairs are tried on, and what vectors showed of claims.
 pub(crate) struct Aids {

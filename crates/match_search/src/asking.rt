@@ -3,19 +3,18 @@
 ghost use Rattle.std.specs.Prelude.{◌<◌, Contains, IfSome};
 ghost use Rattle.account_core.specs.Ports.{IsKnown};
 ghost use Rattle.pair_domains.specs.Trails.{held_in};
-ghost use Rattle.conflict_core.specs.Conflicts.{FitPorts};
+ghost use Rattle.pair_search.specs.Conflicts.{FitPorts};
 ghost use Rattle.match_search.specs.States.{GoesOn, MayGoOn, MayStep, Steps, lent, AreOfBothKinds};
 
 use crate::session::Session;
+use account_core::PairableGraphs;
 use circuits::{Pair, PortKind};
 use class_refine::Domains;
 use cnf_core::Stop;
-use conflict_core::Port;
 use fact_bans::{mismatch, tally};
 use net_core::Side;
 use oracle_core::Oracle;
-use pair_search::way_of;
-use port_sides::PairableGraphs;
+use pair_search::{Port, way_of};
 
 /// Holds the tallies of an output of the first circuit and each of the second.
 pub(crate) fn ask_output<O: Oracle>(

@@ -4,7 +4,7 @@ ghost use Rattle.std.specs.Prelude.{◌≡◌, ◌<◌, false, IfNone, IfOk, IfS
 ghost use Rattle.account_core.specs.Given.{decided_by};
 ghost use Rattle.account_core.specs.Shown.{IsShownMatch};
 ghost use Rattle.match_search.specs.Founds.{IsDecidedFound};
-ghost use Rattle.port_sides.specs.Held.{IsWhole};
+ghost use Rattle.account_core.specs.Held.{IsWhole};
 ghost use Rattle.pair_domains.specs.Trails.{held_in};
 ghost use Rattle.pair_search.specs.Progress.{left};
 ghost use Rattle.match_search.specs.States.{Explores, IsAhead, IsFoundBy, MaySearch, MayStep, SearchesBy, Steps, lent};
@@ -13,16 +13,16 @@ use crate::ahead::{Ahead, Settled};
 use crate::candidate::compare_whole;
 use crate::following::follow;
 use crate::found::Found;
+use crate::next_port;
 use crate::session::Session;
 use crate::trail::PairTrail;
+use account_core::PairableGraphs;
 use class_refine::{Domains, Refined, refine};
 use cnf_core::{Log, Stop};
 use items::Items;
 use net_core::Matching;
 use oracle_core::Oracle;
 use pair_search::{Impasse, branch, start_over, turn_back};
-use port_sides::PairableGraphs;
-use search_guide::next_port;
 use watch_core::Stage;
 
 /// Searches from nothing, with the bans that are held, for this many rounds, or until the bans take all their room, and answers

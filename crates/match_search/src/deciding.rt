@@ -8,14 +8,14 @@ use crate::found::Found;
 use crate::guessed::compare_guesses;
 use crate::searching::{refuse_by_counts, refuse_or_explore};
 use crate::session::Session;
+use account_core::PairableGraphs;
 use ban_book::BanBook;
 use circuits::PortKind;
 use cnf_core::Stop;
+use match_guess::{Effort, Guesser};
 use oracle_core::Oracle;
-use port_sides::PairableGraphs;
 use query_core::Ledger;
 use std::alloc::Global;
-use table_guess::{Effort, Guesser};
 
 /// Up to how many inputs times outputs counts are looked at, and a short search is made, before all guesses. An adder of 32 bits has
 /// 2,112. Near misses of an encoder of 64 bits and of a subtractor and an incrementer of 32 are refused in a quarter of the time that

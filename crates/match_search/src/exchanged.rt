@@ -7,11 +7,11 @@ ghost use Rattle.ban_book.specs.Covering.{Covers};
 ghost use Rattle.match_search.specs.States.{AreInputsAndOutput, Excludes, GoesOn, MayGoOn, lent};
 
 use crate::session::Session;
+use account_core::PairableGraphs;
 use circuits::{Pair, PortKind};
 use cnf_core::Stop;
 use fact_bans::{SwapPairs, swap_mismatch};
 use oracle_core::Oracle;
-use port_sides::PairableGraphs;
 
 /// Holds a ban that claims of two inputs show of the newest held pair and two others, and answers its number; None where none was
 /// shown. It looks at any two others, which is good enough because a look takes what vectors showed of two claims: one is asked only

@@ -11,12 +11,12 @@ use crate::exchanged::exclude_by_swaps;
 use crate::session::Session;
 use crate::trail::PairTrail;
 use crate::unlike::{delete_unlike, list_unlike};
+use account_core::PairableGraphs;
 use circuits::{Pair, PortKind};
 use class_refine::Domains;
 use cnf_core::Stop;
 use oracle_core::Oracle;
 use pair_search::{Impasse, propagate};
-use port_sides::PairableGraphs;
 use vector_bans::foresee;
 
 /// Holds and deletes what follows of bans and of claims, those of one input first, which are fewer and whose bans are shorter,

@@ -7,14 +7,14 @@ ghost use Rattle.match_search.specs.Founds.{IsGuessed};
 ghost use Rattle.match_search.specs.States.{MayCompare};
 
 use crate::candidate::compare_all;
+use account_core::PairableGraphs;
 use cnf_core::{Log, Stop};
 use items::Items;
+use match_guess::{Effort, Guesser};
 use net_core::Matching;
 use oracle_core::Oracle;
-use port_sides::PairableGraphs;
 use query_core::Ledger;
 use std::alloc::Global;
-use table_guess::{Effort, Guesser};
 use watch_core::Stage;
 
 /// How many guessed matchings are compared. Each is right on the vectors that showed the ones before it to be wrong, so that it

@@ -1,4 +1,4 @@
-//! Looks for a match of two circuits: compares matchings that are guessed, and then searches by conflicts.
+//! The search for a match.
 #![tactic(auto)]
 
 mod ahead;
@@ -6,17 +6,27 @@ mod aids;
 mod asking;
 mod branching;
 mod candidate;
+mod choosing;
+mod compared;
 mod deciding;
 mod exchanged;
+mod fewest;
 mod following;
 mod found;
 mod guessed;
+mod guide;
 mod matching;
+mod reads;
+mod room;
+mod rounds;
 mod searching;
 mod session;
 mod trail;
 mod unlike;
+mod weights;
 
+pub use choosing::next_port;
 pub use deciding::decide;
 pub use found::Found;
+pub use guide::Guide;
 pub use searching::search;

@@ -4,12 +4,12 @@ ghost use Rattle.std.specs.Prelude.{◌≡◌, ◌<◌, All, AllPairs, IfOk, len
 ghost use Rattle.circuits.specs.declared.port.Pair.{Pair as AnyPair};
 ghost use Rattle.circuits.specs.Matches.{HavePorts};
 ghost use Rattle.claim_core.specs.Images.{Extends};
-ghost use Rattle.port_sides.specs.Held.{AreApart, AreHeld, IsEntryOf, IsWhole};
+ghost use Rattle.account_core.specs.Held.{AreApart, AreHeld, IsEntryOf, IsWhole};
 
+use account_core::PairableGraphs;
 use circuits::{Pair, PortKind};
 use items::Items;
 use net_core::Matching;
-use port_sides::PairableGraphs;
 use std::alloc::{AllocError, Global};
 
 /// The matching that has each of the pairs, where each port is in one.

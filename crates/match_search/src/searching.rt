@@ -10,11 +10,11 @@ use crate::aids::Aids;
 use crate::branching::{explore_rounds, explore_whole};
 use crate::found::Found;
 use crate::session::Session;
+use account_core::PairableGraphs;
 use ban_book::BanBook;
 use cnf_core::Stop;
 use fact_bans::refuse;
 use oracle_core::Oracle;
-use port_sides::PairableGraphs;
 use query_core::Ledger;
 use std::alloc::Global;
 

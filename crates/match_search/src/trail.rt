@@ -4,10 +4,10 @@ ghost use Rattle.std.specs.Prelude.{◌≡◌, [], List, IfOk};
 ghost use Rattle.account_core.specs.declared.step.Ban.{Ban as AnyBan};
 ghost use Rattle.pair_search.specs.Progress.{IsTrail};
 
+use account_core::PairableGraphs;
 use circuits::PortKind;
 use class_refine::Domains;
 use pair_search::Queue;
-use port_sides::PairableGraphs;
 use std::alloc::{AllocError, Global};
 
 /// The pairs of two circuits, held and deleted in order, and how far it was followed what comes of that.

@@ -6,12 +6,12 @@ ghost use Rattle.account_core.specs.Ports.{IsKnown};
 ghost use Rattle.pair_domains.specs.declared.entry.Fate.TheVariants.{Deleted};
 ghost use Rattle.pair_domains.specs.declared.entry.Reason.TheVariants.{Mismatch};
 ghost use Rattle.pair_domains.specs.Trails.{held_in};
-ghost use Rattle.conflict_core.specs.Grounded.{IsGrounded};
+ghost use Rattle.pair_search.specs.Grounded.{IsGrounded};
 ghost use Rattle.match_search.specs.States.{Deletes, GoesOn, MayGoOn, MayStep, Steps, lent};
 
 use crate::asking::input_and_output;
 use crate::session::Session;
-use account_core::port_on;
+use account_core::{PairableGraphs, port_on};
 use circuits::{Pair, PortKind};
 use class_refine::{Domains, Reason};
 use cnf_core::Stop;
@@ -19,7 +19,6 @@ use fact_bans::{Seen, Unlike, tell_apart};
 use net_core::Side;
 use oracle_core::Oracle;
 use pair_search::is_open;
-use port_sides::PairableGraphs;
 use std::alloc::{AllocError, Global};
 
 /// A port of the other kind, and what vectors break of the claims of it and a held pair's port (`Seen::broken`).

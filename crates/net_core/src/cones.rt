@@ -5,8 +5,8 @@ ghost use Rattle.net_core.specs.Graph.{AreInOrder};
 ghost use Rattle.net_core.specs.Cones.{AreReachedFrom, IsFoundBy, ReachesGate};
 
 use crate::graph::Graph;
+use bit_list::Marks;
 use circuits::Gate;
-use number_marks::Marks;
 use std::alloc::{AllocError, Global};
 
 impl Graph {

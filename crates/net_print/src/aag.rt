@@ -2,7 +2,7 @@
 
 ghost use Rattle.std.specs.Prelude.{◌≡◌, ◌+◌, ◌-◌, ◌<◌, ◌^◌, [], ◌∷◌, ◌++◌, length, map, OnOk, OnErr};
 ghost use Rattle.std.specs.List.{range_with_len};
-ghost use Rattle.text_out.specs.Extends.{Extends};
+ghost use Rattle.text_core.specs.Extends.{Extends};
 ghost use Rattle.net_print.specs.Rows.{rows_text, input_row, input_rows, gate_rows, gate_row};
 ghost use Rattle.net_print.specs.Files.{aag_text, aag_front_text};
 
@@ -11,7 +11,7 @@ use crate::symbols::{Symbols, symbols_of};
 use net_core::{Gate, Graph};
 use net_file::Named;
 use std::alloc::AllocError;
-use text_out::{Chain, Parts, put_all, put_last_number, put_number};
+use text_core::{Chain, Parts, put_all, put_last_number, put_number};
 
 /// Writes a netlist at the end of `out` as a file of the ASCII form of AIGER: the header, a line for each input, output
 /// and gate in their order, with the graph's own numbers as literals, and a symbol for each port.

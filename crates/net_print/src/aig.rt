@@ -1,7 +1,7 @@
 //! The binary form of AIGER.
 
 ghost use Rattle.std.specs.Prelude.{◌≡◌, ◌+◌, ◌*◌, ◌≤◌, ◌<◌, ◌^◌, max, ◌++◌, length, OnOk, OnErr};
-ghost use Rattle.text_out.specs.Extends.{Extends};
+ghost use Rattle.text_core.specs.Extends.{Extends};
 ghost use Rattle.net_core.specs.Graph.{AreInOrder};
 ghost use Rattle.net_print.specs.Deltas.{groups, delta_groups, gate_deltas, deltas};
 ghost use Rattle.net_print.specs.Files.{aig_text};
@@ -11,7 +11,7 @@ use crate::symbols::{Symbols, symbols_of};
 use net_core::{Gate, Graph};
 use net_file::Named;
 use std::alloc::AllocError;
-use text_out::{Chain, Parts, put_all};
+use text_core::{Chain, Parts, put_all};
 
 /// Writes a netlist at the end of `out` as a file of the binary form of AIGER: the header, a line for each output, two
 /// deltas for each gate, the greater operand first, and a symbol for each port.

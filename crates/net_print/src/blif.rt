@@ -1,7 +1,7 @@
 //! BLIF.
 
 ghost use Rattle.std.specs.Prelude.{◌≡◌, ◌++◌, OnOk, OnErr};
-ghost use Rattle.text_out.specs.Extends.{Extends};
+ghost use Rattle.text_core.specs.Extends.{Extends};
 ghost use Rattle.net_print.specs.BlifLines.{blif_text};
 
 use crate::covers::{GateCovers, OutputCovers};
@@ -9,7 +9,7 @@ use crate::ports::{Declarations, declarations_of};
 use net_core::Graph;
 use net_file::Named;
 use std::alloc::AllocError;
-use text_out::{Chain, Parts, Whole, put_all};
+use text_core::{Chain, Parts, Whole, put_all};
 
 /// Writes a netlist at the end of `out` as a BLIF file: the names of the ports, a cover without rows for the constant, and
 /// a cover of one row for each gate and for each output. The netlist's own names aren't kept: ports are called `i0`,

@@ -3,13 +3,13 @@
 ghost use Rattle.std.specs.Prelude.{◌≡◌, ◌+◌, ◌<◌, ◌^◌, [], ◌∷◌, ◌++◌, length, OnOk};
 ghost use Rattle.std.specs.Fmt.{decimal};
 ghost use Rattle.circuits.specs.Literals.{signal_of};
-ghost use Rattle.text_out.specs.Extends.{Extends};
+ghost use Rattle.text_core.specs.Extends.{Extends};
 ghost use Rattle.net_print.specs.BlifLines.{words_text, gates_lines, gate_lines, outputs_lines, output_lines, signal_name, operands_text, row_byte};
 
 use crate::ports::put_name;
 use net_core::{Gate, Graph, Lit};
 use std::alloc::AllocError;
-use text_out::{Parts, put_last_number, put_text};
+use text_core::{Parts, put_last_number, put_text};
 
 /// The cover of each gate.
 #[derive(Drop)]

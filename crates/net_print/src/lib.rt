@@ -2,7 +2,7 @@
 //!
 //! Each file is printed part by part, about a line at a time, so that it need never be whole in memory.
 
-#![tactic(auto, using(text_out::proofs::Extending::extends_same, text_out::proofs::Extending::extends_twice))]
+#![tactic(auto, using(text_core::proofs::Extending::extends_same, text_core::proofs::Extending::extends_twice))]
 
 mod aag;
 mod aig;

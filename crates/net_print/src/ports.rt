@@ -3,13 +3,12 @@
 ghost use Rattle.std.specs.Prelude.{◌≡◌, ◌-◌, [], ◌∷◌, ◌++◌, OnOk};
 ghost use Rattle.std.specs.List.{range_with_len};
 ghost use Rattle.std.specs.Fmt.{decimal};
-ghost use Rattle.text_out.specs.Extends.{Extends};
+ghost use Rattle.text_core.specs.Extends.{Extends};
 ghost use Rattle.net_print.specs.BlifLines.{words_text, declarations, ports_line, names_text};
 
 use net_core::Graph;
 use std::alloc::AllocError;
-use text_core::put_decimal;
-use text_out::{Chain, Parts, Whole, put_text};
+use text_core::{Chain, Parts, Whole, put_decimal, put_text};
 
 /// The lines before the gates' covers.
 pub(crate) type Declarations<'a> = Chain<

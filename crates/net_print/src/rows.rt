@@ -1,12 +1,12 @@
 //! What both forms of AIGER begin with: the header, and the lines of the outputs.
 
 ghost use Rattle.std.specs.Prelude.{◌≡◌, [], ◌∷◌, ◌++◌, length, map, if◌then◌else◌, OnOk};
-ghost use Rattle.text_out.specs.Extends.{Extends};
+ghost use Rattle.text_core.specs.Extends.{Extends};
 ghost use Rattle.net_print.specs.Rows.{rows_text, output_row, header_text, counts_text};
 
 use net_core::{Graph, Lit};
 use std::alloc::AllocError;
-use text_out::{Parts, put_last_number, put_number, put_text};
+use text_core::{Parts, put_last_number, put_number, put_text};
 
 /// The header's line, after the keyword of a form.
 #[derive(Drop)]

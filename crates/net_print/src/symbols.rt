@@ -2,12 +2,12 @@
 
 ghost use Rattle.std.specs.Prelude.{◌≡◌, ◌+◌, ◌++◌, ◌<◌, ◌^◌, length, OnOk};
 ghost use Rattle.text_core.specs.Lines.{text_of_lines};
-ghost use Rattle.text_out.specs.Extends.{Extends};
+ghost use Rattle.text_core.specs.Extends.{Extends};
 ghost use Rattle.net_print.specs.Rows.{symbol_lines, symbol_text, symbols_text};
 
 use net_file::{Name, Named};
 use std::alloc::AllocError;
-use text_out::{Chain, Parts, put_last_word, put_number};
+use text_core::{Chain, Parts, put_last_word, put_number};
 
 /// A symbol for each input, then one for each output.
 pub(crate) type Symbols<'a> = Chain<Names<'a>, Names<'a>>;

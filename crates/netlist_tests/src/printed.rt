@@ -5,7 +5,7 @@ use net_file::Named;
 use net_print::{AagParts, AigParts, BlifParts, put_aag, put_aig, put_blif};
 use std::alloc::{AllocError, Global};
 use std::test::Fail;
-use text_out::Parts;
+use text_core::Parts;
 
 // Whether the three texts of a netlist are these, each after a byte that stands there before.
 fn are_texts(

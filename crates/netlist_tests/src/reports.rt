@@ -4,10 +4,10 @@ ghost use Rattle.std.specs.Prelude.{◌<◌, ◌↔◌, All, IsTrue};
 ghost use Rattle.port_report.specs.Infos.{IsInRange};
 
 use crate::named_circuits::named;
+use claim_core::{OutputInfo, Sym, Unate};
 use items::Items;
 use net_core::Matching;
 use net_file::Named;
-use output_info::{OutputInfo, Sym, Unate};
 use port_report::{put_info, put_match, put_rejected};
 use samples::{SampleFault, graph, matching};
 use std::alloc::{AllocError, Global};

@@ -8,9 +8,9 @@ use Rattle.cnf_core.specs.declared.stop.Stop.TheVariants as stop
 use Rattle.query_core.specs.Ledgers.{Ledgered}
 use Rattle.oracle_core.specs.Oracles.{IsSpentWork, Known, Suits}
 use Rattle.oracle_core.specs.Work.{IsWorkOfClaimsAndMatches}
-use Rattle.output_info.specs.Rows.{AreRows}
+use Rattle.claim_core.specs.Rows.{AreRows}
 use Rattle.fact_tests.proofs.RowLemmas.{rows_of}
-use Rattle.output_info.specs.declared.info.OutputInfo.{OutputInfo}
+use Rattle.claim_core.specs.declared.info.OutputInfo.{OutputInfo}
 use Rattle.port_report.specs.Infos.{IsInRange, info_text}
 use Rattle.run_steps.specs.Info.{IsSpentOf}
 use Rattle.run_steps.specs.Steps.{InformsOf, IsNew}

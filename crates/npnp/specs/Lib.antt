@@ -6,7 +6,7 @@ pub use Rattle.run_steps.specs.Outcomes
 pub use Rattle.run_steps.specs.Report
 pub use Rattle.run_steps.specs.Steps
 pub use Rattle.run_steps.specs.Trial
-pub use Rattle.command_words.specs.Words
+pub use Rattle.run_steps.specs.Words
 pub use Rattle.account_check.specs.Verdicts
 pub use Rattle.query_core.specs.Ledgers
 pub use Rattle.match_search.specs.Founds

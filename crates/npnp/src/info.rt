@@ -3,21 +3,20 @@
 ghost use Rattle.std.specs.Prelude.{◌≡◌, ℕ, Err, IfOk, IfErr};
 ghost use Rattle.cnf_core.specs.declared.stop.Stop.TheVariants.{Spent};
 ghost use Rattle.shelf_core.specs.State.{Closed};
-ghost use Rattle.output_info.specs.Rows.{AreRows};
+ghost use Rattle.claim_core.specs.Rows.{AreRows};
 ghost use Rattle.port_report.specs.Infos.{info_text};
 ghost use Rattle.run_steps.specs.Info.{IsSpentOf, with_itself};
 ghost use Rattle.run_steps.specs.Steps.{Decides, InformsOf, IsNew};
-ghost use Rattle.command_words.specs.Commands.{asked_info};
+ghost use Rattle.run_steps.specs.Commands.{asked_info};
 
+use claim_core::OutputInfo;
 use cnf_core::Stop;
-use command_words::Info;
 use fact_tests::FactBook;
 use net_core::Graphs;
 use net_file::Named;
-use output_info::OutputInfo;
 use port_report::put_info;
 use query_core::Ledger;
-use run_steps::{Ending, Outcome, Which, read_netlist};
+use run_steps::{Ending, Info, Outcome, Which, read_netlist};
 use shelf_core::Shelf;
 use std::alloc::{AllocError, Global};
 use watch_core::Watch;

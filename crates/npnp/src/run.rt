@@ -8,7 +8,7 @@ ghost use Rattle.shelf_core.specs.State.{Closed};
 ghost use Rattle.account_check.specs.declared.verdict.Why.{Why as Reason};
 ghost use Rattle.run_steps.specs.declared.outcome.Outcome.{Outcome as AnyOutcome};
 ghost use Rattle.run_steps.specs.declared.outcome.Which.{Which as AnyFile};
-ghost use Rattle.command_words.specs.Words.{AskForPair, AskNothing, AsksTrial, ReadFiles};
+ghost use Rattle.run_steps.specs.Words.{AskForPair, AskNothing, AsksTrial, ReadFiles};
 ghost use Rattle.query_core.specs.Ledgers.{Ledgered};
 ghost use Rattle.run_steps.specs.Check.{IsAccepted, IsRejected, IsMatchOfFiles, LacksMatch};
 ghost use Rattle.run_steps.specs.Make.{HoldsPair, NamesPair, WriteFiles};
@@ -16,16 +16,15 @@ ghost use Rattle.run_steps.specs.Match.{HasNoMatch, IsAskedToMatch, IsMatchFound
 ghost use Rattle.run_steps.specs.Outcomes.{EndsEarly, FollowsWords, IsAbsent, IsAskedOf, IsDecided, IsOfMatch, IsOfTrial, IsRight, IsSettled, IsSound, IsSpentOn, IsTold, Leaves, LeavesFiles, MayBeCut};
 ghost use Rattle.run_steps.specs.Report.{IsReport, line_of};
 ghost use Rattle.run_steps.specs.Steps.{Decides, TellsLine, PutsText, WritesPart};
-ghost use Rattle.command_words.specs.Commands.{IsTrialCommand};
+ghost use Rattle.run_steps.specs.Commands.{IsTrialCommand};
 ghost use Rattle.run_steps.specs.Trial.{IsSpentOnPair, IsTried};
 
 use crate::info::inform;
 use crate::matching::find;
 use crate::trying::try_pair;
 use account_check::Verdict;
-use command_words::{Command, command_asked};
 pub use run_steps::Ending;
-use run_steps::{Outcome, check_files, make_files, report_line};
+use run_steps::{Command, Outcome, check_files, command_asked, make_files, report_line};
 use shelf_core::{Shelf, ShelfStop, Sink};
 use std::alloc::Global;
 use watch_core::Watch;

@@ -8,15 +8,14 @@ ghost use Rattle.run_steps.specs.Steps.{IsProvedMatch, IsStopWithin, Tries};
 
 use crate::matching::solve_by_search;
 use account_check::{CheckStop, Verdict, check};
+use account_core::PairableGraphs;
 use account_write::{Account, last_line};
-use command_words::{DEFAULT_BUDGET, DEFAULT_SEED, Trial};
 use gen_pair::{GenPair, make};
 use items::Items;
 use net_core::Graphs;
-use port_sides::PairableGraphs;
-use run_steps::{Ending, Outcome, report_line};
+use run_steps::{DEFAULT_BUDGET, DEFAULT_SEED, Ending, Outcome, Trial, report_line};
 use std::alloc::{AllocError, Global};
-use text_out::put_all;
+use text_core::put_all;
 use watch_core::Watch;
 
 /// Makes the pair of a number, looks for a match of it with the default budget and seed, writes the account of the match in

@@ -10,7 +10,7 @@ use Rattle.circuits.specs.declared.port.PortKind.{PortKind}
 use Rattle.net_core.specs.declared.graphs.Side.{Side}
 use Rattle.net_core.specs.declared.graphs.Side.TheVariants.{First, Second}
 use Rattle.account_core.specs.Tallies.{port_on}
-use Rattle.port_sides.specs.Held.{AreApart}
+use Rattle.account_core.specs.Held.{AreApart}
 use Rattle.pair_domains.specs.declared.entry.Entry.{Entry}
 use Rattle.pair_domains.specs.Numbers.{at_ports, pair_number, port_number, put_at_ports}
 use Rattle.pair_domains.specs.Trails.{Domained, AreEntries, IsFreePort, IsOpen, IsPairOf, held_in, is_at, is_held, ports_of}

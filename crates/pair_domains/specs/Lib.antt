@@ -3,4 +3,4 @@ pub mod Numbers
 pub mod Kept
 pub use Rattle.account_core.specs.Ports
 pub use Rattle.account_core.specs.Tallies
-pub use Rattle.port_sides.specs.Held
+pub use Rattle.account_core.specs.Held

@@ -7,7 +7,7 @@ use Rattle.circuits.specs.declared.port.PortKind.TheVariants.{Input, Output}
 use Rattle.net_core.specs.declared.graphs.Side.{Side}
 use Rattle.claim_core.specs.Images.{same_kind}
 use Rattle.account_core.specs.Tallies.{port_on}
-use Rattle.port_sides.specs.Held.{AreApart}
+use Rattle.account_core.specs.Held.{AreApart}
 use Rattle.pair_domains.specs.declared.entry.Entry.{Entry}
 use Rattle.pair_domains.specs.declared.entry.Fate.{Fate}
 use Rattle.pair_domains.specs.declared.entry.Reason.{Reason}

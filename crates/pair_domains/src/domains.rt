@@ -5,7 +5,7 @@ ghost use Rattle.circuits.specs.declared.port.Pair.{Pair as AnyPair};
 ghost use Rattle.net_core.specs.declared.graphs.Side.TheVariants.{First, Second};
 ghost use Rattle.pair_domains.specs.Kept.{TellsHeld, TellsPlace};
 ghost use Rattle.pair_domains.specs.Trails.{AreDomains, IsDeleted, IsFreePort, IsOpen, IsPairOf, gone_in, held_in, ports_of};
-ghost use Rattle.port_sides.specs.Held.{AreApart};
+ghost use Rattle.account_core.specs.Held.{AreApart};
 
 use crate::entry::{Cause, Entry, Fate, Reason};
 use crate::numbers::{pair_number, pairs_of_ports, port_number};

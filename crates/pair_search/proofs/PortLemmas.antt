@@ -7,16 +7,16 @@ use Rattle.circuits.specs.declared.port.Pair.{Pair}
 use Rattle.circuits.specs.declared.port.PortKind.{PortKind}
 use Rattle.net_core.specs.declared.graphs.Side.{Side}
 use Rattle.account_core.specs.Tallies.{port_on}
-use Rattle.port_covers.specs.Ways.{nth_way}
+use Rattle.ban_book.specs.Ways.{nth_way}
 use Rattle.pair_domains.specs.declared.entry.Entry.{Entry}
 use Rattle.pair_domains.specs.declared.entry.Fate.{Fate}
 use Rattle.pair_domains.specs.declared.entry.Fate.TheVariants.{Held, Deleted}
 use Rattle.pair_domains.specs.Trails.{IsDeleted, IsFreePort, IsOpen, held_in, is_at, is_held, ports_of}
 use Rattle.pair_domains.proofs.EntryLemmas.{at_of}
-use Rattle.conflict_core.specs.declared.port.Port.{Port}
-use Rattle.conflict_core.specs.Justified.{port_of}
-use Rattle.conflict_core.specs.Named.{EachWay, IsLeftOutOr}
-use Rattle.conflict_core.proofs.PivotLemmas.{held_with}
+use Rattle.pair_search.specs.declared.port.Port.{Port}
+use Rattle.pair_search.specs.Justified.{port_of}
+use Rattle.pair_search.specs.Named.{EachWay, IsLeftOutOr}
+use Rattle.pair_search.proofs.PivotLemmas.{held_with}
 use Rattle.circuits.proofs.Lists.{contains_cons}
 
 -- one more way is deleted

@@ -22,12 +22,12 @@ use Rattle.pair_domains.specs.declared.entry.Reason.TheVariants as reason
 use Rattle.pair_domains.specs.Numbers.{pairs_of_ports}
 use Rattle.pair_domains.specs.Trails.{AreEntries, Domained, IsOpen, IsPairOf, held_in, ports_of}
 use Rattle.ban_book.specs.Covering.{Covers}
-use Rattle.conflict_core.specs.Conflicts.{FitPorts, HasNoChoice, IsChoiceAt}
-use Rattle.conflict_core.specs.Grounded.{AreGrounded, IsGrounded, StayGrounded}
-use Rattle.conflict_core.specs.Justified.{AreJustified, IsJustified}
-use Rattle.conflict_core.proofs.GroundedLemmas.{grounded_front, stay_front, stay_none, stay_push, stay_twice}
-use Rattle.conflict_core.proofs.JustifiedLemmas.{held_append, justified_front, justified_push}
-use Rattle.conflict_core.proofs.PivotLemmas.{held_not_open}
+use Rattle.pair_search.specs.Conflicts.{FitPorts, HasNoChoice, IsChoiceAt}
+use Rattle.pair_search.specs.Grounded.{AreGrounded, IsGrounded, StayGrounded}
+use Rattle.pair_search.specs.Justified.{AreJustified, IsJustified}
+use Rattle.pair_search.proofs.GroundedLemmas.{grounded_front, stay_front, stay_none, stay_push, stay_twice}
+use Rattle.pair_search.proofs.JustifiedLemmas.{held_append, justified_front, justified_push}
+use Rattle.pair_search.proofs.PivotLemmas.{held_not_open}
 use Rattle.pair_search.specs.Progress.{IsTrail, Propagates, StaysJustified, is_choice, left, left_of, level_zero}
 use Rattle.pair_search.proofs.WeightLemmas.{few_entries, less_back, less_choice, less_push}
 

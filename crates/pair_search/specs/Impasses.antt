@@ -2,11 +2,11 @@
 use Rattle.std.specs.Prelude.{List, All, Option, Result, IfOk, IfSome, OnOk}
 use Rattle.account_core.specs.declared.step.Ban.{Ban}
 use Rattle.ban_book.specs.Covering.{Covers}
-use Rattle.port_covers.specs.declared.block.Block.{Block}
-use Rattle.port_covers.specs.Ways.{ways_in, IsBlock}
+use Rattle.ban_book.specs.declared.block.Block.{Block}
+use Rattle.ban_book.specs.Ways.{ways_in, IsBlock}
 use Rattle.pair_domains.specs.Trails.{Domained, IsDeleted, held_in, ports_of}
-use Rattle.conflict_core.specs.declared.port.Port.{Port}
-use Rattle.conflict_core.specs.Named.{EachWay, IsPortOf}
+use Rattle.pair_search.specs.declared.port.Port.{Port}
+use Rattle.pair_search.specs.Named.{EachWay, IsPortOf}
 use Rattle.pair_search.specs.Progress.{Propagates}
 use Rattle.pair_search.specs.declared.impasse.Impasse.{Impasse}
 use Rattle.pair_search.specs.declared.impasse.Impasse.TheVariants as impasse

@@ -1,6 +1,13 @@
 pub mod Progress
 pub mod Impasses
-pub use Rattle.conflict_core.specs.Conflicts
-pub use Rattle.conflict_core.specs.Grounded
-pub use Rattle.conflict_core.specs.Justified
 pub use Rattle.pair_domains.specs.Trails
+pub mod Named
+pub mod Resolutions
+pub mod Conflicts
+pub mod Justified
+pub mod Grounded
+pub mod Deletions
+pub mod Pivots
+pub use Rattle.account_core.specs.Held
+pub use Rattle.ban_book.specs.Ways
+pub use Rattle.pair_domains.specs.Kept

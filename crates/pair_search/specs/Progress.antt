@@ -8,9 +8,9 @@ use Rattle.pair_domains.specs.declared.entry.Fate.{Fate}
 use Rattle.pair_domains.specs.declared.entry.Fate.TheVariants.{Held, Deleted}
 use Rattle.pair_domains.specs.Numbers.{pairs_of_ports}
 use Rattle.pair_domains.specs.Trails.{Domained}
-use Rattle.conflict_core.specs.Grounded.{StayGrounded}
-use Rattle.conflict_core.specs.Justified.{IsJustifiedTrail}
-pub use Rattle.conflict_core.specs.Justified.{IsTrail}
+use Rattle.pair_search.specs.Grounded.{StayGrounded}
+use Rattle.pair_search.specs.Justified.{IsJustifiedTrail}
+pub use Rattle.pair_search.specs.Justified.{IsTrail}
 
 -- a pair was chosen, so that a level begins with it
 abbrev pub is_choice : Fate → Bool

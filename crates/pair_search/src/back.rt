@@ -2,19 +2,18 @@
 
 ghost use Rattle.std.specs.Prelude.{◌≡◌, ◌<◌, IfNone, IfOk, IfSome, OnOk};
 ghost use Rattle.account_core.specs.Shown.{IsEmptyBan};
-ghost use Rattle.conflict_core.specs.Conflicts.{IsBack, IsLearned};
-ghost use Rattle.conflict_core.specs.Grounded.{LearnsMore, StayGrounded};
-ghost use Rattle.conflict_core.specs.Justified.{IsJustifiedTrail};
+ghost use Rattle.pair_search.specs.Conflicts.{IsBack, IsLearned};
+ghost use Rattle.pair_search.specs.Grounded.{LearnsMore, StayGrounded};
+ghost use Rattle.pair_search.specs.Justified.{IsJustifiedTrail};
 ghost use Rattle.pair_search.specs.Impasses.{IsImpasse};
 ghost use Rattle.pair_search.specs.Progress.{IsTrail, StaysJustified, left, level_zero};
 
 use crate::impasse::{Impasse, conflict_of};
 use crate::queue::Queue;
-use account_core::Ban;
+use crate::{Back, LearnedBan, Mismatches, choice_between, resolve};
+use account_core::{Ban, PairableGraphs};
 use ban_book::BanBook;
-use conflict_core::{Back, LearnedBan, Mismatches, choice_between, resolve};
 use pair_domains::{Domains, Reason};
-use port_sides::PairableGraphs;
 use std::alloc::{AllocError, Global};
 
 /// Goes back from an impasse: resolves the conflict to a ban, and deletes its latest pair at the last choice before which

@@ -3,13 +3,13 @@
 ghost use Rattle.std.specs.Prelude.{◌≡◌, Contains, OnOk};
 ghost use Rattle.account_core.specs.Tallies.{port_on};
 ghost use Rattle.pair_domains.specs.Trails.{IsPairOf, held_in};
-ghost use Rattle.conflict_core.specs.Justified.{IsJustifiedTrail};
+ghost use Rattle.pair_search.specs.Justified.{IsJustifiedTrail};
 ghost use Rattle.pair_search.specs.Progress.{Propagates};
 
+use crate::Port;
 use crate::ports::way_of;
 use account_core::{Ban, port_on};
 use circuits::Pair;
-use conflict_core::Port;
 use net_core::Side;
 use pair_domains::{Domains, Reason};
 use std::alloc::AllocError;

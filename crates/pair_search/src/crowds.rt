@@ -1,14 +1,14 @@
 //! Ports that together have too few ways.
 
 ghost use Rattle.std.specs.Prelude.{All, IfOk, IfSome, IsTrue};
-ghost use Rattle.port_covers.specs.Ways.{IsBlock};
+ghost use Rattle.ban_book.specs.Ways.{IsBlock};
 ghost use Rattle.pair_domains.specs.Trails.{IsDeleted, IsPairOf, ports_of};
 ghost use Rattle.pair_search.specs.Impasses.{HasNoWays};
 
 use crate::partners::Partners;
+use ban_book::block::{Block, marked, ways_in};
 use circuits::{Pair, PortKind};
 use pair_domains::Domains;
-use port_covers::block::{Block, marked, ways_in};
 use std::alloc::{AllocError, Global};
 
 /// A block without ways, if there is one: ports of the first circuit that can go to fewer ports than they are, those that were

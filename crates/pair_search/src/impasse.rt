@@ -2,16 +2,16 @@
 
 ghost use Rattle.std.specs.Prelude.{◌≡◌, IfOk};
 ghost use Rattle.pair_domains.specs.Trails.{held_in};
-ghost use Rattle.conflict_core.specs.Conflicts.{IsConflict};
-ghost use Rattle.conflict_core.specs.Grounded.{LearnsMore};
-ghost use Rattle.conflict_core.specs.Justified.{IsTrail};
+ghost use Rattle.pair_search.specs.Conflicts.{IsConflict};
+ghost use Rattle.pair_search.specs.Grounded.{LearnsMore};
+ghost use Rattle.pair_search.specs.Justified.{IsTrail};
 ghost use Rattle.pair_search.specs.Impasses.{IsImpasse};
 
+use crate::{Conflict, Mismatches, Port, conflict_of_ban, cover_block, cover_port};
+use account_core::PairableGraphs;
 use ban_book::BanBook;
-use conflict_core::{Conflict, Mismatches, Port, conflict_of_ban, cover_block, cover_port};
+use ban_book::block::Block;
 use pair_domains::Domains;
-use port_covers::block::Block;
-use port_sides::PairableGraphs;
 use std::alloc::{AllocError, Global};
 
 /// Where a search doesn't go on.

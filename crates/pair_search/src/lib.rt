@@ -1,19 +1,33 @@
-//! A search over signed pairs: what follows of pairs that are held, which port is decided next, and going back from conflicts.
+//! A search over signed pairs.
 #![tactic(auto)]
 
 mod back;
 mod clashes;
+mod conflict;
 mod crowds;
+mod deletion;
+mod gather;
 mod impasse;
+mod learned;
+mod mismatch;
 mod partners;
+mod port;
 mod ports;
 mod propagation;
 mod queue;
+mod refer;
+mod resolution;
 mod units;
 
 pub use back::{start_over, turn_back};
+pub use conflict::{Conflict, conflict_of_ban, cover_block, cover_port};
+pub use deletion::{Deletion, deletion_of};
 pub use impasse::{Impasse, conflict_of};
+pub use learned::{Back, LearnedBan};
+pub use mismatch::Mismatches;
+pub use port::{Port, Resolved};
 pub use ports::{branch, way_of};
 pub use propagation::propagate;
 pub use queue::Queue;
+pub use resolution::{choice_between, resolve};
 pub use units::is_open;

@@ -2,21 +2,21 @@
 
 ghost use Rattle.std.specs.Prelude.{◌≡◌, ◌<◌, ◌≤◌, ◌*◌, ◌^◌, ℕ, ◌⊎◌, Contains, IfNone, IfOk, IfSome, IsTrue, OnOk, false};
 ghost use Rattle.net_core.specs.declared.graphs.Side.TheVariants.{First, Second};
-ghost use Rattle.port_covers.specs.Ways.{nth_way};
+ghost use Rattle.ban_book.specs.Ways.{nth_way};
 ghost use Rattle.account_core.specs.Tallies.{port_on};
 ghost use Rattle.pair_domains.specs.Trails.{IsDeleted, IsFreePort, IsOpen, IsPairOf, held_in, ports_of};
-ghost use Rattle.conflict_core.specs.Justified.{IsJustifiedTrail};
-ghost use Rattle.conflict_core.specs.Named.{IsPortOf};
+ghost use Rattle.pair_search.specs.Justified.{IsJustifiedTrail};
+ghost use Rattle.pair_search.specs.Named.{IsPortOf};
 ghost use Rattle.pair_search.specs.Impasses.{HasNoWay, IsImpasse};
 ghost use Rattle.pair_search.specs.Progress.{Propagates, StaysJustified, left};
 
+use crate::Port;
 use crate::impasse::Impasse;
 use account_core::Ban;
+use ban_book::ways::nth_way;
 use circuits::Pair;
-use conflict_core::Port;
 use net_core::Side;
 use pair_domains::{Cause, Domains, Reason};
-use port_covers::ways::nth_way;
 use std::alloc::AllocError;
 
 /// Where a port has one way left, which is open, holds it. It answers whether it has none.

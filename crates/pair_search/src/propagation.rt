@@ -2,9 +2,10 @@
 
 ghost use Rattle.std.specs.Prelude.{◌≡◌, ◌<◌};
 ghost use Rattle.pair_domains.specs.Trails.{ports_of};
-ghost use Rattle.conflict_core.specs.Justified.{IsJustifiedTrail};
+ghost use Rattle.pair_search.specs.Justified.{IsJustifiedTrail};
 ghost use Rattle.pair_search.specs.Impasses.{Follows};
 
+use crate::Port;
 use crate::clashes::delete_ways;
 use crate::crowds::crowd;
 use crate::impasse::Impasse;
@@ -13,7 +14,6 @@ use crate::queue::Queue;
 use crate::units::{apply, is_held, is_known};
 use account_core::{Ban, port_on};
 use circuits::Pair;
-use conflict_core::Port;
 use net_core::Side;
 use pair_domains::{Domains, Entry, Fate};
 use std::alloc::{AllocError, Global};

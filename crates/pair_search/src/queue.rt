@@ -1,10 +1,10 @@
 //! What is still to be propagated, and which bans a pair is in.
 
+use crate::Mismatches;
 use crate::partners::Partners;
 use crate::units::is_held;
 use account_core::Ban;
 use circuits::{Pair, PortKind};
-use conflict_core::Mismatches;
 use pair_domains::Domains;
 use std::alloc::{AllocError, Global};
 

@@ -3,7 +3,7 @@
 ghost use Rattle.std.specs.Prelude.{◌≡◌, ◌<◌, ◌∷◌, All, Contains, IfNone, IfOk, IsTrue, OnOk, length};
 ghost use Rattle.ban_book.specs.Covering.{Covers};
 ghost use Rattle.pair_domains.specs.Trails.{IsOpen, IsPairOf, held_in};
-ghost use Rattle.conflict_core.specs.Justified.{IsJustifiedTrail};
+ghost use Rattle.pair_search.specs.Justified.{IsJustifiedTrail};
 ghost use Rattle.pair_search.specs.Progress.{Propagates};
 
 use account_core::Ban;

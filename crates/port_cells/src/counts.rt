@@ -1,7 +1,7 @@
 //! How outputs hang on inputs, counted on vectors.
 
 use crate::cells::{empty_lists, port_at};
-use flip_sim::{FlipSim, Lanes, ones_in};
+use crate::{FlipSim, Lanes, ones_in};
 use items::Items;
 use std::alloc::{AllocError, Global};
 

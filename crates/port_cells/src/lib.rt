@@ -1,14 +1,23 @@
-//! Which ports of two circuits may correspond: cells of literals, and what is counted of them so that cells get finer.
+//! Cells of ports that may correspond, and what splits them.
 #![tactic(auto)]
 
 mod cells;
 mod counts;
+mod draws;
+mod fanout;
+mod lanes;
 mod links;
 mod mixing;
 mod profiles;
+mod simulator;
 
 pub use cells::{Cells, literal_of, port_at};
 pub use counts::{Counts, Influence, Tally};
+pub use draws::Draws;
+pub use lanes::{
+    Lanes, all_lanes, bit_of, blocks_of_all, ones_in, replicated, with_bit, word_of_all,
+};
 pub use links::{cell_at, input_keys, output_keys};
 pub use mixing::mix_lanes;
 pub use profiles::{Profile, Slack, input_profiles, near_keys, output_profiles};
+pub use simulator::FlipSim;

@@ -1,6 +1,6 @@
 //! Hashes of words.
 
-use flip_sim::Lanes;
+use crate::Lanes;
 use word_sim::mix;
 
 /// A hash of a word and of 256 bits.

@@ -3,11 +3,11 @@
 use Rattle.std.specs.Prelude.{ℕ, ◌+◌, ◌<◌, List, [], ◌∷◌, ◌++◌, length, codes, All}
 use Rattle.std.specs.Fmt.{decimal}
 use Rattle.net_file.specs.declared.named.Named.{Named}
-use Rattle.output_info.specs.declared.info.OutputInfo.{OutputInfo}
-use Rattle.output_info.specs.declared.info.Unate.{Unate}
-use Rattle.output_info.specs.declared.info.Unate.TheVariants.{Positive, Negative, Binate}
-use Rattle.output_info.specs.declared.info.Sym.{Sym}
-use Rattle.output_info.specs.declared.info.Sym.TheVariants.{Symmetric, Skew, Both}
+use Rattle.claim_core.specs.declared.info.OutputInfo.{OutputInfo}
+use Rattle.claim_core.specs.declared.info.Unate.{Unate}
+use Rattle.claim_core.specs.declared.info.Unate.TheVariants.{Positive, Negative, Binate}
+use Rattle.claim_core.specs.declared.info.Sym.{Sym}
+use Rattle.claim_core.specs.declared.info.Sym.TheVariants.{Symmetric, Skew, Both}
 use Rattle.port_report.specs.Reports.{PortNames, names_of, port_among}
 
 abbrev pub unate_word : Unate → List ℕ

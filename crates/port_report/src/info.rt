@@ -3,13 +3,13 @@
 ghost use Rattle.std.specs.Prelude.{◌≡◌, ◌<◌, ◌≤◌, [], ◌∷◌, ◌++◌, length, All, OnOk, OnErr};
 ghost use Rattle.port_report.specs.Infos.{IsInRange, count_line, info_text, input_line, input_lines, output_line, output_text, output_texts, pair_line, pair_lines, sym_word, unate_word};
 ghost use Rattle.port_report.specs.Reports.{names_of};
-ghost use Rattle.text_out.specs.Extends.{Extends};
+ghost use Rattle.text_core.specs.Extends.{Extends};
 
 use crate::table::put_port;
+use claim_core::{OutputInfo, Sym, Unate};
 use net_file::{Name, Named};
-use output_info::{OutputInfo, Sym, Unate};
 use std::alloc::AllocError;
-use text_out::{put_last_number, put_last_word, put_number, put_word};
+use text_core::{put_last_number, put_last_word, put_number, put_word};
 
 fn word_of_unate(unate: Unate) -> &'static [u8]
     ensures { result.now ≡ unate_word unate }

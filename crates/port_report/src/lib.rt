@@ -1,5 +1,5 @@
 //! Texts of reports.
-#![tactic(auto, using(text_out::proofs::Extending::extends_same, text_out::proofs::Extending::extends_twice))]
+#![tactic(auto, using(text_core::proofs::Extending::extends_same, text_core::proofs::Extending::extends_twice))]
 
 mod info;
 mod rejected;

@@ -1,10 +1,10 @@
 ghost use Rattle.std.specs.Prelude.{◌≡◌, [], ◌∷◌, ◌++◌, OnOk, OnErr};
 ghost use Rattle.std.specs.Fmt.{decimal};
 ghost use Rattle.port_report.specs.Reports.{rejected_text};
-ghost use Rattle.text_out.specs.Extends.{Extends};
+ghost use Rattle.text_core.specs.Extends.{Extends};
 
 use std::alloc::AllocError;
-use text_out::{put_last_word, put_number, put_text};
+use text_core::{put_last_word, put_number, put_text};
 
 /// Writes at the end of `out` that an account is rejected: the number of its first line that is wrong, counted from 1,
 /// and the word for what is wrong there. When out of memory,

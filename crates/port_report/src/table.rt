@@ -1,12 +1,12 @@
 ghost use Rattle.std.specs.Prelude.{◌≡◌, ◌<◌, ◌≤◌, [], ◌∷◌, ◌++◌, length, codes, if◌then◌else◌, All, OnOk, OnErr};
 ghost use Rattle.circuits.specs.Bijections.{IsSignedBijection};
 ghost use Rattle.port_report.specs.Reports.{port_among, entry_line, entry_lines, table_text, names_of};
-ghost use Rattle.text_out.specs.Extends.{Extends};
+ghost use Rattle.text_core.specs.Extends.{Extends};
 
 use net_core::Matching;
 use net_file::{Name, Named};
 use std::alloc::AllocError;
-use text_out::{put_number, put_text, put_word};
+use text_core::{put_number, put_text, put_word};
 
 /// Writes a matching at the end of `out` as a port table, which says where each port of the first circuit goes: a line
 /// for each input in order, then one for each output, as `input 0 a = not input 1 b`. Names are written byte for byte.

@@ -7,7 +7,7 @@ use Rattle.circuits.specs.Literals.{bit, signal_of}
 use Rattle.circuits.specs.Netlists.{Net}
 use Rattle.net_core.specs.Graph.{AreInOrder, IsGraph}
 use Rattle.net_core.specs.Cones.{Reaches, ReachesGate}
-use Rattle.number_marks.proofs.MarkLemmas.{marked_where}
+use Rattle.bit_list.proofs.MarkLemmas.{marked_where}
 use Rattle.claim_core.specs.declared.query.Feed.{Feed}
 use Rattle.claim_core.specs.contracts.query.FeedPartialEq.TheImpl.{eq-value as feed_eq}
 use Rattle.claim_core.specs.Formulas.{feeds_differ, reaching, same_feed}

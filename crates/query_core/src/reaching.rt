@@ -6,9 +6,9 @@ ghost use Rattle.net_core.specs.Graph.{AreInOrder};
 ghost use Rattle.claim_core.specs.ConeClauses.{AreReached, IsSomeCone};
 ghost use Rattle.claim_core.specs.Formulas.{feeds_differ, reaching, reaches};
 
+use bit_list::Marks;
 use claim_core::{Feeds, Query};
 use net_core::{Gate, Graph};
-use number_marks::Marks;
 use std::alloc::{AllocError, Global};
 
 /// Whether each signal of the right circuit reaches an input whose two feeds differ.

@@ -7,9 +7,9 @@ ghost use Rattle.claim_core.specs.Queries.{IsQuery, bits_in, circuit_of};
 ghost use Rattle.query_core.specs.Variables.{AreFor, HasGate, variable_at, variables_in};
 
 use crate::reaching::{reaches, reaches_in_cone};
+use bit_list::Marks;
 use claim_core::Query;
 use net_core::Graphs;
-use number_marks::Marks;
 use std::alloc::{AllocError, Global};
 
 /// The variables that stand for a circuit's gates.

@@ -6,7 +6,7 @@ use crate::pieces::{Seek, Wanted};
 use account_core::{Ban, Conclusion, FactHead, Step};
 use account_file::{FileStop, Reader, Record};
 use claim_core::Claim;
-use shelf_files::ReadStop;
+use run_steps::ReadStop;
 use std::alloc::Global;
 
 /// Takes an account's records, one after another.

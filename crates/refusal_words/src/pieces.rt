@@ -3,8 +3,8 @@
 ghost use Rattle.std.specs.Prelude.{ℕ, ◌≡◌, List, OnOk};
 ghost use Rattle.shelf_core.specs.State.{Closed, Reading};
 
+use run_steps::{PIECE, ReadStop, zeros};
 use shelf_core::Shelf;
-use shelf_files::{PIECE, ReadStop, zeros};
 use std::alloc::Global;
 
 /// Whether more of a file is wanted.

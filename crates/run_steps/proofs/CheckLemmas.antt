@@ -14,7 +14,7 @@ use Rattle.account_check.specs.declared.verdict.Why.{Why}
 use Rattle.account_check.proofs.VerdictLemmas.{one_rejection, one_proved, never_both}
 use Rattle.run_steps.specs.Circuits.{IsCircuit, IsCircuitFault}
 use Rattle.query_core.specs.Ledgers.{Ledgered}
-use Rattle.command_words.specs.Words.{AsksCheck, AsksInfo, AsksMatch, AskNothing, NameThree, ReadFiles, Sought}
+use Rattle.run_steps.specs.Words.{AsksCheck, AsksInfo, AsksMatch, AskNothing, NameThree, ReadFiles, Sought}
 use Rattle.run_steps.specs.Match.{HasNoMatch, IsAskedToMatch, IsMatchFound, IsSought, IsSpentOnTwo}
 use Rattle.circuits.specs.Matches.{AreNpnpEqual}
 use Rattle.run_steps.specs.Check.{IsAsked, HasAccount, LacksAccount}
@@ -24,19 +24,19 @@ use Rattle.net_file.specs.declared.named.Named.{Named}
 use Rattle.shelf_core.specs.State.{ShelfState, Closed}
 use Rattle.run_steps.specs.Report.{IsReport}
 use Rattle.run_steps.specs.Steps.{ReadAs, IsVerdict, IsEarly, IsOfReading, IsStopOf, IsUnwritten, ReadsNetlist, Decides}
-use Rattle.command_words.specs.declared.words.Command.{Command}
+use Rattle.run_steps.specs.declared.words.Command.{Command}
 use Rattle.run_steps.specs.Stops.{outcome_of}
 use Rattle.run_steps.specs.declared.outcome.Ending.{Ending}
-use Rattle.shelf_files.specs.declared.files.ReadStop.{ReadStop}
-use Rattle.shelf_files.specs.declared.files.ReadStop.TheVariants as stop
+use Rattle.run_steps.specs.declared.files.ReadStop.{ReadStop}
+use Rattle.run_steps.specs.declared.files.ReadStop.TheVariants as stop
 use Rattle.run_steps.proofs.CircuitLemmas.{one_circuit, circuit_or_fault, one_circuit_fault, few_ports, circuit_acyclic}
 use Rattle.run_steps.proofs.OutcomeLemmas.{EndsRun, of_reading, of_unwritten}
 use Rattle.run_steps.specs.declared.outcome.Which.{Which}
 use Rattle.run_steps.specs.declared.outcome.Which.TheVariants.{First, Second, Account}
 use Rattle.run_steps.specs.declared.outcome.Outcome.{Outcome}
 use Rattle.run_steps.specs.declared.outcome.Outcome.TheVariants.{AcceptedMatch, AcceptedRefusal, Rejected, Matched, NoMatching, Spent, Usage, Absent, TooLarge, Malformed, Informed, Made, Tried, ReadFault, WriteFault, Memory}
-use Rattle.command_words.proofs.FormLemmas.{names_one, file_named, sought_one, check_or_info, match_or_info, check_or_match, read_or_make, read_or_trial, reads_of}
-use Rattle.command_words.specs.Commands.{Ask, IsReadingCommand}
+use Rattle.run_steps.proofs.FormLemmas.{names_one, file_named, sought_one, check_or_info, match_or_info, check_or_match, read_or_make, read_or_trial, reads_of}
+use Rattle.run_steps.specs.Commands.{Ask, IsReadingCommand}
 
 -- one name holds one netlist, or one thing that ends the check
 

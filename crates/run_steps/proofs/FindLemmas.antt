@@ -9,7 +9,7 @@ use Rattle.shelf_core.specs.State.{ShelfState}
 use Rattle.shelf_core.specs.declared.outside.ShelfStop.{ShelfStop}
 use Rattle.shelf_core.specs.declared.outside.ShelfStop.TheVariants.{Failed, Memory}
 use Rattle.account_check.specs.declared.verdict.Verdict.TheVariants as verdict
-use Rattle.shelf_files.specs.Files.{HoldsFirst, WritesFile}
+use Rattle.run_steps.specs.Files.{HoldsFirst, WritesFile}
 use Rattle.run_steps.specs.Report.{HasMatching, report_on}
 use Rattle.run_steps.specs.Stops.{unwritten}
 use Rattle.run_steps.specs.Steps.{Concludes, Finds, IsAnswered, IsCutOf, IsMatchIfAny, IsStopOfMatch, IsStopWithin, IsUnwritten, graphs_of}

@@ -9,9 +9,9 @@ use Rattle.run_steps.proofs.CheckLemmas.{follows_files, stopped}
 use Rattle.run_steps.proofs.OutcomeLemmas.{no_fault, of_stop, stop_line}
 use Rattle.run_steps.specs.Info.{with_itself}
 use Rattle.run_steps.specs.Steps.{Decides, InformsOf, IsEnding, IsReadFrom, IsStopWithin, netlist_of}
-use Rattle.command_words.specs.Commands.{asked_info}
-use Rattle.command_words.specs.Words.{AsksInfo}
-use Rattle.command_words.specs.declared.words.Info.{Info as InfoWords}
+use Rattle.run_steps.specs.Commands.{asked_info}
+use Rattle.run_steps.specs.Words.{AsksInfo}
+use Rattle.run_steps.specs.declared.words.Info.{Info as InfoWords}
 use Rattle.run_steps.specs.declared.outcome.Ending.{Ending}
 use Rattle.run_steps.specs.declared.outcome.Outcome.{Outcome}
 use Rattle.run_steps.specs.declared.outcome.Outcome.TheVariants.{Informed}

@@ -15,10 +15,10 @@ use Rattle.account_check.specs.declared.verdict.Why.{Why}
 use Rattle.account_check.proofs.RefusalLemmas.{right_refusal}
 use Rattle.run_steps.specs.Judging.{FeedsNext, FeedsRest, JudgesRest, halt_of}
 use Rattle.run_steps.specs.Steps.{IsJudged, IsMatchIfAny, IsUnequalIfRefused, IsVerdict, Judges}
-use Rattle.shelf_files.specs.Files.{HasUnread}
-use Rattle.shelf_files.specs.Stops.{stop_of}
-use Rattle.shelf_files.specs.declared.files.ReadStop.{ReadStop}
-use Rattle.shelf_files.specs.declared.files.ReadStop.TheVariants as stop
+use Rattle.run_steps.specs.Files.{HasUnread}
+use Rattle.run_steps.specs.ReadStops.{stop_of}
+use Rattle.run_steps.specs.declared.files.ReadStop.{ReadStop}
+use Rattle.run_steps.specs.declared.files.ReadStop.TheVariants as stop
 use Rattle.run_steps.specs.declared.judging.Halt.{Halt}
 use Rattle.run_steps.specs.declared.judging.Halt.TheVariants as halt
 use Rattle.run_steps.specs.declared.outcome.Outcome.{Outcome}

@@ -10,3 +10,7 @@ pub mod OutcomeLemmas
 pub mod PairLemmas
 pub mod Soundness
 pub mod TryingLemmas
+pub mod FormLemmas
+pub mod WordLemmas
+pub mod Reading
+pub mod WritingLemmas

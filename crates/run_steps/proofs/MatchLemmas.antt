@@ -15,18 +15,18 @@ use Rattle.run_steps.specs.Held.{HoldsGraph}
 use Rattle.run_steps.specs.Match.{HoldsPart, IsProved, IsSought, NamesAccount}
 use Rattle.run_steps.specs.Make.{HoldsPair, HoldsPartOfPair, NamesPair, WriteFiles}
 use Rattle.run_steps.specs.Outcomes.{FollowsWords, IsRight, IsSound, Leaves, LeavesFiles, MayBeCut}
-use Rattle.command_words.specs.Commands.{Ask, IsWritingCommand, IsNotWritten, asked_match, sought_by, wanted_by}
+use Rattle.run_steps.specs.Commands.{Ask, IsWritingCommand, IsNotWritten, asked_match, sought_by, wanted_by}
 use Rattle.run_steps.specs.Steps.{Decides, Finds, IsAnswered, IsCutOf, IsEarly, IsEnding, IsReadFrom, IsStopOfMatch, IsStopWithin, graphs_of, netlist_of}
-use Rattle.command_words.specs.Words.{AsksMatch, ReadFiles, check_words}
-use Rattle.command_words.specs.declared.words.Match.{Match as MatchWords}
-use Rattle.command_words.specs.declared.words.Command.{Command}
-use Rattle.command_words.specs.declared.words.Command.TheVariants.{Match, Make}
+use Rattle.run_steps.specs.Words.{AsksMatch, ReadFiles, check_words}
+use Rattle.run_steps.specs.declared.words.Match.{Match as MatchWords}
+use Rattle.run_steps.specs.declared.words.Command.{Command}
+use Rattle.run_steps.specs.declared.words.Command.TheVariants.{Match, Make}
 use Rattle.run_steps.specs.declared.outcome.Ending.{Ending}
 use Rattle.run_steps.specs.declared.outcome.Outcome.{Outcome}
 use Rattle.run_steps.specs.declared.outcome.Outcome.TheVariants.{Matched, NoMatching, Informed, Made, ReadFault, WriteFault, Memory}
 use Rattle.run_steps.proofs.CheckLemmas.{follows_files, follows_unwritten, leaves_early}
 use Rattle.run_steps.proofs.OutcomeLemmas.{early_unwritten, no_fault, of_answer, of_stop, of_unwritten, stop_line}
-use Rattle.command_words.proofs.FormLemmas.{names_one, reads_of, check_of}
+use Rattle.run_steps.proofs.FormLemmas.{names_one, reads_of, check_of}
 
 -- a whole account is its first part
 part_of : (held : List ℕ → Option (List ℕ)) (words : List (List ℕ)) (proved : Verdict) → IsProved held words proved → HoldsPart held words

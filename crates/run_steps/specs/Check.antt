@@ -7,7 +7,7 @@ use Rattle.account_check.specs.declared.verdict.Why.{Why}
 use Rattle.net_core.specs.Sides.{Graphs}
 use Rattle.net_core.specs.declared.matching.Matching.{Matching}
 use Rattle.run_steps.specs.Held.{Netlist, HoldsNetlist, HoldsGraph}
-use Rattle.command_words.specs.Words.{AsksCheck}
+use Rattle.run_steps.specs.Words.{AsksCheck}
 
 -- The words ask for a check of two files that are netlists, and of the account under a name.
 pub record IsAsked (held : List ℕ → Option (List ℕ)) (words : List (List ℕ)) (first second : Netlist) (account_name : List ℕ) : Type 0 where

@@ -7,9 +7,9 @@ use Rattle.net_core.specs.Sides.{Graphs}
 use Rattle.net_file.specs.declared.named.Named.{Named}
 use Rattle.query_core.specs.Ledgers.{Ledgered, learned_in, lines_in}
 use Rattle.oracle_core.specs.Work.{IsWorkOfClaimsAndMatches}
-use Rattle.output_info.specs.declared.info.OutputInfo.{OutputInfo}
+use Rattle.claim_core.specs.declared.info.OutputInfo.{OutputInfo}
 use Rattle.port_report.specs.Infos.{info_text}
-use Rattle.output_info.specs.Rows.{AreRowsOf}
+use Rattle.claim_core.specs.Rows.{AreRowsOf}
 
 -- The text says of each output of the circuit what is true of what it computes, with the numbers of its ports and of the
 -- gates of its graph, and these names of its ports.

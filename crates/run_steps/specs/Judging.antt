@@ -9,8 +9,8 @@ use Rattle.account_check.specs.declared.verdict.Why.{Why}
 use Rattle.account_check.specs.Checking.{HasTaken, Progress}
 use Rattle.account_check.specs.Verdicts.{IsRejected as IsBadAt}
 use Rattle.run_steps.specs.Steps.{IsJudged, IsMatchIfAny, IsVerdict}
-use Rattle.shelf_files.specs.declared.files.ReadStop.{ReadStop}
-use Rattle.shelf_files.specs.declared.files.ReadStop.TheVariants as stop
+use Rattle.run_steps.specs.declared.files.ReadStop.{ReadStop}
+use Rattle.run_steps.specs.declared.files.ReadStop.TheVariants as stop
 use Rattle.run_steps.specs.declared.judging.Halt.{Halt}
 use Rattle.run_steps.specs.declared.judging.Halt.TheVariants as halt
 use Rattle.run_steps.specs.declared.outcome.Outcome.{Outcome}

@@ -17,12 +17,14 @@ pub use Rattle.port_report.specs.Reports
 pub use Rattle.port_report.specs.Infos
 pub use Rattle.query_core.specs.Ledgers
 pub use Rattle.oracle_core.specs.Work
-pub use Rattle.output_info.specs.Rows
+pub use Rattle.claim_core.specs.Rows
 pub use Rattle.account_write.specs.Records
 pub use Rattle.gen_pair.specs.Names
 pub use Rattle.gen_pair.specs.Pairs
 pub use Rattle.net_print.specs.BlifLines
 pub use Rattle.net_print.specs.Files as PrintedFiles
-pub use Rattle.shelf_files.specs.Files
-pub use Rattle.command_words.specs.Words
-pub use Rattle.command_words.specs.Commands
+pub mod Commands
+pub mod Words
+pub use Rattle.text_core.specs.Numbers
+pub mod Files
+pub mod ReadStops

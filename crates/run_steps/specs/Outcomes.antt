@@ -10,7 +10,7 @@ use Rattle.run_steps.specs.Info.{IsSpentOf, with_itself}
 use Rattle.run_steps.specs.Match.{HasNoMatch, HoldsPart, IsMatchFound, IsProved, IsSpentOnTwo}
 use Rattle.run_steps.specs.Make.{HoldsPair, HoldsPartOfPair}
 use Rattle.run_steps.specs.Trial.{IsSpentOnPair, IsSpentOnPairOf, IsTried}
-use Rattle.command_words.specs.Words.{AskForPair, AsksInfo, AskNothing, AsksTrial, NameThree, ReadFiles}
+use Rattle.run_steps.specs.Words.{AskForPair, AsksInfo, AskNothing, AsksTrial, NameThree, ReadFiles}
 use Rattle.run_steps.specs.declared.outcome.Which.{Which}
 use Rattle.run_steps.specs.declared.outcome.Which.TheVariants.{First, Second, Account}
 use Rattle.run_steps.specs.declared.outcome.Outcome.{Outcome}

@@ -12,7 +12,7 @@ use Rattle.run_steps.specs.Check.{IsAsked}
 use Rattle.run_steps.specs.Held.{Netlist, HoldsNetlist}
 use Rattle.run_steps.specs.Match.{IsSought}
 use Rattle.run_steps.specs.Info.{IsInfoText}
-use Rattle.command_words.specs.Words.{AsksInfo}
+use Rattle.run_steps.specs.Words.{AsksInfo}
 use Rattle.run_steps.specs.declared.outcome.Which.{Which}
 use Rattle.run_steps.specs.declared.outcome.Which.TheVariants.{First, Second, Account}
 use Rattle.run_steps.specs.declared.outcome.Outcome.{Outcome}

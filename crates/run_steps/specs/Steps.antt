@@ -16,7 +16,7 @@ use Rattle.account_check.specs.declared.verdict.Verdict.{Verdict}
 use Rattle.account_check.specs.declared.verdict.Verdict.TheVariants as verdict
 use Rattle.port_report.specs.Reports.{names_of}
 use Rattle.run_steps.specs.Circuits.{IsCircuit, IsCircuitFault}
-use Rattle.shelf_files.specs.Files.{HoldsFirst}
+use Rattle.run_steps.specs.Files.{HoldsFirst}
 use Rattle.run_steps.specs.Info.{IsInfoText, IsSpentOf, with_itself}
 use Rattle.run_steps.specs.Held.{Netlist, HoldsNetlist}
 use Rattle.run_steps.specs.Make.{IsCutFrom}
@@ -27,11 +27,11 @@ use Rattle.run_steps.specs.declared.outcome.Which.{Which}
 use Rattle.run_steps.specs.declared.outcome.Which.TheVariants.{Account}
 use Rattle.run_steps.specs.declared.outcome.Outcome.{Outcome}
 use Rattle.run_steps.specs.declared.outcome.Outcome.TheVariants.{AcceptedMatch, AcceptedRefusal, Rejected, Matched, NoMatching, Spent, Usage, Absent, Malformed, Informed, Made, Tried, ReadFault, WriteFault, Memory}
-use Rattle.command_words.specs.declared.words.Command.{Command}
-use Rattle.shelf_files.specs.declared.files.ReadStop.{ReadStop}
-use Rattle.shelf_files.specs.declared.files.ReadStop.TheVariants as stop
+use Rattle.run_steps.specs.declared.words.Command.{Command}
+use Rattle.run_steps.specs.declared.files.ReadStop.{ReadStop}
+use Rattle.run_steps.specs.declared.files.ReadStop.TheVariants as stop
 use Rattle.run_steps.specs.declared.outcome.Ending.{Ending}
-use Rattle.command_words.specs.Commands.{Ask, IsNotWritten, IsWritingCommand}
+use Rattle.run_steps.specs.Commands.{Ask, IsNotWritten, IsWritingCommand}
 
 -- an outcome that ends a run early: it has a line, and is no answer and none of the words alone
 pub record IsEarly (outcome : Outcome) : Type 0 where

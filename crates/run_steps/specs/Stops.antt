@@ -1,8 +1,8 @@
 -- What ends a run where a file isn't read or written.
 use Rattle.shelf_core.specs.declared.outside.ShelfStop.{ShelfStop}
 use Rattle.shelf_core.specs.declared.outside.ShelfStop.TheVariants.{Failed, Memory}
-use Rattle.shelf_files.specs.declared.files.ReadStop.{ReadStop}
-use Rattle.shelf_files.specs.declared.files.ReadStop.TheVariants as stop
+use Rattle.run_steps.specs.declared.files.ReadStop.{ReadStop}
+use Rattle.run_steps.specs.declared.files.ReadStop.TheVariants as stop
 use Rattle.run_steps.specs.declared.outcome.Outcome.{Outcome}
 use Rattle.run_steps.specs.declared.outcome.Outcome.TheVariants as outcome
 

@@ -2,14 +2,14 @@
 
 ghost use Rattle.std.specs.Prelude.{◌≡◌};
 ghost use Rattle.shelf_core.specs.State.{Closed};
-ghost use Rattle.command_words.specs.Commands.{asked_check};
+ghost use Rattle.run_steps.specs.Commands.{asked_check};
 ghost use Rattle.run_steps.specs.Steps.{Decides};
 
+use crate::Check;
 use crate::judging::judge;
 use crate::netlists::read_netlist;
 use crate::outcome::{Ending, Outcome, Which};
 use crate::report::report_named;
-use command_words::Check;
 use shelf_core::Shelf;
 use std::alloc::Global;
 use watch_core::Watch;

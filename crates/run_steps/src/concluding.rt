@@ -7,9 +7,9 @@ ghost use Rattle.run_steps.specs.Steps.{Concludes};
 ghost use Rattle.run_steps.specs.Stops.{unwritten};
 
 use crate::outcome::{Ending, Outcome};
+use crate::write_account;
 use account_write::Account;
 use shelf_core::{Shelf, ShelfStop};
-use shelf_files::write_account;
 use std::alloc::Global;
 
 /// Writes an account, and ends the run by its answer where it was written.

@@ -4,16 +4,16 @@ ghost use Rattle.std.specs.Prelude.{ℕ, List, ◌≡◌, ◌≢◌, ◌+◌, �
 ghost use Rattle.net_core.specs.Sides.{Graphs as TwoGraphs};
 ghost use Rattle.account_check.specs.Checking.{HasTaken, IsUnderWay};
 ghost use Rattle.shelf_core.specs.State.{Closed, Reading};
-ghost use Rattle.shelf_files.specs.Files.{HasUnread};
+ghost use Rattle.run_steps.specs.Files.{HasUnread};
 ghost use Rattle.run_steps.specs.Judging.{FeedsNext, FeedsRest, JudgesRest};
 ghost use Rattle.run_steps.specs.Steps.{IsJudged, IsMatchIfAny, IsVerdict, Judges, graphs_of};
 
 use crate::outcome::{Outcome, Which};
+use crate::{PIECE, ReadStop, zeros};
 use account_check::{AccountCheck, CheckStop, Verdict, Why};
 use net_core::Graphs;
 use net_file::Named;
 use shelf_core::{Shelf, ShelfStop};
-use shelf_files::{PIECE, ReadStop, zeros};
 use std::alloc::Global;
 use watch_core::{Stage, Watch};
 
@@ -27,7 +27,7 @@ pub enum Halt {
 }
 
 impl From<ShelfStop> for Halt {
-    ghost use Rattle.shelf_files.specs.Stops.{stop_of};
+    ghost use Rattle.run_steps.specs.ReadStops.{stop_of};
     ghost use Rattle.run_steps.specs.declared.judging.Halt.TheVariants as halt;
 
     ghost from_gives = { λ stop e. e ≡ halt.Stop (stop_of stop) };

@@ -6,19 +6,18 @@ ghost use Rattle.net_print.specs.Files.{aig_text};
 ghost use Rattle.shelf_core.specs.State.{Closed};
 ghost use Rattle.run_steps.specs.Make.{IsDrawn};
 ghost use Rattle.run_steps.specs.Steps.{Decides, WritesPair, WritesText};
-ghost use Rattle.command_words.specs.Commands.{asked_make};
+ghost use Rattle.run_steps.specs.Commands.{asked_make};
 
 use crate::concluding::unwritten;
 use crate::outcome::{Ending, Outcome};
 use crate::report::report_line;
-use command_words::Make;
+use crate::{Make, write_text};
 use gen_pair::{GenPair, make};
 use net_core::Graphs;
 use net_print::{AigParts, BlifParts};
 use shelf_core::Shelf;
-use shelf_files::write_text;
 use std::alloc::{AllocError, Global};
-use text_out::Parts;
+use text_core::Parts;
 
 /// Makes the pair of a number, and writes the first netlist in the binary form of AIGER and the second as BLIF. The error
 /// is an outcome whose report is one line: memory ran out, or a file was not written.

@@ -7,9 +7,9 @@ ghost use Rattle.run_steps.specs.Circuits.{BeginsAsAiger, IsCircuitFault};
 ghost use Rattle.run_steps.specs.Steps.{ReadAs, ReadsNetlist, IsStopOf};
 
 use crate::outcome::{Outcome, Which};
+use crate::{File, read_file};
 use net_file::{Named, NetStop};
 use shelf_core::Shelf;
-use shelf_files::{File, read_file};
 use std::alloc::Global;
 use watch_core::{Stage, Watch};
 

@@ -3,12 +3,12 @@
 ghost use Rattle.std.specs.Prelude.{◌≡◌};
 ghost use Rattle.run_steps.specs.Status.{status_of};
 
+use crate::ReadStop;
 use account_check::Why;
 use items::Items;
 use net_core::Matching;
 use net_file::NetKind;
 use query_core::Ledger;
-use shelf_files::ReadStop;
 use std::alloc::AllocError;
 
 /// A file of the command line.

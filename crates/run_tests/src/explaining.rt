@@ -346,7 +346,7 @@ fn tells_its_version(rt: HostRuntime) -> Result<(), Fail> {
     let text = Notice::Version.to_string(rt.alloc())?;
     assert_eq!(rt;
         text.as_str(),
-        "npnp 0.4.0 (rattle-kit-13b logic dac8208d650f15bf)\n"
+        "npnp 0.4.0 (rattle-kit-13f logic dac8208d650f15bf)\n"
     );
     Ok(())
 }

@@ -4,12 +4,11 @@ ghost use Rattle.std.specs.Prelude.{IsTrue};
 ghost use Rattle.claim_core.specs.Claims.{IsClaim, IsPlaced};
 
 use crate::sample_circuits::{AND, AND_OF_THREE, Sample, WIRE, are_small, drawn_pair, pair};
-use account_core::{Evidence, Fact};
+use account_core::{Evidence, Fact, PairableGraphs};
 use cnf_core::Stop;
 use fact_tests::FactBook;
 use net_core::{Graph, Graphs, Side};
 use oracle_core::Oracle;
-use port_sides::PairableGraphs;
 use query_core::{Claim, Ledger, Shape};
 use samples::output_on;
 use std::alloc::{AllocError, Global};

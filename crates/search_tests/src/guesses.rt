@@ -3,13 +3,13 @@
 ghost use Rattle.std.specs.Prelude.{◌≡◌, ◌<◌};
 
 use crate::sample_circuits::{AND, OR, Sample, XOR, moved_pair, pair};
-use flip_sim::Draws;
+use account_core::PairableGraphs;
+use match_guess::{Effort, Guesser, Trials};
 use net_core::{Graphs, Matching};
-use port_sides::PairableGraphs;
+use port_cells::Draws;
 use samples::output_on;
 use std::alloc::{AllocError, Global};
 use std::test::Fail;
-use table_guess::{Effort, Guesser, Trials};
 
 /// What is guessed of two small circuits.
 fn guessed(alloc: Global, graphs: &Graphs<'_>, seed: u64) -> Result<Option<Matching>, AllocError> {

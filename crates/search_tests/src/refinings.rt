@@ -3,8 +3,8 @@
 ghost use Rattle.std.specs.Prelude.{◌≡◌, [], IfOk, IsTrue, List, OnOk, false};
 ghost use Rattle.account_core.specs.Given.{Decided as AnyFact};
 ghost use Rattle.pair_domains.specs.Trails.{IsFreePort, IsOpen, IsPairOf};
-ghost use Rattle.conflict_core.specs.Grounded.{AreGrounded};
-ghost use Rattle.conflict_core.specs.Justified.{IsTrail};
+ghost use Rattle.pair_search.specs.Grounded.{AreGrounded};
+ghost use Rattle.pair_search.specs.Justified.{IsTrail};
 ghost use Rattle.net_core.specs.declared.graphs.Side.TheVariants as AnySide;
 ghost use Rattle.oracle_core.specs.Oracles.{Suits};
 ghost use Rattle.query_core.specs.Ledgers.{Ledgered};
@@ -12,7 +12,7 @@ ghost use Rattle.query_core.specs.Ledgers.{Ledgered};
 use crate::sample_circuits::{
     AND, Sample, WIRE_OF_ONE, XOR, ZERO_OF_ONE, are_small, pair, port_pair,
 };
-use account_core::Ban;
+use account_core::{Ban, PairableGraphs};
 use ban_book::BanBook;
 use circuits::{Pair, PortKind};
 use class_refine::{Refined, refine};
@@ -22,7 +22,6 @@ use net_core::{Graphs, Side};
 use oracle_core::Oracle;
 use pair_domains::{Cause, Domains};
 use pair_search::is_open;
-use port_sides::PairableGraphs;
 use query_core::Ledger;
 use std::alloc::{AllocError, Global};
 use std::test::Fail;

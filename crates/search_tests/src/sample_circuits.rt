@@ -2,8 +2,8 @@
 
 ghost use Rattle.std.specs.Prelude.{◌≤◌, IsTrue};
 
+use account_core::PairableGraphs;
 use net_core::Graph;
-use port_sides::PairableGraphs;
 use rand_pcg::Pcg32;
 use samples::{GraphPair, SampleFault, drawn, drawn_over, graph};
 use std::alloc::Global;

@@ -5,14 +5,13 @@ ghost use Rattle.oracle_core.specs.Oracles.{Suits};
 ghost use Rattle.query_core.specs.Ledgers.{Ledgered};
 
 use crate::sample_circuits::{AND, OR, Sample, WIRE_OF_ONE, XOR, ZERO_OF_ONE, are_small, pair};
-use account_core::{Ban, Fact, Step};
+use account_core::{Ban, Fact, PairableGraphs, Step};
 use ban_book::BanBook;
 use cnf_core::Stop;
 use fact_tests::FactBook;
 use match_search::{Found, search};
 use net_core::Graphs;
 use oracle_core::Oracle;
-use port_sides::PairableGraphs;
 use query_core::{Ledger, Shape};
 use std::alloc::{AllocError, Global};
 use std::test::Fail;

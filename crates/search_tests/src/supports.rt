@@ -1,10 +1,10 @@
 //! Supports of outputs, and how many claims are decided for them.
 
 use crate::sample_circuits::{AND_OF_THREE, Sample, WIRE, pair};
+use claim_core::{OutputInfo, Unate};
 use fact_tests::{FactBook, info};
 use net_core::Graphs;
 use oracle_core::Oracle;
-use output_info::{OutputInfo, Unate};
 use query_core::Ledger;
 use std::alloc::{AllocError, Global};
 use std::test::Fail;

@@ -10,7 +10,7 @@ use Rattle.claim_core.specs.declared.query.Query.{Query}
 use Rattle.claim_core.specs.Queries.{circuit_of}
 use Rattle.claim_core.specs.Formulas.{clauses_by, formula_of, half_clauses, left_literals, output_literal, query_clauses, right_literals}
 use Rattle.claim_core.proofs.FormulaLemmas.{clause_count, clause_of_left, clause_of_right}
-use Rattle.log_parts.specs.Parts.{HaveCommon}
+use Rattle.shared_lemmas.specs.Parts.{HaveCommon}
 use Rattle.shared_lemmas.specs.Shared.{HaveSameFeeds}
 
 -- all clauses but the last two don't depend on the outputs

@@ -2,3 +2,5 @@ pub mod FormulaLemmas
 pub mod SharedLaws
 pub mod AnswerLemmas
 pub mod PaidLemmas
+pub mod PartLemmas
+pub mod PlaceLemmas

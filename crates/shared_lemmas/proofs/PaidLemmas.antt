@@ -16,7 +16,7 @@ use Rattle.query_core.specs.declared.ledger.Asked.{Asked}
 use Rattle.query_core.specs.Ledgers.{Ledgered, charged_front, entry_of, last_asked, nothing_asked, opened, with_lines}
 use Rattle.joint_hash.specs.declared.gates.ConeGate.{ConeGate}
 use Rattle.joint_hash.specs.Merging.{AreBetween, AreLemmas, IsImplication, IsInner}
-use Rattle.log_parts.specs.Parts.{AreWritten, HaveCommon, IsWrittenAs, IsWrittenOf}
+use Rattle.shared_lemmas.specs.Parts.{AreWritten, HaveCommon, IsWrittenAs, IsWrittenOf}
 use Rattle.ask_core.specs.declared.question.Answer.{Answer}
 use Rattle.ask_core.specs.declared.question.Answer.TheVariants.{Vector, Refuted}
 use Rattle.ask_core.specs.Answers.{IsAskedWith, IsPaidFor}

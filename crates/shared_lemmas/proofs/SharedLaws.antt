@@ -7,7 +7,7 @@ use Rattle.cnf_core.specs.Derivations.{AreDerived}
 use Rattle.net_core.specs.Sides.{Graphs}
 use Rattle.claim_core.specs.declared.query.Query.{Query}
 use Rattle.claim_core.specs.Formulas.{formula_of, query_clauses}
-use Rattle.log_parts.specs.Parts.{GoesOn, HaveCommon}
+use Rattle.shared_lemmas.specs.Parts.{GoesOn, HaveCommon}
 use Rattle.shared_lemmas.specs.Shared.{AreShared, HaveSameFeeds, HoldUnder, IsUnder}
 use Rattle.shared_lemmas.proofs.FormulaLemmas.{feeds_common}
 

@@ -9,7 +9,7 @@ use Rattle.claim_core.specs.declared.query.Query.{Query}
 use Rattle.claim_core.specs.Formulas.{formula_of}
 use Rattle.query_core.specs.declared.ledger.Asked.{Asked}
 use Rattle.query_core.specs.Ledgers.{Ledgered}
-use Rattle.log_parts.specs.Parts.{MayGoOn}
+use Rattle.shared_lemmas.specs.Parts.{MayGoOn}
 use Rattle.ask_core.specs.declared.question.Answer.{Answer}
 use Rattle.ask_core.specs.declared.question.Answer.TheVariants.{Vector, Refuted}
 use Rattle.ask_core.specs.Answers.{IsAskedWith}

@@ -2,9 +2,9 @@
 
 ghost use Rattle.std.specs.Prelude.{◌≡◌, ◌<◌, ◌^◌, IfOk, length};
 
+use crate::mark_hinted;
+use bit_list::Marks;
 use cnf_core::{Base, LogLine, SatLit};
-use log_parts::mark_hinted;
-use number_marks::Marks;
 use query_core::QueryBase;
 use std::alloc::{AllocError, Global};
 

@@ -1,6 +1,6 @@
 //! What the solver looks at first.
 
-use dense_solver::agenda_of;
+use ask_core::agenda_of;
 use learn_solver::{Agenda, Candidate, QuestionGuide};
 use query_core::QueryBase;
 use std::alloc::{AllocError, Global};

@@ -3,12 +3,12 @@
 ghost use Rattle.std.specs.Prelude.{◌≡◌, OnOk, length};
 ghost use Rattle.cnf_core.specs.Derivations.{AreDerived};
 ghost use Rattle.claim_core.specs.Formulas.{formula_of, query_clauses};
-ghost use Rattle.log_parts.specs.Parts.{ArePlaced, AreWritten};
+ghost use Rattle.shared_lemmas.specs.Parts.{ArePlaced, AreWritten};
 ghost use Rattle.shared_lemmas.specs.Shared.{HoldUnder};
 
 use crate::stock::Stock;
+use crate::{Common, note, take_marked, unplaced};
 use cnf_core::LogLine;
-use log_parts::{Common, note, take_marked, unplaced};
 use query_core::ConeClauses;
 use std::alloc::{AllocError, Global};
 use std::mem;

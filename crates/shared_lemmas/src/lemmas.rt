@@ -2,14 +2,14 @@
 
 ghost use Rattle.std.specs.Prelude.{◌≡◌, IfOk, OnOk, length};
 ghost use Rattle.claim_core.specs.Formulas.{formula_of, query_clauses};
-ghost use Rattle.log_parts.specs.Parts.{ArePlaced, AreWritten, MayGoOn};
+ghost use Rattle.shared_lemmas.specs.Parts.{ArePlaced, AreWritten, MayGoOn};
 ghost use Rattle.shared_lemmas.specs.Shared.{PaysFor};
 
 use crate::choosing::chosen;
 use crate::stock::{Stock, Twins};
+use crate::{Common, note, take_marked, unplaced};
 use cnf_core::LogLine;
 use joint_hash::merge;
-use log_parts::{Common, note, take_marked, unplaced};
 use query_core::{ConeClauses, QueryBase};
 use std::alloc::{AllocError, Global};
 

@@ -1,14 +1,21 @@
-//! What one question about two circuits learns and the next one may use (SAT sweeping: Kuehlmann and Krohm, DAC 1997). While
-//! the inputs get the same bits, the questions of a matching differ in what they ask of the outputs alone, so a line that
-//! doesn't rest on that holds in each of them.
+//! What questions about two circuits have learned, for later ones.
 #![tactic(auto)]
 
 mod choosing;
+mod common;
 mod feeds;
 mod guiding;
 mod keeping;
 mod lemmas;
+mod marking;
+mod numbering;
 mod shared;
 mod stock;
+mod taking;
+mod trimming;
 
+pub use common::Common;
+pub use marking::mark_hinted;
 pub use shared::SharedLemmas;
+pub use taking::{note, take_marked};
+pub use trimming::{trim, unplaced};

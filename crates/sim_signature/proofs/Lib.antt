@@ -8,3 +8,4 @@ mod Reached
 mod Rows
 mod Signing
 mod Wanted
+pub mod SupportLemmas

@@ -3,3 +3,4 @@ pub mod Changes
 pub mod Signatures
 pub mod Sightings
 pub mod Simulations
+pub mod Supports

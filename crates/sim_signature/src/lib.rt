@@ -1,4 +1,4 @@
-//! Vectors that break claims of an output, found by simulation.
+//! What outputs are on many vectors, and which inputs they reach.
 #![tactic(auto)]
 
 mod change;
@@ -11,8 +11,10 @@ mod reading;
 mod sighting;
 mod signatures;
 mod simulation;
+mod supports;
 mod vectors;
 
 pub use hunting::hunt;
 pub use sighting::Sighting;
 pub use signatures::Signatures;
+pub use supports::Supports;

@@ -2,8 +2,8 @@
 
 ghost use Rattle.std.specs.Prelude.{◌≡◌, ◌<◌, IfOk, length};
 
+use crate::Supports;
 use net_core::Graph;
-use net_supports::Supports;
 use std::alloc::{AllocError, Global};
 
 /// Marks the inputs that an output reads through gates.

@@ -9,12 +9,11 @@ ghost use Rattle.fact_tests.specs.Asking.{Decides, DecidesClaim};
 
 use crate::splitting::refute;
 use crate::vectors::meeting_vector;
-use account_core::Evidence;
+use account_core::{Evidence, PairableGraphs};
 use ask_core::Answer;
 use cnf_core::Stop;
 use fact_tests::{Decide, evidence_of};
 use net_core::Graphs;
-use port_sides::PairableGraphs;
 use query_core::{Claim, Ledger, Query, of_claim};
 use std::alloc::Global;
 use std::marker::Model;

@@ -5,12 +5,11 @@ ghost use Rattle.query_core.specs.Ledgers.{Ledgered};
 ghost use Rattle.oracle_core.specs.Oracles.{Suits};
 
 use crate::answering::AllVectors;
-use account_core::Fact;
+use account_core::{Fact, PairableGraphs};
 use cnf_core::Stop;
 use fact_tests::Book;
 use net_core::Matching;
 use oracle_core::{Compared, Oracle};
-use port_sides::PairableGraphs;
 use query_core::{Claim, Ledger};
 use std::alloc::{AllocError, Global};
 use std::marker::Model;

@@ -3,3 +3,4 @@ pub mod PieceLemmas
 pub mod LineLemmas
 pub mod WordLemmas
 pub mod NumberLemmas
+pub mod Extending

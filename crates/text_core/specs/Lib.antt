@@ -3,3 +3,4 @@ pub mod Piece
 pub mod Lines
 pub mod Words
 pub mod Numbers
+pub mod Extends

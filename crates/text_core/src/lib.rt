@@ -1,16 +1,19 @@
-//! Lines, words and numbers of a text that is given as bytes.
-//!
-//! Nothing is copied: each line and word is a slice of the input, with the offset at which it stands.
+//! Lines, words and numbers of a text that is given as bytes, and texts that are written piece by piece.
+#![tactic(auto, using(crate::proofs::Extending::extends_same, crate::proofs::Extending::extends_twice))]
 
-#![tactic(auto)]
-
+mod chain;
 mod laws;
 mod numbers;
+mod parts;
+mod pieces;
 mod spans;
 
+pub use chain::{Chain, Whole};
 pub use laws::{
     lines_from_first_line, lines_of_text, number_from_decimal, pieces_of_text,
     words_from_first_word, words_of_line,
 };
 pub use numbers::{NumberFault, decimal, digits_in_front, is_numeral, put_decimal, value_of};
+pub use parts::{Parts, put_all};
+pub use pieces::{put_last_number, put_last_word, put_number, put_text, put_word};
 pub use spans::{Cursor, Span, is_blank, line_length, next_word, word_length};

@@ -28,10 +28,10 @@ use Rattle.account_core.specs.declared.step.Step.TheVariants as step
 use Rattle.account_core.specs.Given.{Given}
 use Rattle.account_core.specs.Steps.{IsValidBan}
 use Rattle.account_core.proofs.SentOnly.{sent_only}
-use Rattle.port_sides.specs.Held.{IsOf, IsWhole}
+use Rattle.account_core.specs.Held.{IsOf, IsWhole}
 use Rattle.vector_bans.specs.Differences.{pair_from, pairs_from, IsShown}
-use Rattle.port_covers.proofs.ListLemmas.{contained_of_any}
-use Rattle.claim_rows.proofs.MismatchLemmas.{pair_of-one}
+use Rattle.ban_book.proofs.BlockListLemmas.{contained_of_any}
+use Rattle.ban_book.proofs.MismatchLemmas.{pair_of-one}
 use Rattle.vector_bans.proofs.ShownLemmas.{input_output}
 use Rattle.vector_bans.proofs.DefiniteLemmas.{of_differ, of_bit_definite, of_bit_same, of_output}
 

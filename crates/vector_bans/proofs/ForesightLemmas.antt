@@ -10,11 +10,11 @@ use Rattle.net_core.specs.Sides.{Graphs}
 use Rattle.net_core.specs.Graph.{IsGraph}
 use Rattle.account_core.specs.Ports.{AreOrdered, StandInOrder}
 use Rattle.word_sim.specs.declared.tri.Tri.{Tri}
-use Rattle.port_sides.specs.Held.{AreHeld, IsPart}
-use Rattle.claim_rows.specs.Rows.{HasOneOutput}
+use Rattle.account_core.specs.Held.{AreHeld, IsPart}
+use Rattle.ban_book.specs.Rows.{HasOneOutput}
 use Rattle.vector_bans.specs.Differences.{AreHeldInputs, IsShown, IsWrong}
 use Rattle.vector_bans.proofs.DefiniteLemmas.{of_bit_definite, of_output}
-use Rattle.port_covers.proofs.BookLemmas.{part_known}
+use Rattle.ban_book.proofs.HoldLemmas.{part_known}
 use Rattle.vector_bans.proofs.ResortLemmas.{first_there}
 use Rattle.vector_bans.proofs.ShownLemmas.{input_output}
 use Rattle.word_sim.specs.ThreeValues.{of_bit}

@@ -13,11 +13,11 @@ use Rattle.account_core.specs.Given.{Decided, decided_by, given_of}
 use Rattle.account_core.specs.Ports.{ports_in, IsKnown}
 use Rattle.oracle_core.specs.Oracles.{Grows, Known}
 use Rattle.ban_book.specs.Vectors.{AreEndsDecided}
-use Rattle.claim_rows.specs.declared.told.InputTold.{InputTold}
-use Rattle.claim_rows.specs.Rows.{AreRows, HasOneOutput, IsRow}
-use Rattle.claim_rows.specs.Shown.{HaveNothing, IsShownBan, IsShownByRows}
+use Rattle.ban_book.specs.declared.told.InputTold.{InputTold}
+use Rattle.ban_book.specs.Rows.{AreRows, HasOneOutput, IsRow}
+use Rattle.ban_book.specs.Shown.{HaveNothing, IsShownBan, IsShownByRows}
 use Rattle.ban_book.proofs.VectorLemmas.{facts_decided}
-use Rattle.claim_rows.proofs.RowLemmas.{ends_decided}
+use Rattle.ban_book.proofs.RowLemmas.{ends_decided}
 use Rattle.fact_bans.proofs.FactLemmas.{row_grows}
 use Rattle.vector_bans.specs.Differences.{IsShown}
 use Rattle.vector_bans.specs.Resorts.{IsBanWithin, ShowNothing}

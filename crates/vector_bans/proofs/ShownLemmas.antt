@@ -10,7 +10,7 @@ use Rattle.circuits.specs.declared.port.PortKind.TheVariants.{Input, Output}
 use Rattle.net_core.specs.Sides.{Graphs}
 use Rattle.word_sim.specs.declared.tri.Tri.{Tri}
 use Rattle.account_core.specs.Ports.{IsKnown, AreOrdered, StandInOrder}
-use Rattle.port_covers.proofs.ListLemmas.{among_more}
+use Rattle.ban_book.proofs.BlockListLemmas.{among_more}
 use Rattle.vector_bans.specs.Differences.{IsLeftOut, IsShown}
 
 all_but : (P : Pair → Type 0) (pairs : List Pair) (place : ℕ) → All P pairs → All P (remove pairs place)

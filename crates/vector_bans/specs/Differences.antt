@@ -11,8 +11,8 @@ use Rattle.word_sim.specs.declared.tri.Tri.{Tri}
 use Rattle.word_sim.specs.declared.tri.Tri.TheVariants.{X}
 use Rattle.account_core.specs.Ports.{AreOrdered, IsKnown}
 use Rattle.account_core.specs.Vectors.{first_value, second_value, signed}
-use Rattle.port_sides.specs.Held.{IsPart}
-use Rattle.claim_rows.specs.Rows.{HasOneOutput}
+use Rattle.account_core.specs.Held.{IsPart}
+use Rattle.ban_book.specs.Rows.{HasOneOutput}
 use Rattle.oracle_core.specs.Oracles.{IsDifference}
 use Rattle.vector_bans.specs.declared.difference.Difference.{Difference}
 use Rattle.vector_bans.specs.declared.difference.Shown.{Shown}

@@ -1,9 +1,9 @@
 pub mod Differences
 pub mod Resorts
-pub use Rattle.port_sides.specs.Held
-pub use Rattle.table_guess.specs.Trials
+pub use Rattle.account_core.specs.Held
+pub use Rattle.match_guess.specs.Trials
 pub use Rattle.fact_bans.specs.Serving
 pub use Rattle.oracle_core.specs.Oracles
-pub use Rattle.claim_rows.specs.Rows
+pub use Rattle.ban_book.specs.Rows
 pub use Rattle.ban_book.specs.Covering
 pub use Rattle.ban_book.specs.Vectors

@@ -3,25 +3,25 @@
 ghost use Rattle.std.specs.Prelude.{◌≡◌, AllPairs, Contains, IfOk, IfSome, OnOk};
 ghost use Rattle.circuits.specs.declared.port.PortKind.TheVariants.{Output};
 ghost use Rattle.ban_book.specs.Covering.{Covers};
-ghost use Rattle.port_sides.specs.Held.{AreApart, AreHeld, IsPart};
+ghost use Rattle.account_core.specs.Held.{AreApart, AreHeld, IsPart};
 ghost use Rattle.fact_bans.specs.Serving.{HoldsBans, MayHold};
-ghost use Rattle.table_guess.specs.Trials.{AreTrials, IsSuspect};
-ghost use Rattle.claim_rows.specs.Rows.{HasOneOutput};
+ghost use Rattle.match_guess.specs.Trials.{AreTrials, IsSuspect};
+ghost use Rattle.ban_book.specs.Rows.{HasOneOutput};
 ghost use Rattle.vector_bans.specs.Differences.{AreHeldInputs, AreShown};
 
 use crate::difference::{Shown, definite, is_wrong, leave_out};
 use crate::last_resort::hold_shown;
+use account_core::PairableGraphs;
 use ban_book::BanBook;
+use ban_book::needed::add;
 use circuits::{Pair, PortKind};
 use cnf_core::Stop;
 use fact_bans::Seen;
 use items::Items;
+use match_guess::{Suspect, Trials};
 use oracle_core::Oracle;
-use port_covers::needed::add;
-use port_sides::PairableGraphs;
 use query_core::Ledger;
 use std::alloc::{AllocError, Global};
-use table_guess::{Suspect, Trials};
 use word_sim::tri_output;
 
 /// Where a held output's partner is wrong on one of the vectors that pairs are tried on, whatever the inputs have that aren't

@@ -7,8 +7,8 @@ use anyhow::{Result, bail};
 use ask_core::{Answer, ask};
 use cnf_core::Stop;
 use net_core::{Graph, Graphs, Side};
-use net_supports::Supports;
 use query_core::{Claim, Ledger, Shape, of_claim};
+use sim_signature::Supports;
 use std::alloc::Global;
 
 /// The lines that a question may learn.

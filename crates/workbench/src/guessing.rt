@@ -1,10 +1,10 @@
 //! Matchings guessed.
 
+use account_core::PairableGraphs;
 use anyhow::{Result, bail};
+use match_guess::{Effort, Guesser};
 use net_core::Graphs;
-use port_sides::PairableGraphs;
 use std::alloc::{AllocError, Global};
-use table_guess::{Effort, Guesser};
 
 /// Prints whether a matching of the two circuits is found that may be a match. It isn't proved to be one.
 pub(crate) fn run<R: Print + AllocGlobal>(rt: &R, graphs: &Graphs<'_>, seed: u64) -> Result<()> {

@@ -1,8 +1,8 @@
 -- A query's answer is that of a solver for the clauses of its cones.
 use Rattle.std.proofs.Common.{◌≡◌, ap, rules, subst, ◌∙◌, arith}
 use Rattle.cnf_core.specs.Derivations.{clauses_of}
-use Rattle.dense_solver.specs.declared.verdict.DenseVerdict.{DenseVerdict}
-use Rattle.dense_solver.specs.Solved.{IsDenseVerdict, start_of, with_lines_of}
+use Rattle.ask_core.specs.declared.verdict.DenseVerdict.{DenseVerdict}
+use Rattle.ask_core.specs.Solved.{IsDenseVerdict, start_of, with_lines_of}
 use Rattle.claim_core.specs.Formulas.{formula_of}
 use Rattle.cnf_core.specs.Charges.{Charging}
 use Rattle.query_core.specs.Ledgers.{Ledgered, charging_of, one_if}

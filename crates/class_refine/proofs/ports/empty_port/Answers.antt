@@ -3,7 +3,7 @@ use Rattle.circuits.specs.declared.port.PortKind.{PortKind}
 use Rattle.net_core.specs.declared.graphs.Side.{Side}
 use Rattle.net_core.specs.declared.graphs.Side.TheVariants.{First, Second}
 use Rattle.pair_domains.specs.Trails.{Domained, ports_of}
-use Rattle.claim_rows.proofs.AlikeLemmas.{none_then}
+use Rattle.ban_book.proofs.AlikeLemmas.{none_then}
 use Rattle.class_refine.specs.Stable.{HasLeft}
 use Rattle.class_refine.proofs.ports.empty_port.Goals as goal
 

@@ -1,6 +1,6 @@
 use Rattle.std.proofs.Common.{ℕ, ◌<◌}
 use Rattle.pair_domains.specs.Trails.{IsDeleted}
-use Rattle.port_covers.specs.Ways.{nth_way}
+use Rattle.ban_book.specs.Ways.{nth_way}
 use Rattle.class_refine.proofs.ports.has_left.Given as goal
 
 abbrev pub invariant-loop-number : goal.invariant-loop-number

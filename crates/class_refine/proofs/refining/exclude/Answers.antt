@@ -1,6 +1,6 @@
 use Rattle.std.proofs.Common.{subst, sym}
-use Rattle.port_sides.specs.Held.{AreHeld}
-use Rattle.conflict_core.proofs.PivotLemmas.{held_known}
+use Rattle.account_core.specs.Held.{AreHeld}
+use Rattle.pair_search.proofs.PivotLemmas.{held_known}
 use Rattle.class_refine.specs.Rows.{ShowNothingAt, decided}
 use Rattle.class_refine.specs.Stable.{HaveNoBan, HaveNoSwapMismatch}
 use Rattle.class_refine.proofs.TrailLemmas.{refines_bans, refines_then}

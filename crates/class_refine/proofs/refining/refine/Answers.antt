@@ -1,7 +1,7 @@
 use Rattle.std.proofs.Common.{List, map, refl, subst, sym}
 use Rattle.account_core.specs.Given.{decided_by}
 use Rattle.account_core.specs.declared.fact.Fact.{Fact}
-use Rattle.conflict_core.specs.Grounded.{AreGrounded}
+use Rattle.pair_search.specs.Grounded.{AreGrounded}
 use Rattle.fact_bans.proofs.HoldingLemmas.{adds_none, holds_fail, holds_ok, holds_stop}
 use Rattle.fact_bans.proofs.ServeLemmas.{served_one}
 use Rattle.class_refine.proofs.TrailLemmas.{held_refined, shown_adds, shown_grows, shown_refined}

@@ -5,8 +5,8 @@ use Rattle.account_core.specs.Covers.{IsImpossible}
 use Rattle.account_core.specs.Ports.{IsKnown}
 use Rattle.ban_book.specs.Vectors.{HaveNoFacts}
 use Rattle.pair_domains.specs.Trails.{held_in}
-use Rattle.port_sides.specs.Held.{AreHeld}
-use Rattle.conflict_core.proofs.PivotLemmas.{held_known}
+use Rattle.account_core.specs.Held.{AreHeld}
+use Rattle.pair_search.proofs.PivotLemmas.{held_known}
 use Rattle.class_refine.specs.Rows.{decided}
 use Rattle.class_refine.specs.Stable.{HaveNoBan, HaveNoSwapMismatch}
 use Rattle.class_refine.proofs.TrailLemmas.{known_of}

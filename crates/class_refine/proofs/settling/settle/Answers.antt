@@ -1,5 +1,5 @@
 use Rattle.pair_domains.specs.Trails.{held_in}
-use Rattle.conflict_core.proofs.PivotLemmas.{held_known}
+use Rattle.pair_search.proofs.PivotLemmas.{held_known}
 use Rattle.class_refine.specs.Rows.{decided}
 use Rattle.class_refine.proofs.NothingLemmas.{nothing_beside}
 use Rattle.class_refine.proofs.SettleLemmas.{entry_settled, settles_now}

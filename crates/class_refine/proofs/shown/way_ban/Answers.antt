@@ -1,6 +1,6 @@
 use Rattle.std.proofs.Common.{◌∷◌, ◌++◌, []}
 use Rattle.ban_book.specs.Vectors.{HaveNoFacts}
-use Rattle.claim_rows.specs.Shown.{IsShownBan}
+use Rattle.ban_book.specs.Shown.{IsShownBan}
 use Rattle.class_refine.specs.Rows.{ShowNothingAt, decided}
 use Rattle.class_refine.proofs.InputLemmas.{inputs_known, way_among}
 use Rattle.class_refine.proofs.NothingLemmas.{nothing_of_input, nothing_of_output, shown_more}

@@ -1,10 +1,10 @@
 use Rattle.std.proofs.Common.{[], ◌∷◌, ap, subst, sym, ◌∙◌}
 use Rattle.claim_core.specs.declared.claims.Claim.{Claim}
 use Rattle.ban_book.proofs.VectorLemmas.{facts_decided}
-use Rattle.claim_rows.specs.declared.mismatched.Unlike.{Unlike}
-use Rattle.claim_rows.specs.Mismatched.{mismatch_of}
-use Rattle.claim_rows.specs.Shown.{IsShownBan}
-use Rattle.claim_rows.specs.Told.{IsToldAs}
+use Rattle.ban_book.specs.declared.mismatched.Unlike.{Unlike}
+use Rattle.ban_book.specs.Mismatched.{mismatch_of}
+use Rattle.ban_book.specs.Shown.{IsShownBan}
+use Rattle.ban_book.specs.Told.{IsToldAs}
 use Rattle.class_refine.specs.Rows.{decided}
 use Rattle.class_refine.proofs.SwapLemmas.{exchange_shown}
 use Rattle.class_refine.proofs.swaps.ban_at.Goals as goal

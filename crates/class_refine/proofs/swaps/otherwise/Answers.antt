@@ -3,8 +3,8 @@ use Rattle.std.specs.Prelude.{IfNone}
 use Rattle.std.proofs.lemmas.List.{length-map}
 use Rattle.account_core.specs.Given.{decided_by}
 use Rattle.claim_core.specs.declared.claims.Claim.{Claim}
-use Rattle.claim_rows.specs.declared.told.Told.{Told}
-use Rattle.claim_rows.specs.Told.{IsToldAs}
+use Rattle.ban_book.specs.declared.told.Told.{Told}
+use Rattle.ban_book.specs.Told.{IsToldAs}
 use Rattle.class_refine.specs.Swaps.{SaysOf}
 use Rattle.class_refine.proofs.SwapIndexLemmas.{found_in, says_none, says_one}
 use Rattle.class_refine.proofs.swaps.otherwise.Goals as goal

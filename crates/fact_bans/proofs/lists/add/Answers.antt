@@ -1,5 +1,5 @@
 use Rattle.std.proofs.Common.{rules}
-use Rattle.claim_rows.proofs.ListedLemmas.{lists_skip}
+use Rattle.ban_book.proofs.ListedLemmas.{lists_skip}
 use Rattle.fact_bans.specs.Wanted.{shaped_by}
 use Rattle.fact_bans.proofs.FactLemmas.{one_added, wanted_grow}
 use Rattle.fact_bans.proofs.lists.add.Goals as goal

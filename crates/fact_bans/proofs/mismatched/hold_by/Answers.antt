@@ -3,7 +3,7 @@ use Rattle.account_core.specs.declared.step.Ban.{Ban}
 use Rattle.account_core.specs.Given.{decided_by, given_of}
 use Rattle.account_core.specs.Steps.{IsValidBan}
 use Rattle.net_core.specs.Sides.{Graphs}
-use Rattle.claim_rows.specs.Mismatched.{mismatch_of}
+use Rattle.ban_book.specs.Mismatched.{mismatch_of}
 use Rattle.fact_bans.proofs.ServeLemmas.{served_one}
 use Rattle.ban_book.specs.Vectors.{IsVector}
 use Rattle.ban_book.proofs.BookLemmas.{covers_own}

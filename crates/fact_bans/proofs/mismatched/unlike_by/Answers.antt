@@ -1,10 +1,10 @@
 use Rattle.std.proofs.Common.{refl, sym, subst, map}
 use Rattle.account_core.specs.Given.{decided_by}
-use Rattle.claim_rows.specs.declared.mismatched.Unlike.{Unlike}
-use Rattle.claim_rows.specs.Mismatched.{IsBanBy, mismatch_of}
+use Rattle.ban_book.specs.declared.mismatched.Unlike.{Unlike}
+use Rattle.ban_book.specs.Mismatched.{IsBanBy, mismatch_of}
 use Rattle.fact_bans.proofs.ServeLemmas.{served_one, served_then, serves_err, serves_ok}
 use Rattle.fact_bans.proofs.FactLemmas.{told_grows}
-use Rattle.claim_rows.proofs.MismatchedLemmas.{mismatch_valid, unlike}
+use Rattle.ban_book.proofs.MismatchedLemmas.{mismatch_valid, unlike}
 use Rattle.fact_bans.proofs.mismatched.unlike_by.Goals as goal
 
 pub returns-in_err-other-clause-serves : goal.returns-in_err-other-clause-serves

@@ -4,7 +4,7 @@ use Rattle.std.specs.Prelude.{not}
 use Rattle.account_core.specs.Given.{decided_by}
 use Rattle.account_core.specs.Tallies.{port_on}
 use Rattle.fact_bans.specs.declared.lists.Wanted.{Wanted}
-use Rattle.claim_rows.specs.Listed.{ListsBoth}
+use Rattle.ban_book.specs.Listed.{ListsBoth}
 use Rattle.fact_bans.specs.Wanted.{ListsWanted}
 use Rattle.fact_bans.proofs.FactLemmas.{wanted_grow}
 use Rattle.fact_bans.proofs.ServeLemmas.{served_one, served_then, serves_err, serves_ok}

@@ -7,7 +7,7 @@ use Rattle.fact_bans.proofs.ServeLemmas.{served_one}
 use Rattle.ban_book.specs.Vectors.{IsVector}
 use Rattle.ban_book.proofs.BookLemmas.{covers_own}
 use Rattle.fact_bans.proofs.HoldingLemmas.{held_ban, held_kept, holds_fail, holds_ok, holds_stop, tally_no_vector}
-use Rattle.claim_rows.proofs.TallyLemmas.{tally_valid}
+use Rattle.ban_book.proofs.TallyLemmas.{tally_valid}
 use Rattle.fact_bans.proofs.tallies.tally_by.Goals as goal
 
 pub returns-in_err-lists-clause-holds : goal.returns-in_err-lists-clause-holds

@@ -1,7 +1,7 @@
 -- The calls so far were answered, and the inputs so far are listed.
 use Rattle.oracle_core.specs.Oracles.{HasServed}
 use Rattle.fact_tests.specs.Outputs.{function_at, inputs_in}
-use Rattle.output_info.specs.Rows.{ListsSupport}
+use Rattle.claim_core.specs.Rows.{ListsSupport}
 use Rattle.fact_tests.proofs.func_support.support.Given as goal
 
 abbrev pub invariant-loop-input : goal.invariant-loop-input

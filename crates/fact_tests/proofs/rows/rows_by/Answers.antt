@@ -1,6 +1,6 @@
 -- One output more has its row.
 use Rattle.fact_tests.specs.Outputs.{function_at, inputs_in}
-use Rattle.output_info.specs.Rows.{IsRow}
+use Rattle.claim_core.specs.Rows.{IsRow}
 use Rattle.fact_tests.proofs.RowLemmas.{rows_step}
 use Rattle.fact_tests.proofs.Serving.{served_one, served_then, serves_err, serves_memory}
 use Rattle.fact_tests.proofs.rows.rows_by.Goals as goal

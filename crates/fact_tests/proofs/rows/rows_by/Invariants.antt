@@ -3,7 +3,7 @@ use Rattle.std.proofs.Common.{◌≡◌, length}
 use Rattle.circuits.specs.Literals.{EachAt}
 use Rattle.oracle_core.specs.Oracles.{HasServed}
 use Rattle.fact_tests.specs.Outputs.{function_at, inputs_in}
-use Rattle.output_info.specs.Rows.{IsRow}
+use Rattle.claim_core.specs.Rows.{IsRow}
 use Rattle.fact_tests.proofs.rows.rows_by.Given as goal
 
 abbrev pub invariant-loop-number : goal.invariant-loop-number

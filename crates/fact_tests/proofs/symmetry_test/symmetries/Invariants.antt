@@ -1,7 +1,7 @@
 -- The calls so far were answered, and the pairs before those of the next input are listed.
 use Rattle.oracle_core.specs.Oracles.{HasServed}
 use Rattle.fact_tests.specs.Outputs.{function_at, inputs_in}
-use Rattle.output_info.specs.Rows.{ListsPairs}
+use Rattle.claim_core.specs.Rows.{ListsPairs}
 use Rattle.fact_tests.proofs.RowLemmas.{input_at}
 use Rattle.fact_tests.proofs.symmetry_test.symmetries.Given as goal
 

@@ -2,7 +2,7 @@ use Rattle.std.proofs.Common.{All, sym, subst}
 use Rattle.std.proofs.lemmas.List.Elements.{All-contains}
 use Rattle.account_core.specs.Ports.{IsKnown}
 use Rattle.pair_domains.specs.Trails.{held_in}
-use Rattle.conflict_core.proofs.PivotLemmas.{held_known}
+use Rattle.pair_search.proofs.PivotLemmas.{held_known}
 use Rattle.match_search.proofs.StepLemmas.{may_go_on, steps_fail, steps_ok, way_bans, way_start}
 use Rattle.match_search.proofs.asking.ask_held.Goals as goal
 

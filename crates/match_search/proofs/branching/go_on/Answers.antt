@@ -1,6 +1,6 @@
 use Rattle.std.proofs.Common.{List, sym, subst}
 use Rattle.account_core.specs.declared.step.Ban.{Ban}
-use Rattle.conflict_core.specs.Justified.{IsJustifiedTrail}
+use Rattle.pair_search.specs.Justified.{IsJustifiedTrail}
 use Rattle.match_search.proofs.StepLemmas.{steps_ok, steps_stop, way_start, way_stays}
 use Rattle.match_search.proofs.branching.go_on.Goals as goal
 

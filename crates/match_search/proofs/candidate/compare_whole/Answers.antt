@@ -2,9 +2,9 @@ use Rattle.std.proofs.Common.{List, sym, subst}
 use Rattle.circuits.specs.declared.port.Pair.{Pair}
 use Rattle.circuits.specs.Netlists.{Net}
 use Rattle.claim_core.specs.Images.{Extends}
-use Rattle.table_guess.specs.Trials.{AreTrials}
-use Rattle.port_sides.specs.Held.{AreHeld, IsWhole}
-use Rattle.conflict_core.proofs.PivotLemmas.{held_known}
+use Rattle.match_guess.specs.Trials.{AreTrials}
+use Rattle.account_core.specs.Held.{AreHeld, IsWhole}
+use Rattle.pair_search.proofs.PivotLemmas.{held_known}
 use Rattle.match_search.proofs.CompareLemmas.{shown_match}
 use Rattle.match_search.proofs.SearchLemmas.{may_ask}
 use Rattle.match_search.proofs.StepLemmas.{goes_asked, may_go_on, same_loans, steps_cut, steps_fail, steps_ok, steps_stop, steps_unkept, way_bans, way_start, way_tried}

@@ -1,6 +1,6 @@
 use Rattle.std.proofs.Common.{sym, subst}
-use Rattle.port_sides.specs.Held.{AreHeld}
-use Rattle.conflict_core.proofs.PivotLemmas.{held_known}
+use Rattle.account_core.specs.Held.{AreHeld}
+use Rattle.pair_search.proofs.PivotLemmas.{held_known}
 use Rattle.match_search.proofs.StepLemmas.{may_go_on, steps_fail, steps_ok, way_bans, way_start}
 use Rattle.match_search.proofs.following.exchange_held.Goals as goal
 

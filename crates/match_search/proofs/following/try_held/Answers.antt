@@ -1,8 +1,8 @@
 use Rattle.std.proofs.Common.{List, refl, sym, subst}
 use Rattle.circuits.specs.declared.port.Pair.{Pair}
 use Rattle.ban_book.specs.Covering.{Covers}
-use Rattle.port_sides.specs.Held.{AreHeld}
-use Rattle.conflict_core.proofs.PivotLemmas.{held_known}
+use Rattle.account_core.specs.Held.{AreHeld}
+use Rattle.pair_search.proofs.PivotLemmas.{held_known}
 use Rattle.match_search.proofs.StepLemmas.{goes_by, steps_fail, steps_ok, way_bans, way_start}
 use Rattle.match_search.proofs.following.try_held.Goals as goal
 

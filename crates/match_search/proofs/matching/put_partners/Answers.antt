@@ -1,5 +1,5 @@
-use Rattle.port_sides.specs.Held.{IsEntryOf}
-use Rattle.port_covers.proofs.OrderLemmas.{held_more}
+use Rattle.account_core.specs.Held.{IsEntryOf}
+use Rattle.ban_book.proofs.OrderLemmas.{held_more}
 use Rattle.match_search.proofs.matching.put_partners.Goals as goal
 
 pub loop-pair-preserved : goal.loop-pair-preserved

@@ -2,7 +2,7 @@ use Rattle.std.proofs.Common.{arith}
 use Rattle.std.proofs.lemmas.List.Elements.{All-contains}
 use Rattle.account_core.specs.Ports.{IsKnown}
 use Rattle.pair_domains.specs.Trails.{held_in}
-use Rattle.conflict_core.proofs.PivotLemmas.{held_known}
+use Rattle.pair_search.proofs.PivotLemmas.{held_known}
 use Rattle.match_search.proofs.AskLemmas.{deletes_one, known_of, shown_one}
 use Rattle.match_search.proofs.StepLemmas.{steps_fail, steps_ok, steps_stop, way_bans, way_start}
 use Rattle.match_search.proofs.unlike.delete_way.Goals as goal

@@ -3,7 +3,7 @@ use Rattle.std.proofs.Common.{◌≡◌, ◌+◌, ◌-◌, ◌%◌, ◌/◌, [],
 use Rattle.std.proofs.Math.Dec.{ltb, leb}
 use Rattle.std.proofs.Math.Seq.{take-append_seam}
 use Rattle.std.proofs.lemmas.Bool.{and_parts, ltb-true, leb-true}
-use Rattle.text_out.proofs.Extending.{extends_twice}
+use Rattle.text_core.proofs.Extending.{extends_twice}
 use Rattle.net_print.specs.Deltas.{groups, delta_groups}
 use Rattle.net_print.proofs.Groups.{groups_next, groups_fit}
 use Rattle.net_print.proofs.Steps.{one_part}

@@ -1,6 +1,6 @@
 -- What is written and what is left make the whole, and what stood there stays.
 use Rattle.std.proofs.Common.{◌≡◌, ◌*◌, ◌^◌, ◌<◌, ◌≤◌, ◌++◌}
-use Rattle.text_out.specs.Extends.{Extends}
+use Rattle.text_core.specs.Extends.{Extends}
 use Rattle.net_print.specs.Deltas.{groups, delta_groups}
 use Rattle.net_print.proofs.aig.put_delta.Given as goal
 

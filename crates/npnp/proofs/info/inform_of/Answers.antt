@@ -1,6 +1,6 @@
 -- Rows are reported, or the budget of a new ledger was spent.
 use Rattle.std.proofs.Common.{inl, ap, refl, sym, subst, Err}
-use Rattle.output_info.specs.Rows.{AreRows}
+use Rattle.claim_core.specs.Rows.{AreRows}
 use Rattle.run_steps.specs.Info.{with_itself}
 use Rattle.npnp.proofs.InfoLemmas.{budget_of_new, informed_is, is_new}
 use Rattle.npnp.proofs.info.inform_of.Goals as goal

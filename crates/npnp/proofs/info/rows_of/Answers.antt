@@ -1,7 +1,7 @@
 -- The book knows nothing and the ledger is new: rows are right, or the budget was spent.
 use Rattle.std.proofs.Common.{subst, IfErr, IfOk}
 use Rattle.net_core.specs.Sides.{Graphs}
-use Rattle.output_info.specs.Rows.{AreRows}
+use Rattle.claim_core.specs.Rows.{AreRows}
 use Rattle.oracle_core.specs.Oracles.{IsStopped}
 use Rattle.run_steps.specs.Info.{with_itself}
 use Rattle.npnp.proofs.InfoLemmas.{memory_stops, spent_is, suits_first}

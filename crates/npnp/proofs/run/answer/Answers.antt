@@ -3,7 +3,7 @@ use Rattle.std.proofs.Common.{inl, inr, Err, ap, sym, ◌∙◌}
 use Rattle.run_steps.specs.Outcomes.{FollowsWords, IsRight, IsSound, Leaves}
 use Rattle.run_steps.proofs.MatchLemmas.{may_be_cut, not_written, writes_of}
 use Rattle.run_steps.proofs.CheckLemmas.{follows_memory, follows_nothing}
-use Rattle.command_words.proofs.FormLemmas.{known_form, trial_command}
+use Rattle.run_steps.proofs.FormLemmas.{known_form, trial_command}
 use Rattle.npnp.proofs.TellingLemmas.{by_line, sound_memory}
 use Rattle.npnp.proofs.run.answer.Goals as goal
 

@@ -1,4 +1,4 @@
-use Rattle.conflict_core.proofs.GroundedLemmas.{learns_twice, trail_later}
+use Rattle.pair_search.proofs.GroundedLemmas.{learns_twice, trail_later}
 use Rattle.pair_search.proofs.back.learn.Goals as goal
 
 pub returns-in_err-conflict-clause-trail : goal.returns-in_err-conflict-clause-trail

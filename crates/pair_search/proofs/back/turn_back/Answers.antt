@@ -1,4 +1,4 @@
-use Rattle.conflict_core.proofs.GroundedLemmas.{learns_none, stay_none}
+use Rattle.pair_search.proofs.GroundedLemmas.{learns_none, stay_none}
 use Rattle.pair_search.proofs.back.turn_back.Goals as goal
 use Rattle.ban_book.proofs.BookLemmas.{empty_ban}
 

@@ -1,6 +1,6 @@
 use Rattle.std.proofs.Common.{◌∙◌, All, sym, subst}
 use Rattle.pair_domains.specs.Trails.{IsDeleted, IsPairOf}
-use Rattle.conflict_core.proofs.NamedLemmas.{ways_known}
+use Rattle.pair_search.proofs.NamedLemmas.{ways_known}
 use Rattle.pair_search.proofs.crowds.crowd.Goals as goal
 
 pub are_deleted-requires : goal.are_deleted-requires

@@ -1,10 +1,10 @@
 use Rattle.std.proofs.Common.{List, get_or, inr, sym, subst}
 use Rattle.circuits.specs.declared.port.Pair.{Pair}
-use Rattle.port_sides.specs.Held.{AreHeld}
-use Rattle.port_covers.specs.Ways.{nth_way, ways_in}
-use Rattle.conflict_core.specs.Named.{AreNamed}
-use Rattle.conflict_core.proofs.JustifiedLemmas.{names_held}
-use Rattle.conflict_core.proofs.PivotLemmas.{held_known}
+use Rattle.account_core.specs.Held.{AreHeld}
+use Rattle.ban_book.specs.Ways.{nth_way, ways_in}
+use Rattle.pair_search.specs.Named.{AreNamed}
+use Rattle.pair_search.proofs.JustifiedLemmas.{names_held}
+use Rattle.pair_search.proofs.PivotLemmas.{held_known}
 use Rattle.pair_search.proofs.impasse.conflict_of.Goals as goal
 
 pub cover_port-requires-clause-held : goal.cover_port-requires-clause-held

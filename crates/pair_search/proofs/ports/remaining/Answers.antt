@@ -1,6 +1,6 @@
 use Rattle.std.proofs.Common.{subst}
 use Rattle.pair_domains.specs.Trails.{IsDeleted}
-use Rattle.port_covers.specs.Ways.{nth_way}
+use Rattle.ban_book.specs.Ways.{nth_way}
 use Rattle.pair_search.proofs.PortLemmas.{gone_more}
 use Rattle.pair_search.proofs.ports.remaining.Goals as goal
 

@@ -1,5 +1,5 @@
 use Rattle.std.proofs.Common.{ℕ, ◌<◌, ◌≤◌}
-use Rattle.port_covers.specs.Ways.{nth_way}
+use Rattle.ban_book.specs.Ways.{nth_way}
 use Rattle.pair_domains.specs.Trails.{IsDeleted}
 use Rattle.pair_search.proofs.ports.remaining.Given as goal
 

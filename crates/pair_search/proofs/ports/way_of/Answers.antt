@@ -1,8 +1,8 @@
 use Rattle.std.proofs.Common.{sym, subst, ap, ◌∙◌}
 use Rattle.account_core.specs.Tallies.{port_on}
 use Rattle.pair_domains.specs.Trails.{IsPairOf}
-use Rattle.port_covers.proofs.ClosedLemmas.{port_of_way}
-use Rattle.conflict_core.proofs.NamedLemmas.{way_known}
+use Rattle.ban_book.proofs.ClosedLemmas.{port_of_way}
+use Rattle.pair_search.proofs.NamedLemmas.{way_known}
 use Rattle.pair_search.proofs.ports.way_of.Goals as goal
 
 pub returns-clause-known : goal.returns-clause-known

@@ -4,7 +4,7 @@ use Rattle.pair_domains.specs.declared.entry.Entry.{Entry}
 use Rattle.pair_domains.specs.declared.entry.Fate.TheVariants.{Deleted}
 use Rattle.pair_domains.specs.declared.entry.Reason.TheVariants as reason
 use Rattle.pair_domains.specs.Trails.{held_in}
-use Rattle.conflict_core.proofs.ConflictLemmas.{covers_lent}
+use Rattle.pair_search.proofs.ConflictLemmas.{covers_lent}
 use Rattle.pair_search.proofs.StepLemmas.{one_more_of, propagates_one}
 use Rattle.pair_search.proofs.units.apply.Goals as goal
 

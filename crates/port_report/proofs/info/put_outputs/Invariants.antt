@@ -2,7 +2,7 @@
 use Rattle.std.proofs.Common.{◌≡◌, ◌++◌, drop}
 use Rattle.port_report.specs.Infos.{output_texts}
 use Rattle.port_report.specs.Reports.{names_of}
-use Rattle.text_out.specs.Extends.{Extends}
+use Rattle.text_core.specs.Extends.{Extends}
 use Rattle.port_report.proofs.info.put_outputs.Given as goal
 
 abbrev pub invariant-loop-port : goal.invariant-loop-port

@@ -1,6 +1,6 @@
 use Rattle.std.proofs.Common.{◌≡◌, ◌++◌, drop}
 use Rattle.port_report.specs.Reports.{entry_lines}
-use Rattle.text_out.specs.Extends.{Extends}
+use Rattle.text_core.specs.Extends.{Extends}
 use Rattle.port_report.proofs.table.put_entries.Given as goal
 
 -- what is written and the lines that are left make the whole, and what stood there stays

@@ -5,7 +5,7 @@ use Rattle.run_steps.specs.Held.{HoldsGraph}
 use Rattle.run_steps.specs.Outcomes.{EndsAt}
 use Rattle.run_steps.specs.Steps.{IsVerdict, graphs_of, netlist_of}
 use Rattle.run_steps.specs.Stops.{outcome_of}
-use Rattle.shelf_files.specs.declared.files.ReadStop.TheVariants as stop
+use Rattle.run_steps.specs.declared.files.ReadStop.TheVariants as stop
 use Rattle.run_steps.specs.declared.outcome.Outcome.TheVariants.{Memory}
 use Rattle.run_steps.specs.declared.outcome.Which.TheVariants.{Second}
 use Rattle.run_steps.proofs.CheckLemmas.{follows_files, leaves, right_at_first, right_at_second, right_by_verdict, asks_both, stopped, stop_right, stop_reading, stop_is}

@@ -1,6 +1,6 @@
 -- What the bytes of the file are, said of what the name holds.
 use Rattle.std.proofs.Common.{rules, subst}
-use Rattle.shelf_files.specs.Files.{Tells}
+use Rattle.run_steps.specs.Files.{Tells}
 use Rattle.run_steps.proofs.CheckLemmas.{reads_bytes}
 use Rattle.run_steps.proofs.netlists.read_netlist.Goals as goal
 

@@ -3,8 +3,8 @@ use Rattle.pair_domains.specs.declared.entry.Entry.{Entry}
 use Rattle.pair_domains.specs.declared.entry.Fate.TheVariants.{Held}
 use Rattle.pair_domains.specs.declared.entry.Cause.TheVariants.{Choice}
 use Rattle.pair_domains.specs.Trails.{Domained}
-use Rattle.conflict_core.specs.Grounded.{AreGrounded}
-use Rattle.conflict_core.proofs.GroundedLemmas.{grounded_push}
+use Rattle.pair_search.specs.Grounded.{AreGrounded}
+use Rattle.pair_search.proofs.GroundedLemmas.{grounded_push}
 use Rattle.search_tests.proofs.refinings.hold.Goals as goal
 
 pub returns-clause-shown : goal.returns-clause-shown

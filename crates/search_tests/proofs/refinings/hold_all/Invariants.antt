@@ -1,7 +1,7 @@
 use Rattle.std.proofs.Common.{[], List}
 use Rattle.account_core.specs.Given.{Decided}
-use Rattle.conflict_core.specs.Grounded.{AreGrounded}
-use Rattle.conflict_core.specs.Justified.{IsTrail}
+use Rattle.pair_search.specs.Grounded.{AreGrounded}
+use Rattle.pair_search.specs.Justified.{IsTrail}
 use Rattle.search_tests.proofs.refinings.hold_all.Given as goal
 
 abbrev pub invariant-loop-pair : goal.invariant-loop-pair

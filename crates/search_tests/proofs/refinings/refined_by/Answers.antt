@@ -1,7 +1,7 @@
 use Rattle.std.proofs.Common.{List, map, subst, sym}
 use Rattle.account_core.specs.Given.{decided_by}
 use Rattle.account_core.specs.declared.step.Ban.{Ban}
-use Rattle.conflict_core.specs.Justified.{IsTrail}
+use Rattle.pair_search.specs.Justified.{IsTrail}
 use Rattle.search_tests.proofs.refinings.refined_by.Goals as goal
 
 pub refine-answer-requires-clause-trail : goal.refine-answer-requires-clause-trail

@@ -1,6 +1,6 @@
 -- Lines that don't rest on the last two clauses hold for other outputs too.
 use Rattle.std.proofs.Common.{subst}
-use Rattle.log_parts.specs.Parts.{ArePlaced, AreWritten, GoesOn}
+use Rattle.shared_lemmas.specs.Parts.{ArePlaced, AreWritten, GoesOn}
 use Rattle.shared_lemmas.proofs.SharedLaws.{kept_hold}
 use Rattle.shared_lemmas.proofs.keeping.add_kept.Goals as goal
 

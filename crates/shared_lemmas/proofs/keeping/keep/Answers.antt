@@ -4,7 +4,7 @@ use Rattle.std.specs.Prelude.{Vec}
 use Rattle.std.specs.declared.alloc.Global.{Global}
 use Rattle.cnf_core.specs.declared.log.LogLine.{LogLine}
 use Rattle.claim_core.specs.Formulas.{query_clauses}
-use Rattle.log_parts.specs.Parts.{AreWritten}
+use Rattle.shared_lemmas.specs.Parts.{AreWritten}
 use Rattle.shared_lemmas.specs.Shared.{HoldUnder}
 use Rattle.shared_lemmas.proofs.keeping.keep.Goals as goal
 

@@ -1,5 +1,5 @@
 -- The numbers so far are those of lines with the same clauses.
-use Rattle.log_parts.specs.Parts.{AreNoted}
+use Rattle.shared_lemmas.specs.Parts.{AreNoted}
 use Rattle.shared_lemmas.proofs.keeping.note_back.Given as goal
 
 abbrev pub invariant-loop-own : goal.invariant-loop-own

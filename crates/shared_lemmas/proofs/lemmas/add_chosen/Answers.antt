@@ -1,6 +1,6 @@
 -- The lines of the stock go on after the lemmas.
 use Rattle.std.proofs.Common.{sym, ◌∙◌, subst}
-use Rattle.log_parts.specs.Parts.{ArePlaced, AreWritten, MayGoOn}
+use Rattle.shared_lemmas.specs.Parts.{ArePlaced, AreWritten, MayGoOn}
 use Rattle.claim_core.specs.Formulas.{formula_of}
 use Rattle.shared_lemmas.proofs.SharedLaws.{own_common}
 use Rattle.shared_lemmas.proofs.lemmas.add_chosen.Goals as goal

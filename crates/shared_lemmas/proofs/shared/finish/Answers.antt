@@ -2,7 +2,7 @@
 use Rattle.std.proofs.Common.{length, sym, subst}
 use Rattle.cnf_core.specs.Derivations.{IsRefutation}
 use Rattle.claim_core.specs.Formulas.{formula_of, query_clauses}
-use Rattle.log_parts.specs.Parts.{AreWritten}
+use Rattle.shared_lemmas.specs.Parts.{AreWritten}
 use Rattle.ask_core.specs.Answers.{IsAnswer}
 use Rattle.shared_lemmas.specs.Shared.{AreLogPaid}
 use Rattle.shared_lemmas.proofs.PaidLemmas.{all_paid}

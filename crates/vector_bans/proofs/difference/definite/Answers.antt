@@ -1,5 +1,5 @@
 use Rattle.std.proofs.Common.{◌++◌, ◌∷◌, [], ◌+◌, ◌∙◌, ap, map, drop, false, arith}
-use Rattle.port_covers.proofs.ListLemmas.{made_more}
+use Rattle.ban_book.proofs.BlockListLemmas.{made_more}
 use Rattle.vector_bans.proofs.difference.definite.Goals as goal
 use Rattle.word_sim.specs.ThreeValues.{of_bit}
 

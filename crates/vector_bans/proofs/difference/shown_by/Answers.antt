@@ -2,7 +2,7 @@ use Rattle.std.proofs.Common.{◌∙◌, ◌++◌, ◌∷◌, [], All, map, sym,
 use Rattle.std.specs.Prelude.{Contains}
 use Rattle.circuits.specs.declared.port.PortKind.TheVariants.{Input, Output}
 use Rattle.account_core.specs.Ports.{IsKnown}
-use Rattle.port_covers.proofs.ListLemmas.{among_more}
+use Rattle.ban_book.proofs.BlockListLemmas.{among_more}
 use Rattle.vector_bans.specs.Differences.{pair_from, pairs_from}
 use Rattle.vector_bans.proofs.DifferLemmas.{pair_known, shown_whole, shown_as, among_held}
 use Rattle.vector_bans.proofs.ShownLemmas.{shown_made}

@@ -1,5 +1,5 @@
 use Rattle.std.proofs.Common.{rules, get_or}
-use Rattle.port_covers.proofs.OrderLemmas.{held_apart}
+use Rattle.ban_book.proofs.OrderLemmas.{held_apart}
 use Rattle.vector_bans.proofs.ForesightLemmas.{inputs_more}
 use Rattle.vector_bans.proofs.foresight.add_input.Goals as goal
 

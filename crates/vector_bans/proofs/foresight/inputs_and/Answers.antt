@@ -1,6 +1,6 @@
 use Rattle.std.proofs.Common.{sym, subst}
-use Rattle.port_sides.specs.Held.{IsPart}
-use Rattle.claim_rows.specs.Rows.{HasOneOutput}
+use Rattle.account_core.specs.Held.{IsPart}
+use Rattle.ban_book.specs.Rows.{HasOneOutput}
 use Rattle.vector_bans.specs.Differences.{AreHeldInputs}
 use Rattle.vector_bans.proofs.ForesightLemmas.{inputs_none, output_one, output_part}
 use Rattle.vector_bans.proofs.foresight.inputs_and.Goals as goal

@@ -7,7 +7,7 @@ use Rattle.account_core.specs.Vectors.{value_at}
 use Rattle.word_sim.specs.ThreeValues.{tri_outputs, of_bit}
 use Rattle.word_sim.specs.declared.tri.Tri.{Tri}
 use Rattle.vector_bans.specs.Differences.{IsWrong}
-use Rattle.port_covers.proofs.BookLemmas.{part_known}
+use Rattle.ban_book.proofs.HoldLemmas.{part_known}
 use Rattle.vector_bans.proofs.ForesightLemmas.{shown_held}
 use Rattle.vector_bans.proofs.ResortLemmas.{second_there}
 use Rattle.vector_bans.proofs.ShownLemmas.{shown_made_among}

@@ -1,7 +1,7 @@
 use Rattle.std.proofs.Common.{◌∙◌, map, subst, sym}
 use Rattle.circuits.specs.declared.port.Pair.{Pair}
 use Rattle.account_core.specs.Given.{decided_by}
-use Rattle.claim_rows.specs.Shown.{IsShownBan}
+use Rattle.ban_book.specs.Shown.{IsShownBan}
 use Rattle.vector_bans.specs.Resorts.{ShowNothing}
 use Rattle.vector_bans.proofs.ResortLemmas.{within_by_facts, within_by_vector}
 use Rattle.std.specs.Prelude.{List}

@@ -3,8 +3,8 @@ use Rattle.net_core.specs.Sides.{Graphs}
 use Rattle.net_core.specs.declared.graphs.Side.TheVariants.{First, Second}
 use Rattle.account_core.specs.Facts.{AreFacts}
 use Rattle.account_core.specs.Given.{decided_by}
-use Rattle.claim_rows.specs.Rows.{IsRow}
-use Rattle.claim_rows.specs.declared.told.InputTold.{InputTold}
+use Rattle.ban_book.specs.Rows.{IsRow}
+use Rattle.ban_book.specs.declared.told.InputTold.{InputTold}
 use Rattle.fact_bans.proofs.ServeLemmas.{ask_later, served_one, served_then, serves_err, serves_memory, serves_ok}
 use Rattle.vector_bans.proofs.ResortLemmas.{both_rows, first_there, nothing_by_rows, second_there, shown_by_rows}
 use Rattle.vector_bans.proofs.last_resort.told_apart.Goals as goal

@@ -1,0 +1,104 @@
+//! What the solver looks at first.
+
+use crate::base::DenseBase;
+use crate::{GatePair, LitGate, gates_of, inputs_of, pairs_of};
+use cnf_core::{Base, SatLit};
+use learn_solver::{Agenda, Candidate, Operands, QuestionGuide};
+use std::alloc::{AllocError, Global};
+
+/// The number that vectors are drawn from: any would do. Each question of a run draws the same ones.
+const SEED: u64 = 1;
+
+/// Up to how many inputs are decided first. Then a question learns about as many lines at most as the inputs have vectors,
+/// where an S-box of 8 inputs and two thousand gates took up to 28,000 by candidates, and 90 times as long as minisat.
+const FEW_INPUTS: usize = 10;
+
+/// The pairs of a query's gates that seem to be equal.
+#[derive(Drop)]
+pub(crate) struct GatePairs<'a> {
+    pub(crate) base: &'a DenseBase,
+    /// The numbers of the clauses that say what the gates are: after the first clause three for each.
+    pub(crate) ids: &'a [u64],
+}
+
+impl<'a> QuestionGuide for GatePairs<'a> {
+    fn agenda(&mut self, alloc: Global) -> Result<Agenda, AllocError> {
+        agenda_of(alloc, self.base, self.ids)
+    }
+
+    fn done_with(&mut self, candidate: Candidate, lines: u64) -> Result<(), AllocError> {
+        let _ = (candidate, lines);
+        Ok(())
+    }
+
+    // The tab tells of each line.
+    fn learned(&mut self, lines: u64) {
+        let _ = lines;
+    }
+}
+
+/// The gates of a query's cones, and two candidates for each pair of them that seem to be equal: that the one is true and the
+/// other isn't. Where the cones have few inputs, these alone, to be decided first. The numbers are those of the cones' clauses:
+/// after the first clause three for each gate.
+///
+/// # Errors
+///
+/// Only when out of memory.
+pub fn agenda_of<B: Base>(alloc: Global, base: &B, ids: &[u64]) -> Result<Agenda, AllocError> {
+    let gates = gates_of(alloc, base, ids)?;
+    let inputs = inputs_of(alloc, &gates)?;
+    if inputs.len() <= FEW_INPUTS {
+        return Ok(inputs_first(alloc, inputs));
+    }
+    let candidates = candidates_of(alloc, &gates)?;
+    let gates = operands_of(alloc, &gates)?;
+    Ok(Agenda {
+        gates,
+        candidates,
+        leading: Vec::new(alloc),
+    })
+}
+
+// Nothing is looked at before the question, and inputs are decided first in it.
+fn inputs_first(alloc: Global, inputs: Vec<SatLit>) -> Agenda {
+    Agenda {
+        gates: Vec::new(alloc),
+        candidates: Vec::new(alloc),
+        leading: inputs,
+    }
+}
+
+// Two candidates for each pair.
+fn candidates_of(alloc: Global, gates: &[LitGate]) -> Result<Vec<Candidate>, AllocError> {
+    let pairs = pairs_of(alloc, gates, SEED)?;
+    let mut candidates = Vec::new(alloc);
+    for pair in pairs.iter() {
+        let GatePair { one, other } = *pair;
+        push_clash(&mut candidates, one, other.opposite())?;
+        push_clash(&mut candidates, one.opposite(), other)?;
+    }
+    Ok(candidates)
+}
+
+// The variables of each gate.
+fn operands_of(alloc: Global, gates: &[LitGate]) -> Result<Vec<Operands>, AllocError> {
+    let mut variables = Vec::new(alloc);
+    for gate in gates.iter() {
+        variables.push(Operands {
+            gate: gate.output.variable(),
+            first: gate.first.variable(),
+            second: gate.second.variable(),
+        })?;
+    }
+    Ok(variables)
+}
+
+// Adds the candidate that two literals are never true together.
+fn push_clash(
+    candidates: &mut Vec<Candidate>,
+    one: SatLit,
+    other: SatLit,
+) -> Result<(), AllocError> {
+    candidates.push(Candidate { one, other })?;
+    Ok(())
+}

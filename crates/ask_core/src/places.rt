@@ -1,0 +1,79 @@
+//! The places of names.
+
+ghost use Rattle.std.specs.Prelude.{◌≡◌, ◌<◌, ◌^◌, All, Contains, IfOk, length, slice_index_or};
+ghost use Rattle.std.specs.List.Sorted.{IsNonDecreasing};
+ghost use Rattle.ask_core.specs.Renamings.{AreNames, ArePlaces, TellPlaces};
+
+use std::alloc::{AllocError, Global};
+
+/// A table costs a word for each variable, which is zeroed at once, and a bisection some ten comparisons for each of the two or
+/// three literals of a clause. With this many variables for a clause the table is reckoned, not measured, to cost as much.
+const VARIABLES_A_CLAUSE: usize = 32;
+
+/// How the place of a name is found.
+#[derive(Drop)]
+pub(crate) enum Places {
+    /// By a table: the place of each variable that is a name.
+    Table(Vec<u64>),
+    /// By bisection of the names.
+    Bisected,
+}
+
+/// How the places of names are found where this many clauses are written over them: by a table where these are many beside the
+/// variables, and else by bisection.
+pub(crate) fn places_for(
+    alloc: Global,
+    clauses: usize,
+    names: &[u64],
+    variables: u64,
+) -> Result<Places, AllocError>
+    requires names { AreNames variables names.now }
+    requires ascending { IsNonDecreasing names.now }
+    ensures { IfOk result (TellPlaces names.now) }
+{
+    if variables as usize / VARIABLES_A_CLAUSE > clauses {
+        return Ok(Places::Bisected);
+    }
+    let table = table_of(alloc, names, variables)?;
+    Ok(Places::Table(table))
+}
+
+impl Places {
+    /// The place of a name.
+    pub(crate) fn of(&self, names: &[u64], name: u64) -> usize
+        requires named { Contains names.now name }
+        requires places { TellPlaces names.now self.now }
+        ensures there { result < length names.now }
+        ensures is { slice_index_or names.now result 0 ≡ name }
+    {
+        match self {
+            Places::Table(table) => table[name as usize] as usize,
+            Places::Bisected => bisected(names, name),
+        }
+    }
+}
+
+// The place that bisection finds.
+fn bisected(names: &[u64], name: u64) -> usize
+    requires named { Contains names.now name }
+    requires ascending { IsNonDecreasing names.now }
+    ensures there { result < length names.now }
+    ensures is { slice_index_or names.now result 0 ≡ name }
+{
+    let Ok(place) = names.binary_search(&name) else {
+        unreachable!()
+    };
+    place
+}
+
+// The place of each name.
+fn table_of(alloc: Global, names: &[u64], variables: u64) -> Result<Vec<u64>, AllocError>
+    requires names { AreNames variables names.now }
+    ensures { IfOk result (λ places. ArePlaces variables names.now places.items) }
+{
+    let mut places = vec![in alloc; 0; variables as usize]?;
+    for (place, name) in names.iter().enumerate() {
+        places[*name as usize] = place as u64;
+    }
+    Ok(places)
+}

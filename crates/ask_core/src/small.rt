@@ -1,0 +1,59 @@
+//! The search over names.
+
+ghost use Rattle.std.specs.Prelude.{◌≡◌, [], true, false, IfOk, IfErr};
+ghost use Rattle.ask_core.specs.Renamings.{numbers_of, small_formula};
+ghost use Rattle.ask_core.specs.Solved.{AreLearned, IsAll, IsFound, IsHalted};
+
+use crate::base::DenseBase;
+use crate::guiding::GatePairs;
+use crate::tab::Tab;
+use cnf_core::{Base, Stop};
+use learn_solver::{Finding, Solver, solve_guided};
+use std::alloc::{AllocError, Global};
+use watch_core::Watch;
+
+/// A solver for all clauses over names, without a line.
+pub(crate) fn solver_of(
+    alloc: Global,
+    dense: &DenseBase,
+) -> Result<Solver<'_, DenseBase>, AllocError>
+    ensures { IfOk result (IsAll (small_formula dense.now)) }
+{
+    let numbers = places(alloc, dense.count())?;
+    Solver::new(alloc, dense, &numbers, &[])
+}
+
+/// Looks for a model of clauses over names, of which the first n say what the gates are.
+pub(crate) fn solve_small<W: Watch>(
+    alloc: Global,
+    dense: &DenseBase,
+    gates: usize,
+    solver: &mut Solver<'_, DenseBase>,
+    tab: &mut Tab<'_, W>,
+) -> Result<Finding, Stop>
+    requires all { IsAll (small_formula dense.now) solver.old }
+    requires unlearned { tab.old.lines ≡ [] }
+    requires not_spent { tab.old.spent ≡ false }
+    requires opened { tab.old.opened ≡ true }
+    ensures found { IfOk result (IsFound (small_formula dense.now) solver.new.lines) }
+    ensures learned { IfOk result (λ _. AreLearned (small_formula dense.now) solver.new.lines) }
+    ensures stop { IfErr result (IsHalted (small_formula dense.now) solver.new.lines tab.old) }
+{
+    let gates = places(alloc, gates as u64)?;
+    let mut guide = GatePairs {
+        base: dense,
+        ids: &gates,
+    };
+    solve_guided(alloc, solver, &mut guide, tab)
+}
+
+// The numbers from 0 on.
+fn places(alloc: Global, count: u64) -> Result<Vec<u64>, AllocError>
+    ensures { IfOk result (λ places. places.items ≡ numbers_of [] 0 count) }
+{
+    let mut places = Vec::new(alloc);
+    for place in 0..count {
+        places.push(place)?;
+    }
+    Ok(places)
+}

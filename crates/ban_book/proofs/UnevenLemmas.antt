@@ -1,0 +1,177 @@
+-- A tally's ban by rows: what it lists, how long that is, and that it is valid.
+use Rattle.std.proofs.Common.{◌≡◌, ℕ, zero, suc, ◌+◌, ◌*◌, ◌<◌, ◌≤◌, ◌||◌, ◌&&◌, Bool, true, false, not, cond, List, [], ◌∷◌, ◌++◌, length, take, filter, get_or, count_by, append-nil, append_assoc, refl, sym, ap, subst, ◌∙◌, inl, inr, arith}
+use Rattle.std.specs.Bool.{beq}
+use Rattle.std.specs.List.{flat_map}
+use Rattle.std.proofs.lemmas.Bool.{and_parts, cases_Bool, cond-false, cond-true}
+use Rattle.std.proofs.lemmas.List.{take_all, take_more}
+use Rattle.std.proofs.lemmas.List.Elements.{All-cons, All-contains, All-nil}
+use Rattle.std.proofs.lemmas.List.Filters.{length-filter_both}
+use Rattle.std.proofs.lemmas.List.Sums.{count_by-le-length, length-filter}
+use Rattle.std.specs.Prelude.{All, Contains}
+use Rattle.circuits.specs.declared.port.Pair.{Pair}
+use Rattle.circuits.specs.declared.port.PortKind.TheVariants.{Output}
+use Rattle.net_core.specs.Sides.{Graphs}
+use Rattle.net_core.specs.declared.graphs.Side.{Side}
+use Rattle.claim_core.specs.declared.claims.Claim.{Claim}
+use Rattle.claim_core.specs.declared.claims.Shape.{Shape}
+use Rattle.account_core.specs.declared.step.Ban.{Ban}
+use Rattle.account_core.specs.Given.{Decided, given_of}
+use Rattle.account_core.specs.Ports.{IsKnown}
+use Rattle.account_core.specs.Steps.{IsValidBan}
+use Rattle.account_core.specs.Tallies.{other_side, port_on, AreBothOfEach, AreOfEach}
+use Rattle.ban_book.specs.Vectors.{IsVector}
+use Rattle.ban_book.specs.declared.told.InputTold.{InputTold}
+use Rattle.ban_book.specs.Told.{AddsFact, IsToldAs}
+use Rattle.ban_book.specs.Listed.{tally_of, tally_step, AreLists, ListsBoth, ListsOf, ListsOne}
+use Rattle.ban_book.specs.Rows.{both_of, lists_by, no_told, one_of, row_on, says_both, says_one, AreRows, HasOneOutput, IsRow, IsTallyBan, IsTold}
+use Rattle.ban_book.specs.Shown.{IsShownBan}
+use Rattle.ban_book.proofs.RowListLemmas.{flat_push}
+use Rattle.ban_book.proofs.ListedLemmas.{lists_both, lists_none, lists_one, lists_skip}
+use Rattle.ban_book.proofs.RowLemmas.{length_of_side, row_of_side}
+use Rattle.ban_book.proofs.TallyLemmas.{tally_valid}
+use Rattle.claim_core.proofs.EqualLemmas.{bool_decides}
+
+adds : (facts : List Decided) (claim : Claim) (told holds : Bool) (number : ℕ) (before after : List ℕ) → IsToldAs facts claim told number → beq told holds ≡ true → after ≡ before ++ number ∷ [] → AddsFact facts claim holds before after
+adds facts claim told holds number before after is same more = record {
+  number = number;
+  told = subst (λ h. IsToldAs facts claim h number) ((bool_decides told holds).0 same) is;
+  more = more;
+}
+
+-- one input more
+module _ (facts : List Decided) (side : Side) (output input : ℕ) (holds : Bool) (told : InputTold) (before : List ℕ) (is : IsTold facts side output input told) where
+  one_more : ListsOne facts holds side output input before → ListsOne facts holds side output (input + 1) (before ++ one_of holds told)
+  one_more lists =
+      elim (cases_Bool (beq told.up.holds holds)) [
+        | inl e ↦
+            subst (λ l. ListsOne facts holds side output (input + 1) (before ++ l)) (sym (cond-true _ _ _ e)) (lists_one facts holds side output input false before (before ++ told.up.number ∷ []) lists (adds facts _ told.up.holds holds told.up.number before _ is.up e refl))
+        | inr e ↦
+            elim (cases_Bool (beq told.down.holds holds)) [
+              | inl f ↦
+                  subst (λ l. ListsOne facts holds side output (input + 1) (before ++ l)) (sym (cond-false _ _ _ e ∙ cond-true _ _ _ f)) (lists_one facts holds side output input true before (before ++ told.down.number ∷ []) lists (adds facts _ told.down.holds holds told.down.number before _ is.down f refl))
+              | inr f ↦
+                  subst (λ l. ListsOne facts holds side output (input + 1) (before ++ l)) (sym (cond-false _ _ _ e ∙ cond-false _ _ _ f)) (subst (ListsOne facts holds side output (input + 1)) (sym (append-nil before)) (lists_skip AreOfEach facts holds side output input before lists))
+            ]
+      ]
+
+  both_more : ListsBoth facts holds side output input before → ListsBoth facts holds side output (input + 1) (before ++ both_of holds told)
+  both_more lists =
+      elim (cases_Bool (says_both holds told)) [
+        | inl e ↦
+            let parts = and_parts (beq told.up.holds holds) (beq told.down.holds holds) e in
+            subst (λ l. ListsBoth facts holds side output (input + 1) (before ++ l)) (sym (cond-true _ _ _ e)) (lists_both facts holds side output input before (before ++ told.up.number ∷ []) (before ++ told.up.number ∷ told.down.number ∷ []) lists (adds facts _ told.up.holds holds told.up.number before _ is.up parts.0 refl) (adds facts _ told.down.holds holds told.down.number _ _ is.down parts.1 (sym (append_assoc before (told.up.number ∷ []) (told.down.number ∷ [])))))
+        | inr e ↦
+            subst (λ l. ListsBoth facts holds side output (input + 1) (before ++ l)) (sym (cond-false _ _ _ e)) (subst (ListsBoth facts holds side output (input + 1)) (sym (append-nil before)) (lists_skip AreBothOfEach facts holds side output input before lists))
+      ]
+
+-- what each input of a row gives is listed
+listed : (shaped : List ℕ → List Shape → Type 0) (facts : List Decided) (holds : Bool) (side : Side) (output : ℕ) (numbers_of : InputTold → List ℕ) (row : List InputTold) → shaped [] [] → ((input : ℕ) (told : InputTold) (before : List ℕ) → IsTold facts side output input told → ListsOf shaped facts holds side output input before → ListsOf shaped facts holds side output (input + 1) (before ++ numbers_of told)) → IsRow facts side output row → (k : ℕ) → k ≤ length row → ListsOf shaped facts holds side output k (flat_map numbers_of (take k row))
+listed shaped facts holds side output numbers_of row start more is zero below =
+    lists_none shaped facts holds side output [] refl start
+listed shaped facts holds side output numbers_of row start more is (suc k) below =
+    let within : k < length row = omega (arith, below) in
+    let told = get_or row k no_told in
+    let before = listed shaped facts holds side output numbers_of row start more is k (omega (arith, below)) in
+    let numbers : flat_map numbers_of (take (k + 1) row) ≡ flat_map numbers_of (take k row) ++ numbers_of told = ap (flat_map numbers_of) (take_more row k no_told within) ∙ flat_push numbers_of (take k row) told in
+    let next : k + 1 ≡ suc k = omega arith in
+    subst (λ n. ListsOf shaped facts holds side output n (flat_map numbers_of (take n row))) next (subst (ListsOf shaped facts holds side output (k + 1)) (sym numbers) (more k told (flat_map numbers_of (take k row)) (is.each k no_told within) before))
+
+ones_listed : (facts : List Decided) (holds : Bool) (side : Side) (output : ℕ) (row : List InputTold) → IsRow facts side output row → ListsOne facts holds side output (length row) (flat_map (one_of holds) row)
+ones_listed facts holds side output row is =
+    subst (λ l. ListsOne facts holds side output (length row) (flat_map (one_of holds) l)) (take_all (length row) row (omega arith)) (listed AreOfEach facts holds side output (one_of holds) row tt (λ input told before. one_more facts side output input holds told before) is (length row) (omega arith))
+
+boths_listed : (facts : List Decided) (holds : Bool) (side : Side) (output : ℕ) (row : List InputTold) → IsRow facts side output row → ListsBoth facts holds side output (length row) (flat_map (both_of holds) row)
+boths_listed facts holds side output row is =
+    subst (λ l. ListsBoth facts holds side output (length row) (flat_map (both_of holds) l)) (take_all (length row) row (omega arith)) (listed AreBothOfEach facts holds side output (both_of holds) row refl (λ input told before. both_more facts side output input holds told before) is (length row) (omega arith))
+
+-- as many facts as inputs of which a claim says so
+one_length : (holds : Bool) (told : InputTold) (rest : List ℕ) (row : List InputTold) → length rest ≡ length (filter (says_one holds) row) → length (one_of holds told ++ rest) ≡ length (filter (says_one holds) (told ∷ row))
+one_length holds told rest row same =
+    elim (cases_Bool (beq told.up.holds holds)) [
+      | inl e ↦
+          let passes : says_one holds told ≡ true = ap (λ b. b || beq told.down.holds holds) e in
+          omega (arith, same, ap (λ (l : List ℕ). length (l ++ rest)) (cond-true (beq told.up.holds holds) (told.up.number ∷ []) (cond (beq told.down.holds holds) (told.down.number ∷ []) []) e), ap length (cond-true (says_one holds told) (told ∷ filter (says_one holds) row) (filter (says_one holds) row) passes))
+      | inr e ↦
+          elim (cases_Bool (beq told.down.holds holds)) [
+            | inl f ↦
+                let passes : says_one holds told ≡ true = ap (λ b. b || beq told.down.holds holds) e ∙ f in
+                omega (arith, same, ap (λ (l : List ℕ). length (l ++ rest)) (cond-false (beq told.up.holds holds) (told.up.number ∷ []) (cond (beq told.down.holds holds) (told.down.number ∷ []) []) e ∙ cond-true (beq told.down.holds holds) (told.down.number ∷ []) [] f), ap length (cond-true (says_one holds told) (told ∷ filter (says_one holds) row) (filter (says_one holds) row) passes))
+            | inr f ↦
+                let fails : says_one holds told ≡ false = ap (λ b. b || beq told.down.holds holds) e ∙ f in
+                omega (arith, same, ap (λ (l : List ℕ). length (l ++ rest)) (cond-false (beq told.up.holds holds) (told.up.number ∷ []) (cond (beq told.down.holds holds) (told.down.number ∷ []) []) e ∙ cond-false (beq told.down.holds holds) (told.down.number ∷ []) [] f), ap length (cond-false (says_one holds told) (told ∷ filter (says_one holds) row) (filter (says_one holds) row) fails))
+          ]
+    ]
+
+ones_filtered : (holds : Bool) (row : List InputTold) → length (flat_map (one_of holds) row) ≡ length (filter (says_one holds) row)
+ones_filtered holds [] = refl
+ones_filtered holds (told ∷ row) = one_length holds told (flat_map (one_of holds) row) row (ones_filtered holds row)
+
+ones_length : (holds : Bool) (row : List InputTold) → length (flat_map (one_of holds) row) ≡ count_by (says_one holds) row
+ones_length holds row = ones_filtered holds row ∙ length-filter (says_one holds) row
+
+-- twice as many as inputs of which both do
+both_length : (holds : Bool) (told : InputTold) (rest : List ℕ) (row : List InputTold) → length rest ≡ 2 * length (filter (says_both holds) row) → length (both_of holds told ++ rest) ≡ 2 * length (filter (says_both holds) (told ∷ row))
+both_length holds told rest row same =
+    elim (cases_Bool (says_both holds told)) [
+      | inl e ↦
+          omega (arith, same, ap (λ (l : List ℕ). length (l ++ rest)) (cond-true (says_both holds told) (told.up.number ∷ told.down.number ∷ []) [] e), ap length (cond-true (says_both holds told) (told ∷ filter (says_both holds) row) (filter (says_both holds) row) e))
+      | inr e ↦
+          omega (arith, same, ap (λ (l : List ℕ). length (l ++ rest)) (cond-false (says_both holds told) (told.up.number ∷ told.down.number ∷ []) [] e), ap length (cond-false (says_both holds told) (told ∷ filter (says_both holds) row) (filter (says_both holds) row) e))
+    ]
+
+boths_filtered : (holds : Bool) (row : List InputTold) → length (flat_map (both_of holds) row) ≡ 2 * length (filter (says_both holds) row)
+boths_filtered holds [] = refl
+boths_filtered holds (told ∷ row) = both_length holds told (flat_map (both_of holds) row) row (boths_filtered holds row)
+
+boths_length : (holds : Bool) (row : List InputTold) → length (flat_map (both_of holds) row) ≡ 2 * count_by (says_both holds) row
+boths_length holds row = boths_filtered holds row ∙ ap (λ n. 2 * n) (length-filter (says_both holds) row)
+
+-- of both claims of an input one says so, or both say the opposite
+opposite : (holds a b : Bool) → (beq a (not holds) && beq b (not holds)) ≡ not (beq a holds || beq b holds)
+opposite true true true = refl
+opposite true true false = refl
+opposite true false true = refl
+opposite true false false = refl
+opposite false true true = refl
+opposite false true false = refl
+opposite false false true = refl
+opposite false false false = refl
+
+pub both_or_one : (holds : Bool) (row : List InputTold) → count_by (says_one holds) row + count_by (says_both (not holds)) row ≡ length row
+both_or_one holds row =
+    omega (arith, length-filter_both (says_one holds) (says_both (not holds)) (λ told. opposite holds told.up.holds told.down.holds) row, length-filter (says_one holds) row, length-filter (says_both (not holds)) row)
+
+-- A tally's ban is valid in view of facts that the rows tell of.
+module _ (graphs : Graphs) (facts : List Decided) (pair : Pair) (one other : List InputTold) (are : AreRows facts pair one other) where
+  lists_are : (side : Side) (holds : Bool) → AreLists facts pair side holds (lists_by holds (row_on side one other) (row_on (other_side side) one other))
+  lists_are side holds = record {
+    bound = length (row_on side one other);
+    bound_both = length (row_on (other_side side) one other);
+    one = ones_listed facts holds side (port_on side pair) (row_on side one other) (row_of_side facts pair side one other are);
+    both = boths_listed facts (not holds) (other_side side) (port_on (other_side side) pair) (row_on (other_side side) one other) (row_of_side facts pair (other_side side) one other are);
+  }
+
+  uneven_valid : (bans : List Ban) (side : Side) (holds : Bool) → pair.kind ≡ Output → IsKnown graphs pair → length one ≡ graphs.first.inputs → length other ≡ graphs.first.inputs → count_by (says_one holds) (row_on (other_side side) one other) < count_by (says_one holds) (row_on side one other) → IsValidBan graphs (given_of facts bans) (tally_of pair holds (lists_by holds (row_on side one other) (row_on (other_side side) one other)))
+  uneven_valid bans side holds kind known first second more =
+      let these = row_on side one other in
+      let those = row_on (other_side side) one other in
+      let lists = lists_by holds these those in
+      let ones : length lists.one ≡ count_by (says_one holds) these = ones_length holds these in
+      let boths : length lists.both ≡ 2 * count_by (says_both (not holds)) those = boths_length (not holds) those in
+      let whole = length_of_side side one other graphs.first.inputs first second in
+      let whole_other = length_of_side (other_side side) one other graphs.first.inputs first second in
+      let most = count_by-le-length (says_one holds) these in
+      let split = both_or_one holds those in
+      tally_valid graphs facts bans pair side holds lists kind known (lists_are side holds) (omega (arith, ones, more)) (omega (arith, boths, split, most, more, whole, whole_other)) (omega (arith, ones, boths, split, more, whole, whole_other))
+
+no_vector : (holds : Bool) (one both : List ℕ) → IsVector (tally_step holds one both) → ⊥
+no_vector true one both is = is
+no_vector false one both is = is
+
+pub uneven_shown : (graphs : Graphs) (facts : List Decided) (pairs : List Pair) (pair : Pair) (one other : List InputTold) (ban : Ban) → All (IsKnown graphs) pairs → HasOneOutput pairs pair → length one ≡ graphs.first.inputs → length other ≡ graphs.first.inputs → IsTallyBan pair one other ban → AreRows facts pair one other → IsShownBan graphs facts pairs ban
+uneven_shown graphs facts pairs pair one other ban known has first second is are =
+    subst (IsShownBan graphs facts pairs) (sym is.ban_is) (record {
+      valid = λ bans. uneven_valid graphs facts pair one other are bans is.side is.holds has.of_output (All-contains (IsKnown graphs) pairs pair known has.has) first second is.more;
+      within = record { among = All-cons (Contains pairs) pair [] has.has (All-nil (Contains pairs)) };
+      no_vector = no_vector is.holds _ _;
+    })

@@ -1,0 +1,125 @@
+//! Bans that say that no way of a block is left.
+
+ghost use Rattle.std.specs.Prelude.{◌≡◌, ◌⊎◌, ◌∷◌, All, AllPairs, Contains, IfOk, OnOk, List};
+ghost use Rattle.account_core.specs.declared.step.Ban.{Ban as AnyBan};
+ghost use Rattle.account_core.specs.Ports.{AreOrdered, IsKnown, ports_in};
+ghost use Rattle.account_core.specs.Given.{Decided as AnyFact, given_of};
+ghost use Rattle.account_core.specs.Steps.{IsValidBan};
+ghost use Rattle.ban_book.specs.Covering.{Covers};
+ghost use Rattle.ban_book.specs.Vectors.{IsVector};
+ghost use Rattle.account_core.specs.Held.{AddsHeld, AreApart, IsPart};
+ghost use Rattle.ban_book.specs.Ways.{ways_in, AreClosed, HoldsMore, IsBlock};
+
+use crate::BanBook;
+use crate::block::Block;
+use crate::needed::add;
+use account_core::{Ban, PairableGraphs, Step};
+use circuits::Pair;
+use items::{Few, Items};
+use std::alloc::{AllocError, Global};
+
+#[tactic(auto, using(crate::proofs::HoldLemmas::holds_none))]
+/// Holds the ban of these pairs, in order, for a block of which all ways are closed beside them, and answers its number.
+pub fn hold_cover(
+    alloc: Global,
+    graphs: &PairableGraphs<'_>,
+    pairs: &[Pair],
+    block: Block,
+    refs: Items<Option<u64>>,
+    book: &mut BanBook,
+) -> Result<u64, AllocError>
+    requires known { All (IsKnown graphs.now) pairs.now }
+    requires ordered { AreOrdered pairs.now }
+    requires block { IsBlock (ports_in graphs.now.second block.kind) block }
+    requires closed { AreClosed book.old pairs.now (ways_in block) refs }
+    ensures more { HoldsMore graphs.now book.old book.new }
+    ensures covers { IfOk result (Covers book.new pairs.now) }
+{
+    let ban = cover_of(alloc, graphs, pairs, block, refs)?;
+    let held = book.hold(ban)?;
+    Ok(held)
+}
+
+// The ban of these pairs for a block.
+fn cover_of(
+    alloc: Global,
+    graphs: &PairableGraphs<'_>,
+    pairs: &[Pair],
+    block: Block,
+    refs: Items<Option<u64>>,
+) -> Result<Ban, AllocError>
+    requires known { All (IsKnown graphs.now) pairs.now }
+    requires ordered { AreOrdered pairs.now }
+    requires block { IsBlock (ports_in graphs.now.second block.kind) block }
+    ensures valid { IfOk result (λ ban. (facts : List AnyFact) (bans : List AnyBan)
+        → AreClosed bans pairs.now (ways_in block) refs
+        → IsValidBan graphs.now (given_of facts bans) ban) }
+    ensures step { IfOk result (λ ban. IsVector ban.step → ⊥) }
+    ensures pairs { IfOk result (λ ban. ban.pairs ≡ pairs.now) }
+{
+    let _count = graphs.ports(block.kind);
+    let pairs = Few::from_slice(alloc, pairs)?;
+    let Block { kind, from, to } = block;
+    Ok(Ban {
+        pairs,
+        step: Step::Cover {
+            kind,
+            from,
+            to,
+            refs,
+        },
+    })
+}
+
+/// Adds pairs of a ban, but for the way itself.
+pub fn add_others(
+    needed: &mut Vec<Pair>,
+    held: &[Pair],
+    way: Pair,
+    pairs: &[Pair],
+) -> Result<(), AllocError>
+    requires part { IsPart held.now needed.old.items }
+    requires apart { AllPairs AreApart held.now }
+    requires among { All (Contains (way ∷ held.now)) pairs.now }
+    ensures adds { OnOk result (AddsHeld held.now needed.old.items needed.new.items) }
+    ensures among { OnOk result (All (Contains (way ∷ needed.new.items)) pairs.now) }
+{
+    for pair in pairs.iter() {
+        add_unless(needed, held, way, *pair)?;
+    }
+    Ok(())
+}
+
+// Adds a held pair, unless it is the way itself.
+fn add_unless(
+    needed: &mut Vec<Pair>,
+    held: &[Pair],
+    way: Pair,
+    pair: Pair,
+) -> Result<(), AllocError>
+    requires part { IsPart held.now needed.old.items }
+    requires apart { AllPairs AreApart held.now }
+    requires held { Contains (way ∷ held.now) pair }
+    ensures adds { OnOk result (AddsHeld held.now needed.old.items needed.new.items) }
+    ensures added { OnOk result (Contains (way ∷ needed.new.items) pair) }
+{
+    if pair == way {
+        return Ok(());
+    }
+    add_one(needed, held, pair)?;
+    Ok(())
+}
+
+/// Adds a held pair to some of those that are held, in order.
+pub fn add_one(needed: &mut Vec<Pair>, held: &[Pair], pair: Pair) -> Result<(), AllocError>
+    requires part { IsPart held.now needed.old.items }
+    requires apart { AllPairs AreApart held.now }
+    requires held { Contains held.now pair }
+    ensures adds { OnOk result (AddsHeld held.now needed.old.items needed.new.items) }
+    ensures added { OnOk result (Contains needed.new.items pair) }
+    ensures only { OnOk result (All (λ other. Contains needed.old.items other ⊎ (other ≡ pair)) needed.new.items) }
+{
+    let _ = held;
+    add(needed, pair)?;
+    Ok(())
+}

@@ -1,0 +1,86 @@
+//! Bans by a claim of the first circuit that is decided otherwise than the one that pairs carry it to.
+
+ghost use Rattle.std.specs.Prelude.{◌≡◌, IfOk};
+ghost use Rattle.net_core.specs.declared.graphs.Side.TheVariants as AnySide;
+ghost use Rattle.claim_core.specs.Images.{moved_value, one_input};
+ghost use Rattle.ban_book.specs.Mismatched.{mismatch_of, unlike_of};
+
+use crate::ports::{moved_value, one_input};
+use crate::told::Told;
+use account_core::{Ban, Step};
+use circuits::Pair;
+use claim_core::Claim;
+use items::Few;
+use net_core::Side;
+use std::alloc::{AllocError, Global};
+
+/// A claim of the first circuit, and that of the second which pairs carry it to.
+#[derive(Clone, Copy, Debug, Drop)]
+pub struct Carried {
+    pub claim: Claim,
+    pub image: Claim,
+}
+
+/// The claim of an input with a value at an output of the first circuit, and the one that the pairs of both carry it to.
+pub fn carry(input: Pair, output: Pair, value: bool) -> Carried
+    ensures claim { result.claim ≡ record { side = AnySide.First; output = output.from; shape = one_input input.from value } }
+    ensures image { result.image ≡ record {
+      side = AnySide.Second;
+      output = output.to;
+      shape = one_input input.to (moved_value output.flip input value);
+    } }
+{
+    Carried {
+        claim: Claim {
+            side: Side::First,
+            output: output.from,
+            shape: one_input(input.from, value),
+        },
+        image: Claim {
+            side: Side::Second,
+            output: output.to,
+            shape: one_input(input.to, moved_value(output.flip, input, value)),
+        },
+    }
+}
+
+/// The numbers of two facts that tell pairs apart: a claim fails, and the one that the pairs carry it to holds, or that they carry
+/// to it.
+#[derive(Clone, Copy, Debug, Drop, PartialEq, Eq)]
+pub struct Unlike {
+    pub fails: u64,
+    pub holds: u64,
+}
+
+/// Which of two facts fails, and which one holds.
+pub fn unlike_of(one: Told, other: Told) -> Unlike
+    ensures { result ≡ unlike_of one.holds one.number other.number }
+{
+    if one.holds {
+        Unlike {
+            fails: other.number,
+            holds: one.number,
+        }
+    } else {
+        Unlike {
+            fails: one.number,
+            holds: other.number,
+        }
+    }
+}
+
+/// The ban of pairs by two facts.
+///
+/// # Errors
+///
+/// When out of memory.
+pub fn mismatch_ban(alloc: Global, pairs: &[Pair], unlike: Unlike) -> Result<Ban, AllocError>
+    ensures { IfOk result (λ ban. ban ≡ mismatch_of pairs.now unlike) }
+{
+    let pairs = Few::from_slice(alloc, pairs)?;
+    let Unlike { fails, holds } = unlike;
+    Ok(Ban {
+        pairs,
+        step: Step::Mismatch { fails, holds },
+    })
+}

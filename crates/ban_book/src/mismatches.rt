@@ -1,0 +1,109 @@
+//! Bans of an input's pair and an output's, by rows that tell their claims apart.
+
+ghost use Rattle.std.specs.Prelude.{◌≡◌, ◌<◌, All, Contains, IfNone, IfOk, IfSome, length};
+ghost use Rattle.circuits.specs.declared.port.PortKind.TheVariants.{Input};
+ghost use Rattle.claim_core.specs.Images.{moved_value};
+ghost use Rattle.ban_book.specs.Rows.{AreAlike, IsApart, IsApartAt, IsMismatchBan, told_at};
+
+use crate::mismatched::{Unlike, mismatch_ban, unlike_of};
+use crate::ports::moved_value;
+use crate::told::{InputTold, Told};
+use account_core::Ban;
+use circuits::{Pair, PortKind};
+use std::alloc::{AllocError, Global};
+
+/// The pair of an input, and the facts that tell it apart from an output's.
+#[derive(Clone, Copy, Debug, Drop)]
+pub(crate) struct Apart {
+    pub(crate) input: Pair,
+    pub(crate) unlike: Unlike,
+}
+
+/// The ban of an input's pair and an output's where a claim of the first circuit is told otherwise than the one that they carry
+/// it to, by the outputs' rows: of the first such input among some pairs.
+pub(crate) fn mismatch_by_rows(
+    alloc: Global,
+    pairs: &[Pair],
+    output: Pair,
+    first: &[InputTold],
+    second: &[InputTold],
+) -> Result<Option<Ban>, AllocError>
+    requires from { All (λ pair. pair.kind ≡ Input → pair.from < length first.now) pairs.now }
+    requires to { All (λ pair. pair.kind ≡ Input → pair.to < length second.now) pairs.now }
+    ensures shown { IfOk result (λ found. IfSome found (IsMismatchBan pairs.now output first.now second.now)) }
+    ensures none { IfOk result (λ found. IfNone found
+        (All (λ pair. pair.kind ≡ Input → AreAlike output first.now second.now pair) pairs.now)) }
+{
+    let Some(apart) = first_apart(pairs, output, first, second) else {
+        return Ok(None);
+    };
+    let ban = mismatch_ban(alloc, &[apart.input, output], apart.unlike)?;
+    Ok(Some(ban))
+}
+
+// The first of some pairs of inputs that the rows tell apart from an output's pair.
+fn first_apart(
+    pairs: &[Pair],
+    output: Pair,
+    first: &[InputTold],
+    second: &[InputTold],
+) -> Option<Apart>
+    requires from { All (λ pair. pair.kind ≡ Input → pair.from < length first.now) pairs.now }
+    requires to { All (λ pair. pair.kind ≡ Input → pair.to < length second.now) pairs.now }
+    ensures some { IfSome result (λ apart. Contains pairs.now apart.input × IsApart output first.now second.now apart) }
+    ensures none { IfNone result (All (λ pair. pair.kind ≡ Input → AreAlike output first.now second.now pair) pairs.now) }
+{
+    for input in pairs.iter() {
+        if let Some(apart) = told_apart(*input, output, first, second) {
+            return Some(apart);
+        }
+    }
+    None
+}
+
+// The facts that tell a pair, if it is of an input, apart from an output's pair.
+fn told_apart(input: Pair, output: Pair, first: &[InputTold], second: &[InputTold]) -> Option<Apart>
+    requires from { input.kind ≡ Input → input.from < length first.now }
+    requires to { input.kind ≡ Input → input.to < length second.now }
+    ensures some { IfSome result (λ apart. (apart.input ≡ input) × IsApart output first.now second.now apart) }
+    ensures none { IfNone result (input.kind ≡ Input → AreAlike output first.now second.now input) }
+{
+    if input.kind != PortKind::Input {
+        return None;
+    }
+    let unlike = match apart_with(input, output, false, first, second) {
+        Some(unlike) => unlike,
+        None => apart_with(input, output, true, first, second)?,
+    };
+    Some(Apart { input, unlike })
+}
+
+// The facts of the input's claim with a value and its image, where one holds and the other one fails.
+fn apart_with(
+    input: Pair,
+    output: Pair,
+    value: bool,
+    first: &[InputTold],
+    second: &[InputTold],
+) -> Option<Unlike>
+    requires from { input.from < length first.now }
+    requires to { input.to < length second.now }
+    ensures some { IfSome result (IsApartAt output first.now second.now input value) }
+    ensures none { IfNone result ((told_at first.now input.from value).holds
+        ≡ (told_at second.now input.to (moved_value output.flip input value)).holds) }
+{
+    let one = told_at(first, input.from, value);
+    let other = told_at(second, input.to, moved_value(output.flip, input, value));
+    if one.holds == other.holds {
+        return None;
+    }
+    Some(unlike_of(one, other))
+}
+
+// What a row tells of an input with a value.
+fn told_at(row: &[InputTold], input: u32, value: bool) -> Told
+    requires { input < length row.now }
+    ensures { result ≡ told_at row.now input value }
+{
+    row[input as usize].with(value)
+}

@@ -1,0 +1,152 @@
+//! Bans of a pair of outputs, by counts of their inputs.
+
+ghost use Rattle.std.specs.Prelude.{◌≡◌, ◌++◌, ◌<◌, not, IfNone, IfOk, IfSome, OnOk, count_by};
+ghost use Rattle.std.specs.List.{flat_map};
+ghost use Rattle.ban_book.specs.Listed.{tally_of};
+ghost use Rattle.ban_book.specs.Rows.{AreEven, IsTallyBan, both_of, lists_by, one_of, says_one};
+
+use crate::told::InputTold;
+use account_core::{Ban, Step, Tallied};
+use circuits::Pair;
+use items::{Few, Items};
+use std::alloc::{AllocError, Global};
+
+/// The numbers of facts that a tally is by: of one claim an input for one output, and of both claims for the other one.
+#[derive(Debug, Drop)]
+pub struct Lists {
+    pub one: Items<u64>,
+    pub both: Items<u64>,
+}
+
+/// The ban of a pair of outputs that facts are for: of one claim an input that holds, and two that fail, by the inputs in which
+/// outputs are binate; of one that fails, and two that hold, by the inputs that they depend on.
+///
+/// # Errors
+///
+/// When out of memory.
+pub fn tally_ban(alloc: Global, pair: Pair, holds: bool, lists: Lists) -> Result<Ban, AllocError>
+    ensures { IfOk result (λ ban. ban ≡ tally_of pair holds lists) }
+{
+    let pairs = Few::from_slice(alloc, &[pair])?;
+    let Lists { one, both } = lists;
+    let step = if holds {
+        Step::Tally {
+            kind: Tallied::Binate,
+            have: both,
+            lack: one,
+        }
+    } else {
+        Step::Tally {
+            kind: Tallied::Support,
+            have: one,
+            lack: both,
+        }
+    };
+    Ok(Ban { pairs, step })
+}
+
+/// The ban of a pair of outputs of which one depends on more inputs than the other one, or is binate in more, by the outputs' rows.
+pub(crate) fn tally_by_rows(
+    alloc: Global,
+    pair: Pair,
+    first: &[InputTold],
+    second: &[InputTold],
+) -> Result<Option<Ban>, AllocError>
+    ensures shown { IfOk result (λ found. IfSome found (IsTallyBan pair first.now second.now)) }
+    ensures none { IfOk result (λ found. IfNone found (AreEven first.now second.now)) }
+{
+    match uneven(alloc, pair, first, second, false)? {
+        Some(ban) => Ok(Some(ban)),
+        None => uneven(alloc, pair, first, second, true),
+    }
+}
+
+// The ban of a pair of outputs of which one has more inputs than the other one of which a claim holds, or fails.
+fn uneven(
+    alloc: Global,
+    pair: Pair,
+    first: &[InputTold],
+    second: &[InputTold],
+    holds: bool,
+) -> Result<Option<Ban>, AllocError>
+    ensures shown { IfOk result (λ found. IfSome found (IsTallyBan pair first.now second.now)) }
+    ensures none { IfOk result (λ found. IfNone found
+        (count_by (says_one holds) first.now ≡ count_by (says_one holds) second.now)) }
+{
+    let one = count(first, holds);
+    let other = count(second, holds);
+    if one > other {
+        let ban = uneven_ban(alloc, pair, first, second, holds)?;
+        return Ok(Some(ban));
+    }
+    if other > one {
+        let ban = uneven_ban(alloc, pair, second, first, holds)?;
+        return Ok(Some(ban));
+    }
+    Ok(None)
+}
+
+// How many inputs there are of which a claim holds, or fails.
+fn count(row: &[InputTold], holds: bool) -> usize
+    ensures { result ≡ count_by (says_one holds) row.now }
+{
+    row.iter().filter(|told| told.says_one(holds)).count()
+}
+
+// The ban by the inputs of one row of which a claim holds, or fails, and those of the other row of which none does.
+fn uneven_ban(
+    alloc: Global,
+    pair: Pair,
+    more: &[InputTold],
+    fewer: &[InputTold],
+    holds: bool,
+) -> Result<Ban, AllocError>
+    ensures { IfOk result (λ ban. ban ≡ tally_of pair holds (lists_by holds more.now fewer.now)) }
+{
+    let one = list_one(alloc, more, holds)?;
+    let both = list_both(alloc, fewer, !holds)?;
+    tally_ban(alloc, pair, holds, Lists { one, both })
+}
+
+// The facts of one claim an input that holds, or fails, where there is one.
+fn list_one(alloc: Global, row: &[InputTold], holds: bool) -> Result<Items<u64>, AllocError>
+    ensures { IfOk result (λ numbers. numbers ≡ flat_map (one_of holds) row.now) }
+{
+    let mut numbers = Items::new(alloc);
+    for told in row.iter() {
+        add_one(&mut numbers, *told, holds)?;
+    }
+    Ok(numbers)
+}
+
+fn add_one(numbers: &mut Items<u64>, told: InputTold, holds: bool) -> Result<(), AllocError>
+    ensures { OnOk result (numbers.new ≡ numbers.old ++ one_of holds told) }
+{
+    if told.up.holds == holds {
+        numbers.push(told.up.number)?;
+    } else if told.down.holds == holds {
+        numbers.push(told.down.number)?;
+    }
+    Ok(())
+}
+
+// The facts of both claims of each input that both hold, or both fail.
+fn list_both(alloc: Global, row: &[InputTold], holds: bool) -> Result<Items<u64>, AllocError>
+    ensures { IfOk result (λ numbers. numbers ≡ flat_map (both_of holds) row.now) }
+{
+    let mut numbers = Items::new(alloc);
+    for told in row.iter() {
+        add_both(&mut numbers, *told, holds)?;
+    }
+    Ok(numbers)
+}
+
+fn add_both(numbers: &mut Items<u64>, told: InputTold, holds: bool) -> Result<(), AllocError>
+    ensures { OnOk result (numbers.new ≡ numbers.old ++ both_of holds told) }
+{
+    if told.says_both(holds) {
+        numbers.push(told.up.number)?;
+        numbers.push(told.down.number)?;
+    }
+    Ok(())
+}

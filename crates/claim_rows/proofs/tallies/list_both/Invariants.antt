@@ -1,8 +1,0 @@
--- What the inputs so far give is listed.
-use Rattle.std.proofs.Common.{◌≡◌, take}
-use Rattle.std.specs.List.{flat_map}
-use Rattle.claim_rows.specs.Rows.{both_of}
-use Rattle.claim_rows.proofs.tallies.list_both.Given as goal
-
-abbrev pub invariant-loop-told : goal.invariant-loop-told
-invariant-loop-told l = l.numbers ≡ flat_map (both_of l.holds) (take l.told-index l.row)

@@ -1,6 +1,0 @@
-use Rattle.std.proofs.Common.{take}
-use Rattle.conflict_core.proofs.NamedLemmas.{AreGathered}
-use Rattle.conflict_core.proofs.gather.gather.Given as goal
-
-abbrev pub invariant-loop-way : goal.invariant-loop-way
-invariant-loop-way l = AreGathered l.bans l.domains.entries l.held l.fn.conflict.items l.conflict.items (take l.way-index l.ways) l.skipped l.noted.items

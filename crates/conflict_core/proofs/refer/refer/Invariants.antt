@@ -1,7 +1,0 @@
-use Rattle.std.proofs.Common.{take}
-use Rattle.port_covers.specs.Ways.{AreClosed}
-use Rattle.conflict_core.specs.Grounded.{LearnsMore}
-use Rattle.conflict_core.proofs.refer.refer.Given as goal
-
-abbrev pub invariant-loop-place : goal.invariant-loop-place
-invariant-loop-place l = AreClosed l.book l.conflict (take l.place l.ways) l.refs × LearnsMore l.graphs l.domains.entries l.fn.book l.book

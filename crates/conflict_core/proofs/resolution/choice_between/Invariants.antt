@@ -1,5 +1,0 @@
-use Rattle.conflict_core.specs.Conflicts.{HasNoChoice}
-use Rattle.conflict_core.proofs.resolution.choice_between.Given as goal
-
-abbrev pub invariant-loop-place : goal.invariant-loop-place
-invariant-loop-place l = HasNoChoice l.entries l.from l.place

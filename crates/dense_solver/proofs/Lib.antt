@@ -1,5 +1,0 @@
-pub mod RenameLemmas
-pub mod LineLemmas
-pub mod BaseLemmas
-pub mod SmallLemmas
-pub mod FullLemmas

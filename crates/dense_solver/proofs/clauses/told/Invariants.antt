@@ -1,9 +1,0 @@
--- The clauses of the numbers so far.
-use Rattle.std.proofs.Common.{map, take}
-use Rattle.cnf_core.specs.Clauses.{clause_at}
-use Rattle.claim_core.specs.Formulas.{formula_of}
-use Rattle.dense_solver.specs.Renamings.{AreOver}
-use Rattle.dense_solver.proofs.clauses.told.Given as goal
-
-abbrev pub invariant-loop-id : goal.invariant-loop-id
-invariant-loop-id l = AreOver (formula_of l.cones.graphs l.cones.query).variables (map (clause_at (formula_of l.cones.graphs l.cones.query).clauses) (take l.id-index l.cones.ids)) l.clauses.items

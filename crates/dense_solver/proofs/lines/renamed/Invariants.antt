@@ -1,6 +1,0 @@
-use Rattle.std.proofs.Common.{◌≡◌, map, take}
-use Rattle.dense_solver.specs.Renamings.{renamed}
-use Rattle.dense_solver.proofs.lines.renamed.Given as goal
-
-abbrev pub invariant-loop-literal : goal.invariant-loop-literal
-invariant-loop-literal l = l.copy ≡ map (renamed l.names) (take l.literal-index l.clause)

@@ -1,7 +1,0 @@
--- The numbers so far.
-use Rattle.std.proofs.Common.{◌≡◌, []}
-use Rattle.dense_solver.specs.Renamings.{numbers_of}
-use Rattle.dense_solver.proofs.small.places.Given as goal
-
-abbrev pub invariant-loop-place : goal.invariant-loop-place
-invariant-loop-place l = l.places.items ≡ numbers_of [] 0 l.place

@@ -1,6 +1,0 @@
--- The lines so far.
-use Rattle.std.proofs.Common.{◌≡◌, ◌++◌}
-use Rattle.dense_solver.proofs.telling.joined.Given as goal
-
-abbrev pub invariant-loop-line : goal.invariant-loop-line
-invariant-loop-line l = l.whole.items ≡ l.lemmas ++ l.yielded

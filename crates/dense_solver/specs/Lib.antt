@@ -1,3 +1,0 @@
-pub mod Renamings
-pub mod Solved
-pub use Rattle.learn_solver.specs.Solvers

@@ -1,5 +1,0 @@
-use Rattle.std.proofs.Common.{◌≡◌, length}
-use Rattle.gate_pairs.proofs.classes.draw_column.Given as goal
-
-abbrev pub invariant-loop-word : goal.invariant-loop-word
-invariant-loop-word l = (length l.table.columns ≡ length l.initial.table.columns) × (l.table.words ≡ l.initial.table.words)

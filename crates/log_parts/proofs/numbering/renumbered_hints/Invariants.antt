@@ -1,7 +1,0 @@
--- The hints so far have their numbers.
-use Rattle.std.proofs.Common.{◌≡◌, Some, map, take}
-use Rattle.log_parts.specs.Parts.{number_in}
-use Rattle.log_parts.proofs.numbering.renumbered_hints.Given as goal
-
-abbrev pub invariant-loop-hint : goal.invariant-loop-hint
-invariant-loop-hint l = map (number_in l.common l.numbers) (take l.hint-index l.hints) ≡ map Some l.own

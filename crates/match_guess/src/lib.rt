@@ -1,0 +1,17 @@
+//! A matching that may be a match, without evidence.
+#![tactic(auto)]
+
+mod choice;
+mod choice_point;
+mod circuit;
+mod guesser;
+mod kept;
+mod leaf;
+mod matching;
+mod patience;
+mod signs;
+mod trials;
+mod vectors;
+
+pub use guesser::{Effort, Guesser};
+pub use trials::{Suspect, Trials};

@@ -1,0 +1,105 @@
+//! Which port is decided next.
+
+ghost use Rattle.std.specs.Prelude.{ℕ, ◌≡◌, ◌<◌, false, IfNone, IfOk, IfSome, IsTrue};
+ghost use Rattle.net_core.specs.declared.graphs.Side.TheVariants as AnySide;
+ghost use Rattle.account_core.specs.Held.{IsTaken, IsWhole};
+ghost use Rattle.pair_domains.specs.Trails.{IsFreePort, held_in, ports_of};
+ghost use Rattle.pair_search.specs.Conflicts.{FitPorts};
+
+use crate::fewest::fewest_ways;
+use crate::guide::Guide;
+use account_core::PairableGraphs;
+use circuits::PortKind;
+use net_core::Side;
+use pair_domains::Domains;
+use pair_search::Port;
+use std::alloc::{AllocError, Global};
+
+/// The next port that is in no pair: the urgent one, or that of either circuit which has the fewest ways left for its
+/// weight, of the inputs that outputs in pairs read, else of the outputs. It is None where each port is in a pair.
+///
+/// # Errors
+///
+/// Only when out of memory.
+pub fn next_port(
+    alloc: Global,
+    graphs: &PairableGraphs<'_>,
+    guide: &Guide,
+    domains: &Domains,
+) -> Result<Option<Port>, AllocError>
+    requires fit { FitPorts graphs.now domains.now.inputs domains.now.outputs }
+    ensures port { IfOk result (λ next. IfSome next
+        (λ port. port.number < ports_of domains.now.inputs domains.now.outputs port.kind)) }
+    ensures free { IfOk result (λ next. IfSome next
+        (λ port. IsFreePort domains.now.entries port.side port.kind port.number)) }
+    ensures none { IfOk result (λ next. IfNone next (IsWhole graphs.now (held_in domains.now.entries))) }
+{
+    if let Some(port) = preferred(alloc, guide, domains)? {
+        if is_free(domains, port) {
+            return Ok(Some(port));
+        }
+    }
+    Ok(first_free(graphs, domains))
+}
+
+// The urgent port, if it is in no pair, or that with the fewest ways left for its weight.
+fn preferred(alloc: Global, guide: &Guide, domains: &Domains) -> Result<Option<Port>, AllocError> {
+    if let Some(port) = guide.urgent {
+        if is_free(domains, port) {
+            return Ok(Some(port));
+        }
+    }
+    let factor = guide.rounds.output_factor();
+    fewest_ways(alloc, &guide.reads, &guide.weights, domains, factor)
+}
+
+// The first port of the first circuit that is in no pair.
+fn first_free(graphs: &PairableGraphs<'_>, domains: &Domains) -> Option<Port>
+    requires fit { FitPorts graphs.now domains.now.inputs domains.now.outputs }
+    ensures port { IfSome result (λ port. port.number < ports_of domains.now.inputs domains.now.outputs port.kind) }
+    ensures free { IfSome result (λ port. IsFreePort domains.now.entries port.side port.kind port.number) }
+    ensures none { IfNone result (IsWhole graphs.now (held_in domains.now.entries)) }
+{
+    let _ = graphs;
+    if let Some(port) = first_of(domains, PortKind::Output) {
+        return Some(port);
+    }
+    first_of(domains, PortKind::Input)
+}
+
+// The first port of a kind of the first circuit that is in no pair.
+fn first_of(domains: &Domains, kind: PortKind) -> Option<Port>
+    ensures port { IfSome result (λ port. port.number < ports_of domains.now.inputs domains.now.outputs port.kind) }
+    ensures free { IfSome result (λ port. IsFreePort domains.now.entries port.side port.kind port.number) }
+    ensures none { IfNone result ((port : ℕ) → port < ports_of domains.now.inputs domains.now.outputs kind
+        → IsTaken AnySide.First (held_in domains.now.entries) kind port) }
+{
+    for number in 0..domains.ports(kind) {
+        let port = Port {
+            side: Side::First,
+            kind,
+            number,
+        };
+        if is_free(domains, port) {
+            return Some(port);
+        }
+    }
+    None
+}
+
+// Whether a port is there, and in no pair.
+fn is_free(domains: &Domains, port: Port) -> bool
+    ensures there { IsTrue result → port.number < ports_of domains.now.inputs domains.now.outputs port.kind }
+    ensures free { IsTrue result → IsFreePort domains.now.entries port.side port.kind port.number }
+    ensures taken { result ≡ false
+        → port.number < ports_of domains.now.inputs domains.now.outputs port.kind
+        → IsTaken port.side (held_in domains.now.entries) port.kind port.number }
+{
+    if port.number >= domains.ports(port.kind) {
+        return false;
+    }
+    match domains.held(port.side, port.kind, port.number) {
+        Some(_) => false,
+        None => true,
+    }
+}

@@ -1,8 +1,0 @@
--- Nothing is listed.
-use Rattle.std.proofs.Common.{ap, ◌∙◌}
-use Rattle.number_marks.specs.Marking.{listed_marks}
-use Rattle.number_marks.proofs.MarkLemmas.{none_listed}
-use Rattle.number_marks.proofs.marks.Marks.none.Goals as goal
-
-pub returns : goal.returns
-returns c = ap (listed_marks c.args.count) c.new.ensures.empty ∙ none_listed c.args.count

@@ -1,7 +1,0 @@
--- The numbers so far are marked.
-use Rattle.std.proofs.Common.{◌≡◌, take}
-use Rattle.number_marks.specs.Marking.{listed_marks}
-use Rattle.number_marks.proofs.marks.table_of.Given as goal
-
-abbrev pub invariant-loop-number : goal.invariant-loop-number
-invariant-loop-number l = l.table.items ≡ listed_marks l.count (take l.number-index l.numbers)

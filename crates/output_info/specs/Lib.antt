@@ -1,2 +1,0 @@
-pub mod Rows
-pub use Rattle.claim_core.specs.Facts

@@ -1,0 +1,140 @@
+//! Held pairs that no match has all of, and covers that say so.
+
+ghost use Rattle.std.specs.Prelude.{◌≡◌, All, AllPairs, Contains, IfOk, OnOk};
+ghost use Rattle.ban_book.specs.Covering.{Covers};
+ghost use Rattle.account_core.specs.Held.{AreApart, AreHeld, IsPart};
+ghost use Rattle.ban_book.specs.Ways.{IsBlock, ways_in};
+ghost use Rattle.pair_domains.specs.Trails.{ports_of};
+ghost use Rattle.pair_search.specs.Conflicts.{FitPorts, IsConflict};
+ghost use Rattle.pair_search.specs.Grounded.{LearnsMore};
+ghost use Rattle.pair_search.specs.Named.{AreAllNamed, AreWaysNamed, IsPortOf};
+ghost use Rattle.pair_search.specs.Resolutions.{LeadsIntoBan, left_out};
+
+use crate::gather::gather;
+use crate::mismatch::Mismatches;
+use crate::port::{Port, Resolved};
+use crate::refer::refer;
+use account_core::{Ban, PairableGraphs};
+use ban_book::BanBook;
+use ban_book::block::{Block, block_of, ways_in};
+use ban_book::cover::{add_one, hold_cover};
+use circuits::Pair;
+use pair_domains::Domains;
+use std::alloc::{AllocError, Global};
+
+/// Held pairs, in the order that bans have, and the number of a ban that has no other pairs.
+#[derive(Debug, Drop)]
+pub struct Conflict {
+    pub pairs: Vec<Pair>,
+    pub ban: u64,
+}
+
+/// Adds to pairs those that a port's ways need to be excluded, holds the ban that says so, and answers both. Each way of
+/// the port was deleted for a reason that names held pairs alone; or it is the one that is resolved on, which leads into
+/// a ban beside the given pairs.
+pub fn cover_port(
+    alloc: Global,
+    graphs: &PairableGraphs<'_>,
+    domains: &Domains,
+    held: &[Pair],
+    port: Port,
+    resolved: Option<Resolved>,
+    pairs: Vec<Pair>,
+    made: &mut Mismatches,
+    book: &mut BanBook,
+) -> Result<Conflict, AllocError>
+    requires fit { FitPorts graphs.now domains.now.inputs domains.now.outputs }
+    requires there { IsPortOf domains.now port }
+    requires held { AreHeld graphs.now held.now }
+    requires named { AreWaysNamed book.old domains.now port (left_out resolved) held.now }
+    requires part { IsPart held.now pairs.items }
+    requires resolved { LeadsIntoBan book.old pairs.items resolved }
+    ensures more { LearnsMore graphs.now domains.now.entries book.old book.new }
+    ensures conflict { IfOk result (IsConflict book.new held.now) }
+{
+    let count = domains.ports(port.kind);
+    let block = block_of(alloc, port.side, port.kind, port.number, count)?;
+    cover_block(
+        alloc, graphs, domains, held, block, resolved, pairs, made, book,
+    )
+}
+
+/// Does so for a block: ports of both circuits that are more than either has.
+pub fn cover_block(
+    alloc: Global,
+    graphs: &PairableGraphs<'_>,
+    domains: &Domains,
+    held: &[Pair],
+    block: Block,
+    resolved: Option<Resolved>,
+    pairs: Vec<Pair>,
+    made: &mut Mismatches,
+    book: &mut BanBook,
+) -> Result<Conflict, AllocError>
+    requires fit { FitPorts graphs.now domains.now.inputs domains.now.outputs }
+    requires block { IsBlock (ports_of domains.now.inputs domains.now.outputs block.kind) block }
+    requires held { AreHeld graphs.now held.now }
+    requires named { AreAllNamed book.old domains.now.entries (ways_in block) (left_out resolved) held.now }
+    requires part { IsPart held.now pairs.items }
+    requires resolved { LeadsIntoBan book.old pairs.items resolved }
+    ensures more { LearnsMore graphs.now domains.now.entries book.old book.new }
+    ensures conflict { IfOk result (IsConflict book.new held.now) }
+{
+    let ways = ways_in(alloc, &block)?;
+    let mut pairs = pairs;
+    let noted = gather(
+        alloc,
+        domains,
+        held,
+        book.bans(),
+        &ways,
+        way_of(resolved),
+        made,
+        &mut pairs,
+    )?;
+    let refs = refer(
+        alloc, graphs, domains, &ways, &noted, &pairs, resolved, made, book,
+    )?;
+    let ban = hold_cover(alloc, graphs, &pairs, block, refs, book)?;
+    Ok(Conflict { pairs, ban })
+}
+
+/// The conflict of a ban all of whose pairs are held.
+pub fn conflict_of_ban(
+    alloc: Global,
+    held: &[Pair],
+    bans: &[Ban],
+    number: u64,
+) -> Result<Conflict, AllocError>
+    requires apart { AllPairs AreApart held.now }
+    requires covers { Covers bans.now held.now number }
+    ensures { IfOk result (IsConflict bans.now held.now) }
+{
+    let mut pairs = Vec::new(alloc);
+    add_all(&mut pairs, held, &bans[number as usize].pairs)?;
+    Ok(Conflict { pairs, ban: number })
+}
+
+// Adds held pairs to some of them.
+fn add_all(needed: &mut Vec<Pair>, held: &[Pair], pairs: &[Pair]) -> Result<(), AllocError>
+    requires part { IsPart held.now needed.old.items }
+    requires apart { AllPairs AreApart held.now }
+    requires among { All (Contains held.now) pairs.now }
+    ensures part { OnOk result (IsPart held.now needed.new.items) }
+    ensures among { OnOk result (All (Contains needed.new.items) pairs.now) }
+{
+    for pair in pairs.iter() {
+        add_one(needed, held, *pair)?;
+    }
+    Ok(())
+}
+
+// The way that is resolved on.
+fn way_of(resolved: Option<Resolved>) -> Option<Pair>
+    ensures { result ≡ left_out resolved }
+{
+    match resolved {
+        Some(resolved) => Some(resolved.way),
+        None => None,
+    }
+}

@@ -1,0 +1,277 @@
+//! Resolution of conflicts.
+
+ghost use Rattle.std.specs.Prelude.{◌≡◌, ◌≢◌, ◌+◌, ◌<◌, ◌≤◌, ◌∷◌, ◌↔◌, All, Contains, IfNone, IfOk, IfSome, IsTrue, length, slice_index_or, false, take, true};
+ghost use Rattle.circuits.specs.declared.port.Pair.{Pair as AnyPair};
+ghost use Rattle.account_core.specs.Ports.{AreOrdered};
+ghost use Rattle.pair_domains.specs.declared.entry.Entry.{Entry as AnyEntry};
+ghost use Rattle.pair_domains.specs.declared.entry.Cause.TheVariants.{Choice, LastWay};
+ghost use Rattle.pair_domains.specs.declared.entry.Fate.TheVariants.{Held};
+ghost use Rattle.pair_domains.specs.Trails.{IsPairOf, held_in, is_held};
+ghost use Rattle.pair_search.specs.Conflicts.{HasNoChoice, IsChoiceAt, IsConflict, IsLastOf, IsLearned};
+ghost use Rattle.pair_search.specs.Grounded.{LearnsMore};
+ghost use Rattle.pair_search.specs.Justified.{IsTrail};
+ghost use Rattle.pair_search.specs.declared.learned.LearnedBan.TheVariants as learned;
+ghost use Rattle.pair_search.specs.Pivots.{IsPivot};
+
+use crate::conflict::{Conflict, cover_port};
+use crate::learned::{Back, LearnedBan};
+use crate::mismatch::Mismatches;
+use crate::port::{Port, Resolved};
+use account_core::{PairableGraphs, port_on};
+use ban_book::BanBook;
+use ban_book::needed::place_of;
+use circuits::Pair;
+use net_core::Side;
+use pair_domains::{Cause, Domains, Entry, Fate};
+use std::alloc::{AllocError, Global};
+
+// What is done about the latest pair of a conflict.
+pub(crate) enum Pivot {
+    /// All other pairs of the conflict are held before the choice whose entry stands at this place, and it is not.
+    Choice(usize),
+    /// The pair was forced by its port of this circuit.
+    Forced(Side),
+}
+
+/// Resolves a conflict on its latest pair, again and again, until a choice stands between that pair and the others: the
+/// first unique implication point. Where there is none before any choice, the conflict's last ban has no pairs.
+pub fn resolve(
+    alloc: Global,
+    graphs: &PairableGraphs<'_>,
+    domains: &Domains,
+    conflict: Conflict,
+    made: &mut Mismatches,
+    book: &mut BanBook,
+) -> Result<LearnedBan, AllocError>
+    requires trail { IsTrail graphs.now book.old domains.now }
+    requires conflict { IsConflict book.old (held_in domains.now.entries) conflict }
+    ensures more { LearnsMore graphs.now domains.now.entries book.old book.new }
+    ensures learned { IfOk result (IsLearned book.new domains.now) }
+{
+    let _lawful = domains.entries();
+    let mut conflict = conflict;
+    let mut limit = domains.pairs().len();
+    while let Some(last) = last_of(domains.pairs(), limit, &conflict.pairs) {
+        match pivot_at(domains, last, &conflict.pairs) {
+            Pivot::Choice(place) => return Ok(back_to(domains, last, place, conflict.ban)),
+            Pivot::Forced(side) => {
+                conflict = resolve_on(alloc, graphs, domains, last, side, conflict, made, book)?;
+                limit = last;
+            }
+        }
+    }
+    Ok(LearnedBan::Refusal(conflict.ban))
+}
+
+// The last of the first `limit` held pairs that is one of a conflict's. Each is looked for among all of these, as the cover of a
+// step does with each way of its port.
+fn last_of(held: &[Pair], limit: usize, pairs: &[Pair]) -> Option<usize>
+    requires { limit ≤ length held.now }
+    ensures found { IfSome result (IsLastOf held.now limit pairs.now) }
+    ensures none { IfNone result (All (λ pair. Contains pairs.now pair → ⊥) (take limit held.now)) }
+{
+    let mut left = limit;
+    while left > 0 {
+        left -= 1;
+        if is_at(held, left, pairs) {
+            return Some(left);
+        }
+    }
+    None
+}
+
+// What is done about the latest pair of a conflict, of which it is the last held one.
+fn pivot_at(domains: &Domains, last: usize, pairs: &[Pair]) -> Pivot
+    requires within { last < length (held_in domains.now.entries) }
+    requires among { All (Contains (take (last + 1) (held_in domains.now.entries))) pairs.now }
+    ensures { IsPivot domains.now.entries pairs.now last result }
+{
+    let own = entry_of(domains, last);
+    let first = after_others(domains, last, pairs);
+    if let Some(place) = choice_between(domains.entries(), first, own) {
+        return Pivot::Choice(place);
+    }
+    match side_of(domains.entries()[own].fate) {
+        Some(side) => Pivot::Forced(side),
+        None => Pivot::Choice(own),
+    }
+}
+
+// The circuit whose port forced a held pair, if it was forced.
+fn side_of(fate: Fate) -> Option<Side>
+    ensures forced { IfSome result (λ side. fate ≡ Held (LastWay side)) }
+    ensures chosen { IfNone result (is_held fate ≡ true → fate ≡ Held Choice) }
+{
+    match fate {
+        Fate::Held(Cause::LastWay(side)) => Some(side),
+        Fate::Held(Cause::Choice) => None,
+        Fate::Deleted(_) => None,
+    }
+}
+
+// Whether the held pair at a place is one of some.
+fn is_at(held: &[Pair], place: usize, pairs: &[Pair]) -> bool
+    requires { place < length held.now }
+    ensures yes { IsTrue result → (d : AnyPair) → Contains pairs.now (slice_index_or held.now place d) }
+    ensures no { result ≡ false → (d : AnyPair) → Contains pairs.now (slice_index_or held.now place d) → ⊥ }
+{
+    contains(pairs, held[place])
+}
+
+fn contains(pairs: &[Pair], pair: Pair) -> bool
+    ensures { IsTrue result ↔ Contains pairs.now pair }
+{
+    pairs.contains(&pair)
+}
+
+// Where the entry of a held pair stands.
+fn entry_of(domains: &Domains, index: usize) -> usize
+    requires { index < length (held_in domains.now.entries) }
+    ensures within { result < length domains.now.entries }
+    ensures is { (d : AnyEntry) (p : AnyPair)
+        → (slice_index_or domains.now.entries result d).pair ≡ slice_index_or (held_in domains.now.entries) index p }
+    ensures held { (d : AnyEntry) → is_held (slice_index_or domains.now.entries result d).fate ≡ true }
+    ensures front { take index (held_in domains.now.entries) ≡ held_in (take result domains.now.entries) }
+{
+    let _lawful = domains.entries();
+    match domains.place(held_at(domains, index)) {
+        Some(place) => place,
+        None => unreachable!(),
+    }
+}
+
+// A held pair.
+fn held_at(domains: &Domains, index: usize) -> Pair
+    requires { index < length (held_in domains.now.entries) }
+    ensures value { (d : AnyPair) → slice_index_or (held_in domains.now.entries) index d ≡ result }
+    ensures held { Contains (held_in domains.now.entries) result }
+    ensures known { IsPairOf domains.now.inputs domains.now.outputs result }
+{
+    let _lawful = domains.entries();
+    domains.pairs()[index]
+}
+
+// The place after the entries of all of a conflict's pairs but the last.
+fn after_others(domains: &Domains, last: usize, pairs: &[Pair]) -> usize
+    requires within { last < length (held_in domains.now.entries) }
+    requires among { All (Contains (take (last + 1) (held_in domains.now.entries))) pairs.now }
+    ensures within { result ≤ length domains.now.entries }
+    ensures others { (d : AnyPair) → All (Contains
+        (slice_index_or (held_in domains.now.entries) last d ∷ held_in (take result domains.now.entries))) pairs.now }
+{
+    let _lawful = domains.entries();
+    match last_of(domains.pairs(), last, pairs) {
+        Some(second) => entry_of(domains, second) + 1,
+        None => 0,
+    }
+}
+
+/// The first choice from one place on, and before another.
+pub fn choice_between(entries: &[Entry], from: usize, to: usize) -> Option<usize>
+    requires { to ≤ length entries.now }
+    ensures choice { IfSome result (IsChoiceAt entries.now) }
+    ensures from { IfSome result (λ place. from ≤ place) }
+    ensures to { IfSome result (λ place. place < to) }
+    ensures first { IfSome result (HasNoChoice entries.now from) }
+    ensures none { IfNone result (HasNoChoice entries.now from to) }
+{
+    for place in from..to {
+        if is_choice(entries[place].fate) {
+            return Some(place);
+        }
+    }
+    None
+}
+
+fn is_choice(fate: Fate) -> bool
+    ensures { IsTrue result ↔ (fate ≡ Held Choice) }
+{
+    match fate {
+        Fate::Held(Cause::Choice) => true,
+        _ => false,
+    }
+}
+
+// Going back before a choice.
+fn back_to(domains: &Domains, last: usize, place: usize, ban: u64) -> LearnedBan
+    requires { last < length (held_in domains.now.entries) }
+    ensures { (d : AnyPair) → result ≡ learned.Back (record {
+      place = place;
+      pair = slice_index_or (held_in domains.now.entries) last d;
+      ban = ban;
+    }) }
+{
+    LearnedBan::Back(Back {
+        place,
+        pair: held_at(domains, last),
+        ban,
+    })
+}
+
+// Resolves a conflict on a held pair that was forced by its port of a circuit: all ways of the port lead into bans
+// beside pairs that were held before it.
+fn resolve_on(
+    alloc: Global,
+    graphs: &PairableGraphs<'_>,
+    domains: &Domains,
+    place: usize,
+    side: Side,
+    conflict: Conflict,
+    made: &mut Mismatches,
+    book: &mut BanBook,
+) -> Result<Conflict, AllocError>
+    requires trail { IsTrail graphs.now book.old domains.now }
+    requires within { place < length (held_in domains.now.entries) }
+    requires forced { (d : AnyPair) → Contains domains.now.entries
+        (record { pair = slice_index_or (held_in domains.now.entries) place d; fate = Held (LastWay side) }) }
+    requires conflict { IsConflict book.old (take (place + 1) (held_in domains.now.entries)) conflict }
+    ensures more { LearnsMore graphs.now domains.now.entries book.old book.new }
+    ensures conflict { IfOk result (IsConflict book.new (take place (held_in domains.now.entries))) }
+{
+    let _lawful = domains.entries();
+    let way = held_at(domains, place);
+    let port = Port {
+        side,
+        kind: way.kind,
+        number: port_on(side, way),
+    };
+    let Conflict { pairs, ban } = conflict;
+    let pairs = without(pairs, way);
+    let held = first_held(domains, place);
+    let resolved = Resolved { way, ban };
+    let conflict = cover_port(
+        alloc,
+        graphs,
+        domains,
+        held,
+        port,
+        Some(resolved),
+        pairs,
+        made,
+        book,
+    )?;
+    Ok(conflict)
+}
+
+// The first held pairs.
+fn first_held(domains: &Domains, count: usize) -> &[Pair]
+    requires { count ≤ length (held_in domains.now.entries) }
+    ensures { result.now ≡ take count (held_in domains.now.entries) }
+{
+    &domains.pairs()[..count]
+}
+
+// Pairs in order but for one.
+fn without(pairs: Vec<Pair>, pair: Pair) -> Vec<Pair>
+    requires { AreOrdered pairs.items }
+    ensures ordered { AreOrdered result.items }
+    ensures fewer { All (Contains pairs.items) result.items }
+    ensures gone { All (λ other. other ≢ pair) result.items }
+    ensures others { All (Contains (pair ∷ result.items)) pairs.items }
+{
+    let mut pairs = pairs;
+    if let Some(place) = place_of(&pairs, pair) {
+        let _ = pairs.remove(place);
+    }
+    pairs
+}

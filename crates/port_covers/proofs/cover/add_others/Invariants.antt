@@ -1,6 +1,0 @@
-use Rattle.std.proofs.Common.{take}
-use Rattle.port_covers.proofs.GatherLemmas.{IsGathering}
-use Rattle.port_covers.proofs.cover.add_others.Given as goal
-
-abbrev pub invariant-loop-pair : goal.invariant-loop-pair
-invariant-loop-pair l = IsGathering l.held l.fn.needed.items l.needed.items l.way (take l.pair-index l.pairs)

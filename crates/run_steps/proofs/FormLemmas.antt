@@ -1,0 +1,120 @@
+-- Words have one form, and one reading in it.
+use Rattle.std.proofs.Common.{◌≡◌, ℕ, ◌⊎◌, inl, inr, List, [], length, get_or, refl, sym, ◌∙◌, ap, arith}
+use Rattle.run_steps.specs.Words.{AskForPair, AsksCheck, AsksInfo, AsksMatch, AsksTrial, AskNothing, ReadFiles, Sought, check_words}
+use Rattle.run_steps.specs.Commands.{Ask, IsReadingCommand, IsTrialCommand, sought_by, wanted_by}
+use Rattle.run_steps.specs.declared.words.Command.{Command}
+use Rattle.run_steps.specs.declared.words.Command.TheVariants.{Check, Match, Info, Make, Trial}
+
+pub names_one : (words : List (List ℕ)) (f g t f' g' t' : List ℕ) → AsksCheck words f g t → AsksCheck words f' g' t' → (f' ≡ f) × (g' ≡ g) × (t' ≡ t)
+names_one words f g t f' g' t' one other = let e = one.form in let e' = other.form in (cc, cc, cc)
+
+-- the second word is the file's name
+pub file_named : (words : List (List ℕ)) (file : List ℕ) (budget : ℕ) → AsksInfo words file budget → get_or words 1 [] ≡ file
+file_named words file budget asks =
+    elim asks.form [
+      | inl (form, is) ↦ ap (λ (words : List (List ℕ)). get_or words 1 []) form
+      | inr (word, form, is) ↦ ap (λ (words : List (List ℕ)). get_or words 1 []) form
+    ]
+
+-- a match is sought of the netlists of the second and the third word
+pub sought_named : (words : List (List ℕ)) (sought : Sought) → AsksMatch words sought → (get_or words 1 [] ≡ sought.first) × (get_or words 2 [] ≡ sought.second)
+sought_named words sought asks = (ap (λ (words : List (List ℕ)). get_or words 1 []) asks.form, ap (λ (words : List (List ℕ)). get_or words 2 []) asks.form)
+
+pub sought_one : (words : List (List ℕ)) (a b : Sought) → AsksMatch words a → AsksMatch words b → (b.first ≡ a.first) × (b.second ≡ a.second)
+sought_one words a b one other =
+    let e = sought_named words a one in
+    let e' = sought_named words b other in
+    (sym e'.0 ∙ e.0, sym e'.1 ∙ e.1)
+
+-- words of two forms have two lengths, or two first letters
+pub check_or_info : (words : List (List ℕ)) (f g t file : List ℕ) (budget : ℕ) → AsksCheck words f g t → AsksInfo words file budget → ⊥
+check_or_info words f g t file budget check info =
+    elim info.form [
+      | inl (form, is) ↦ omega (arith, ap length check.form, ap length form)
+      | inr (word, form, is) ↦ omega (arith, ap length check.form, ap length form)
+    ]
+
+pub match_or_info : (words : List (List ℕ)) (sought : Sought) (file : List ℕ) (budget : ℕ) → AsksMatch words sought → AsksInfo words file budget → ⊥
+match_or_info words sought file budget asks info =
+    elim info.form [
+      | inl (form, is) ↦ omega (arith, ap length asks.form, ap length form)
+      | inr (word, form, is) ↦ omega (arith, ap length asks.form, ap length form)
+    ]
+
+pub check_or_match : (words : List (List ℕ)) (f g t : List ℕ) (sought : Sought) → AsksCheck words f g t → AsksMatch words sought → ⊥
+check_or_match words f g t sought check asks =
+    let letter = λ (words : List (List ℕ)). get_or (get_or words 0 []) 0 0 in
+    let is : 99 ≡ 109 = sym (ap letter check.form) ∙ ap letter asks.form in
+    omega (arith, is)
+
+-- words that ask for a pair or for a trial name no file that is read: each form has another third letter
+
+abbrev third : List (List ℕ) → ℕ
+third words = get_or (get_or words 0 []) 2 0
+
+third_of_read : (words : List (List ℕ)) → ReadFiles words → (third words ≡ 101) ⊎ (third words ≡ 116) ⊎ (third words ≡ 102)
+third_of_read words reads =
+    elim reads [
+      | inl (first, second, account, inl asks) ↦ inl (ap third asks.form)
+      | inl (first, second, account, inr (budget, seed, asks)) ↦ inr (inl (ap third asks.form))
+      | inr (file, budget, asks) ↦ elim asks.form [
+        | inl (form, is) ↦ inr (inr (ap third form))
+        | inr (word, form, is) ↦ inr (inr (ap third form))
+      ]
+    ]
+
+pub read_or_make : (words : List (List ℕ)) → ReadFiles words → AskForPair words → ⊥
+read_or_make words reads (wanted, make) =
+    let is : third words ≡ 107 = ap third make.form in
+    elim (third_of_read words reads) [
+      | inl e ↦ omega (arith, e, is)
+      | inr (inl e) ↦ omega (arith, e, is)
+      | inr (inr e) ↦ omega (arith, e, is)
+    ]
+
+pub read_or_trial : (words : List (List ℕ)) (number : ℕ) → ReadFiles words → AsksTrial words number → ⊥
+read_or_trial words number reads trial =
+    let is : third words ≡ 105 = ap third trial.form in
+    elim (third_of_read words reads) [
+      | inl e ↦ omega (arith, e, is)
+      | inr (inl e) ↦ omega (arith, e, is)
+      | inr (inr e) ↦ omega (arith, e, is)
+    ]
+
+pub make_or_trial : (words : List (List ℕ)) (number : ℕ) → AskForPair words → AsksTrial words number → ⊥
+make_or_trial words number (wanted, make) trial =
+    let is : 107 ≡ 105 = sym (ap third make.form) ∙ ap third trial.form in
+    omega (arith, is)
+
+-- a command that reads names files
+pub reads_of : (words : List (List ℕ)) (command : Command) → IsReadingCommand command → Ask words command → ReadFiles words
+reads_of words (Check check) is asks = inl (check.first.now, check.second.now, check.account.now, inl asks)
+reads_of words (Match sought) is asks = inl (sought.first.now, sought.second.now, sought.account.now, inr (sought.budget, sought.seed, asks))
+reads_of words (Info info) is asks = inr (info.file.now, info.budget, asks)
+reads_of words (Make asked) is asks = absurd is
+reads_of words (Trial trial) is asks = absurd is
+
+-- the words of a trial are of no other command
+pub trial_command : (words : List (List ℕ)) (command : Command) (number : ℕ) → Ask words command → AsksTrial words number → IsTrialCommand command
+trial_command words (Check check) number asks trial = absurd (read_or_trial words number (reads_of words (Check check) tt asks) trial)
+trial_command words (Match sought) number asks trial = absurd (read_or_trial words number (reads_of words (Match sought) tt asks) trial)
+trial_command words (Info info) number asks trial = absurd (read_or_trial words number (reads_of words (Info info) tt asks) trial)
+trial_command words (Make asked) number asks trial = absurd (make_or_trial words number (wanted_by asked, asks) trial)
+trial_command words (Trial tried) number asks trial = tt
+
+-- words that ask for a command are of a known form
+pub known_form : (words : List (List ℕ)) (command : Command) → Ask words command → AskNothing words → ⊥
+known_form words (Check check) asks nothing = nothing.no_check check.first.now check.second.now check.account.now asks
+known_form words (Match sought) asks nothing = nothing.no_match (sought_by sought) asks
+known_form words (Info info) asks nothing = nothing.no_info info.file.now info.budget asks
+known_form words (Make asked) asks nothing = nothing.no_make (wanted_by asked) asks
+known_form words (Trial trial) asks nothing = nothing.no_trial trial.number asks
+
+-- the words of the check of what a match named
+pub check_of : (words : List (List ℕ)) (sought : Sought) → AsksMatch words sought → AsksCheck (check_words sought.first sought.second sought.account) sought.first sought.second sought.account
+check_of words sought asks = record {
+  form = refl;
+  first_named = asks.names.first_named;
+  second_named = asks.names.second_named;
+  account_named = asks.names.account_named;
+}

@@ -1,0 +1,72 @@
+-- What the words of the command line ask for, as a command, and what a command does with files.
+use Rattle.std.specs.Prelude.{◌≢◌, ℕ, List}
+use Rattle.run_steps.specs.Words.{AsksCheck, AsksInfo, AsksMake, AsksMatch, AsksTrial, Sought, Wanted}
+use Rattle.run_steps.specs.declared.words.Check.{Check as CheckWords}
+use Rattle.run_steps.specs.declared.words.Info.{Info as InfoWords}
+use Rattle.run_steps.specs.declared.words.Match.{Match as MatchWords}
+use Rattle.run_steps.specs.declared.words.Make.{Make as MakeWords}
+use Rattle.run_steps.specs.declared.words.Trial.{Trial as TrialWords}
+use Rattle.run_steps.specs.declared.words.Command.{Command}
+use Rattle.run_steps.specs.declared.words.Command.TheVariants.{Check, Match, Info, Make, Trial}
+
+-- what the words of a match name
+abbrev pub sought_by : MatchWords → Sought
+sought_by words = record {
+  first = words.first.now;
+  second = words.second.now;
+  account = words.account.now;
+  budget = words.budget;
+  seed = words.seed;
+}
+
+-- what the words of a make name
+abbrev pub wanted_by : MakeWords → Wanted
+wanted_by words = record { number = words.number; first = words.first.now; second = words.second.now }
+
+-- the words ask for what a command says
+abbrev pub Ask : List (List ℕ) → Command → Type 0
+Ask words (Check check) = AsksCheck words check.first.now check.second.now check.account.now
+Ask words (Match match_words) = AsksMatch words (sought_by match_words)
+Ask words (Info info) = AsksInfo words info.file.now info.budget
+Ask words (Make make_words) = AsksMake words (wanted_by make_words)
+Ask words (Trial trial) = AsksTrial words trial.number
+
+abbrev pub asked_check : CheckWords → Command
+asked_check check = Check check
+
+abbrev pub asked_match : MatchWords → Command
+asked_match match_words = Match match_words
+
+abbrev pub asked_info : InfoWords → Command
+asked_info info = Info info
+
+abbrev pub asked_make : MakeWords → Command
+asked_make make_words = Make make_words
+
+abbrev pub asked_trial : TrialWords → Command
+asked_trial trial = Trial trial
+
+-- a command writes no file of this name
+abbrev pub IsNotWritten : Command → List ℕ → Type 0
+IsNotWritten (Match match_words) name = name ≢ match_words.account.now
+IsNotWritten (Make make_words) name = (name ≢ make_words.first.now) × (name ≢ make_words.second.now)
+IsNotWritten other name = Unit {0}
+
+-- a command writes a file
+abbrev pub IsWritingCommand : Command → Type 0
+IsWritingCommand (Match match_words) = Unit {0}
+IsWritingCommand (Make make_words) = Unit {0}
+IsWritingCommand other = ⊥
+
+-- a command reads files
+abbrev pub IsReadingCommand : Command → Type 0
+IsReadingCommand (Check check) = Unit {0}
+IsReadingCommand (Match match_words) = Unit {0}
+IsReadingCommand (Info info) = Unit {0}
+IsReadingCommand (Make make_words) = ⊥
+IsReadingCommand (Trial trial) = ⊥
+
+-- a command makes no call of the shelf
+abbrev pub IsTrialCommand : Command → Type 0
+IsTrialCommand (Trial trial) = Unit {0}
+IsTrialCommand other = ⊥

@@ -1,8 +1,0 @@
-use Rattle.std.proofs.Common.{ℕ, ◌<◌}
-use Rattle.net_core.specs.declared.graphs.Side.TheVariants.{First}
-use Rattle.port_sides.specs.Held.{IsTaken}
-use Rattle.pair_domains.specs.Trails.{held_in}
-use Rattle.search_guide.proofs.choosing.first_of.Given as goal
-
-abbrev pub invariant-loop-number : goal.invariant-loop-number
-invariant-loop-number l = (q : ℕ) → q < l.number → IsTaken First (held_in l.domains.entries) l.kind q

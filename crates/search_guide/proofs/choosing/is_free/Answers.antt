@@ -1,5 +1,0 @@
-use Rattle.search_guide.proofs.FreeLemmas.{taken_of}
-use Rattle.search_guide.proofs.choosing.is_free.Goals as goal
-
-pub returns-in-Some-clause-taken : goal.returns-in-Some-clause-taken
-returns-in-Some-clause-taken c = λ f below. taken_of c.args.domains.now.entries c.args.port.side c.args.port.kind c.args.port.number c.in-Some.field-0 c.in-Some.ensures.found

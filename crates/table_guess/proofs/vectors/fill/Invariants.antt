@@ -1,8 +1,0 @@
-use Rattle.std.proofs.Common.{◌≡◌, length}
-use Rattle.table_guess.proofs.vectors.fill.Given as goal
-
-abbrev pub invariant-loop-input : goal.invariant-loop-input
-invariant-loop-input l = record {
-  columns : length l.table.columns ≡ l.inputs;
-  words : l.table.words ≡ l.fn.table.words;
-}

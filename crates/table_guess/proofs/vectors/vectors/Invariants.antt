@@ -1,8 +1,0 @@
-use Rattle.std.proofs.Common.{◌≡◌, length}
-use Rattle.table_guess.proofs.vectors.vectors.Given as goal
-
-abbrev pub invariant-loop-word : goal.invariant-loop-word
-invariant-loop-word l = record {
-  columns : length l.table.columns ≡ l.inputs;
-  words : l.table.words ≡ l.words;
-}
