@@ -43,6 +43,15 @@ shows 'the version names the kit' "npnp 0.4.0 ($(cat "$here/../release/KIT"))" "
 shows 'the help has the statuses' 'status' "$("$npnp" --help)"
 shows 'the manual is there' 'NPNP' "$(man "$here/../docs/npnp.1" 2>/dev/null | head -n 1)"
 
+# the forms of the words: README's block, the first lines of the help, and the manual's synopsis without its marks
+forms=$(sed -n '/^npnp match/,/^```$/p' "$here/../README.md" | grep '^npnp')
+same() { # WHAT FORMS
+  if [ "$forms" = "$2" ]; then echo "ok: $1 has README's forms"; else echo "WRONG: $1 has other forms than README: $2" && failed=1; fi
+}
+same 'the help' "$("$npnp" --help | sed '/^$/,$d')"
+same 'the manual' "$(sed -n '/^\.SH SYNOPSIS/,/^\.SH DESC/p' "$here/../docs/npnp.1" |
+  sed '/^\.SH/d; /^\.RI/s/ //g; s/^\.RI/ /; s/^\.[BI] *//; s/\\//g; s/^\.br/;/' | tr '\n' ' ' | sed 's/ *; */\n/g; s/  */ /g; s/ $//')"
+
 printf '.model m\n.inputs a b\n.outputs y\n.names a b y\n111 1\n.end\n' >"$work/row.blif"
 shows 'a malformed netlist is explained' "$work/row.blif:5:1: " "$(NPNP_EXPLAIN=1 "$npnp" info "$work/row.blif" 2>&1 >/dev/null)"
 sed 4d "$here/and-or.account" >"$work/order.account"
