@@ -3,25 +3,13 @@
 
     bench/size.py COMMIT
 
-A line of the table is for the crates that stood at COMMIT, one for those that were cut out of them, and one for those that are new.
+A line of the table is for the crates that stood at COMMIT, and one for those that are new.
 Tests' crates are left out.
 """
 import subprocess
 import sys
 
 PARTS = ("src", "specs", "proofs")
-# crates that were cut out of others, which stood at 371611f
-CUT_OUT = {
-    "claim_core",  # of query_core
-    "command_words",  # of npnp
-    "net_file",  # of net_core
-    "oracle_core",  # of account_core
-    "output_info",  # of port_report and fact_tests
-    "run_steps",  # of npnp
-    "search_guide",  # of match_search
-    "shelf_files",  # of npnp
-    "text_out",  # of text_core
-}
 
 
 def git(*words):
@@ -75,9 +63,7 @@ def main():
     print("| crates | n | src | specs | proofs | lines |\n|---|---|---|---|---|---|")
     row("then", [name for name in old], old_lines)
     row("those, now", [name for name in new if name in old], new_lines)
-    since = [name for name in new if name not in old]
-    row("cut out of those", [name for name in since if name in CUT_OUT], new_lines)
-    row("new since", [name for name in since if name not in CUT_OUT], new_lines)
+    row("new since", [name for name in new if name not in old], new_lines)
     for title, below, size in (("then", old, old_bytes), ("now", new, new_bytes)):
         count, by_count = longest(below, lambda name: 1)
         total, by_bytes = longest(below, lambda name: size.get(name, 0))

@@ -1,24 +1,23 @@
 //! What a plain copy is asked: bench/plain_copy.sh has the words. Files are in the ASCII form of AIGER, in order, as
 //! `bench/match_beside_abc.sh --write` writes them.
 
-use crate::account_core::{Ban, Step};
+use crate::account_core::{Ban, PairableGraphs, Step};
 use crate::ask_core::{self, Answer as Answered};
 use crate::ban_book::BanBook;
 use crate::circuits::{Gate, Lit};
 use crate::cnf_core::Stop;
 use crate::fact_tests::FactBook;
+use crate::match_guess::{Effort, Guesser};
 use crate::match_search::{Found, decide, search};
 use crate::net_core::{Graph, Graphs, Matching, Side};
-use crate::net_supports::Supports;
 use crate::oracle_core::{Compared, Oracle};
-use crate::port_sides::PairableGraphs;
 use crate::prelude::{Global, Items, Vec};
 use crate::query_core::{Claim, Ledger, Shape, of_claim, of_match};
-use crate::table_guess::{Effort, Guesser};
+use crate::sim_signature::Supports;
 use std::error::Error;
 use std::io;
 
-/// As many lines as `npnp match` learns by default (`command_words::DEFAULT_BUDGET`).
+/// As many lines as `npnp match` learns by default (`run_steps::DEFAULT_BUDGET`).
 const BUDGET: u64 = 1_000_000_000;
 
 type Answer = Result<(), Box<dyn Error>>;
