@@ -238,7 +238,7 @@ def main():
     words.add_argument("--bm-alone", action="store_true", help="ABC's matcher alone")
     words.add_argument("--report", action="store_true", help="measure nothing, print what the file of results has")
     words.add_argument("--write", metavar="FOLDER", help="measure nothing, write the pairs as files into a folder, and known.jsonl, a line for each")
-    words.add_argument("--markdown", action="store_true", help="print the tables of docs/MEASURED.md")
+    words.add_argument("--markdown", action="store_true", help="print the tables of docs/MEASURED.md and docs/matching.tsv")
     choices = words.parse_intermixed_args()
     choices.programs = labelled(choices.release, choices.programs)
     chosen = [it for it in CIRCUITS if not choices.names or it.name in choices.names or it.family in choices.names][choices.start :: choices.every]

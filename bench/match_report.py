@@ -172,7 +172,7 @@ def compared(rows, one, other, limit):
 
 
 def markdown(rows, program, limit):
-    """The same as tables of docs/MEASURED.md: by family, by how many inputs, by why there is no match, and by circuit."""
+    """The same as tables of docs/MEASURED.md, by family, by how many inputs and by why there is no match; and docs/matching.tsv, by circuit."""
     ours = [row for row in rows if row["program"] == program]
     limits = sorted({1, limit})
     groups_of = (("matches", MATCHES), ("gate changed", ("gate",)), ("output replaced", ("output",)))
@@ -198,13 +198,12 @@ def markdown(rows, program, limit):
         taken = f"{our['seconds']:.2f} s" if is_decided(our, limit) else our["said"]
         print(f"| `{row['circuit']}`, {row['kind']} | {row['seconds']:.2f} s | {taken} |")
     at = {(row["program"], row["circuit"], row["kind"]): row for row in rows}
-    heads = ("permuted", "`bm`", "negated", "other architecture", "gate changed", "`bm`", "output replaced")
-    places = ((program, "permuted"), ("bm", "permuted"), (program, "negated"), (program, "other"), (program, "gate"), ("bm", "gate"), (program, "output"))
-    print(f"\n| circuit | inputs | outputs | gates | {' | '.join(heads)} |\n|" + "---|" * 11)
+    kinds = {"permuted": "permuted", "negated": "negated", "other architecture": "other", "gate changed": "gate", "output replaced": "output"}
+    print("\ncircuit\tinputs\toutputs\tgates\t" + "\t".join(kinds))
     for name in dict.fromkeys(row["circuit"] for row in ours):
         one = next(row for row in ours if row["circuit"] == name)
-        cells = [cell(at.get((of, name, kind))) for of, kind in places]
-        print(f"| {name} | {one['inputs']} | {one['outputs']} | {one['gates']} | {' | '.join(cells)} |")
+        cells = [cell(at.get((program, name, kind))) for kind in kinds.values()]
+        print("\t".join((name, *(str(one[it]) for it in ("inputs", "outputs", "gates")), *cells)))
 
 
 def report(rows, programs, limit, in_markdown=False):
