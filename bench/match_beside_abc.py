@@ -269,4 +269,5 @@ def main():
         sys.exit(report(wanted, list(choices.programs), choices.limit, choices.markdown))
 
 
-main()
+if __name__ == "__main__":
+    main()
