@@ -1,5 +1,5 @@
 -- What is known of a netlist, in a new ledger.
-use Rattle.std.proofs.Common.{◌≡◌, ℕ, inr, false, List, [], All, Result, Ok, Err, IfOk, IfErr, refl, sym, ◌∙◌, ap, subst, arith, ◌+◌}
+use Rattle.std.proofs.Common.{◌≡◌, ℕ, inr, false, List, [], All, Result, Ok, Err, IfOk, IfErr, refl, sym, ◌∙◌, ap, subst, arith, ◌+◌, ◌<◌}
 use Rattle.circuits.specs.Netlists.{Net}
 use Rattle.net_core.specs.Sides.{Graphs}
 use Rattle.net_file.specs.declared.named.Named.{Named}
@@ -8,6 +8,9 @@ use Rattle.cnf_core.specs.declared.stop.Stop.TheVariants as stop
 use Rattle.query_core.specs.Ledgers.{Ledgered}
 use Rattle.oracle_core.specs.Oracles.{IsSpentWork, Known, Suits}
 use Rattle.oracle_core.specs.Work.{IsWorkOfClaimsAndMatches}
+use Rattle.account_core.specs.Ports.{HaveAsMany}
+use Rattle.work_bound.specs.Enough.{enough}
+use Rattle.work_bound.proofs.WorkLemmas.{spent_below_enough}
 use Rattle.claim_core.specs.Rows.{AreRows}
 use Rattle.fact_tests.proofs.RowLemmas.{rows_of}
 use Rattle.claim_core.specs.declared.info.OutputInfo.{OutputInfo}
@@ -56,16 +59,18 @@ pub rows_in_range : (net : Net) (rows : List OutputInfo) → AreRows net rows �
 rows_in_range net rows are = λ k d h t e l. ((are.each k d h).support.within t e l).1
 
 -- a budget that was spent on two graphs, of which nothing was known
-pub spent_is : (two graphs : Graphs) (known : Known) (before after : Ledgered) (budget learned : ℕ) → graphs ≡ two → known ≡ record { graphs = graphs; facts = []; answered = [] } → before ≡ record { budget = budget; asked = []; spent = false } → IsSpentWork known before after learned → IsSpentOf two budget after
-spent_is two graphs known before after budget learned same is empty spent =
+pub spent_is : (two graphs : Graphs) (known : Known) (before after : Ledgered) (budget learned : ℕ) → HaveAsMany two.first two.second → graphs ≡ two → known ≡ record { graphs = graphs; facts = []; answered = [] } → before ≡ record { budget = budget; asked = []; spent = false } → IsSpentWork known before after learned → IsSpentOf two budget after
+spent_is two graphs known before after budget learned ports same is empty spent =
     let first : before.budget ≡ budget = ap (λ (ledger : Ledgered). ledger.budget) empty in
     let are : known.graphs ≡ two = ap (λ (known : Known). known.graphs) is ∙ same in
+    let below : before.budget < enough known.graphs = spent_below_enough known before after learned (subst (λ (graphs : Graphs). HaveAsMany graphs.first graphs.second) (sym are) ports) spent in
     record {
       budget_is = spent.keeps.budget ∙ first;
       learned = spent.used ∙ first;
       made = spent.made ∙ ap (λ (n : ℕ). n + 1) first;
       refused = spent.refused;
       work = subst (λ graphs. IsWorkOfClaimsAndMatches graphs after) are spent.work;
+      below = subst (λ b. b < enough two) first (subst (λ graphs. before.budget < enough graphs) are below);
     }
 
 -- rows of a graph, reported

@@ -1,5 +1,5 @@
 -- What a trial of a pair says of the words.
-use Rattle.std.proofs.Common.{◌≡◌, ◌≢◌, ◌↔◌, ℕ, inl, inr, true, List, Option, None, Some, Result, Ok, Err, IfErr, refl, sym, subst}
+use Rattle.std.proofs.Common.{◌≡◌, ◌≢◌, ◌↔◌, ℕ, inl, inr, true, Bool, List, [], Option, None, Some, Result, Ok, Err, IfErr, slice_index_or, refl, sym, ap, ◌∙◌, subst}
 use Rattle.std.specs.Prelude.{is_some}
 use Rattle.std.proofs.lemmas.Bool.{false≢true}
 use Rattle.circuits.specs.Matches.{HaveNpnpEqualFunctions}
@@ -15,12 +15,21 @@ use Rattle.account_core.specs.Ports.{HaveAsMany}
 use Rattle.net_core.specs.Sides.{Graphs}
 use Rattle.net_core.specs.declared.matching.Matching.{Matching}
 use Rattle.run_steps.specs.Make.{IsPairOf}
-use Rattle.run_steps.specs.Report.{line_of}
-use Rattle.run_steps.specs.Steps.{IsAnswered, IsProvedMatch, IsStopOfTrial, IsStopWithin, Tries}
-use Rattle.run_steps.proofs.OutcomeLemmas.{of_answer, of_stop}
+use Rattle.query_core.specs.Ledgers.{Ledgered}
+use Rattle.shelf_core.specs.State.{ShelfState}
+use Rattle.run_steps.specs.Commands.{asked_trial}
+use Rattle.run_steps.specs.Outcomes.{FollowsWords, IsRight, IsSound, Leaves}
+use Rattle.run_steps.specs.Report.{line_of, IsOneLine}
+use Rattle.run_steps.specs.Steps.{Decides, IsAnswered, IsEnding, IsProvedMatch, IsStopOfTrial, IsStopWithin, Tries}
+use Rattle.run_steps.specs.Trial.{IsSpentOnPairOf, IsTrialOf}
+use Rattle.run_steps.specs.Words.{AsksTrial}
+use Rattle.run_steps.specs.declared.words.Trial.{Trial as TrialWords}
+use Rattle.run_steps.proofs.CheckLemmas.{follows_memory}
+use Rattle.run_steps.proofs.FormLemmas.{make_or_trial}
+use Rattle.run_steps.proofs.OutcomeLemmas.{of_answer, of_reading, of_stop, stop_line}
 use Rattle.run_steps.specs.declared.outcome.Ending.{Ending}
 use Rattle.run_steps.specs.declared.outcome.Outcome.{Outcome}
-use Rattle.run_steps.specs.declared.outcome.Outcome.TheVariants.{Tried, Memory}
+use Rattle.run_steps.specs.declared.outcome.Outcome.TheVariants.{Spent, Tried, Memory}
 
 -- the two netlists of a pair have as many ports, and a match
 
@@ -77,3 +86,79 @@ tried number graphs hidden account ending pair proved is report = record {
   );
   stopped = tt;
 }
+
+-- words that ask for a trial name one number
+one_number : (words : List (List ℕ)) (one other : ℕ) → AsksTrial words one → AsksTrial words other → one ≡ other
+one_number words one other asks also =
+    let word : asks.word ≡ also.word = ap (λ ws. slice_index_or ws 1 []) (sym asks.form ∙ also.form) in
+    cc (asks.number_is.digits, also.number_is.digits, word)
+
+-- what the words say of a pair that was tried, and of a budget that was spent on it
+follows_tried : (held : List ℕ → Option (List ℕ)) (words : List (List ℕ)) (number : ℕ) (account : List ℕ) → AsksTrial words number → IsTrialOf number account → FollowsWords words (Tried number account)
+follows_tried held words number account asks trial = record {
+  made = λ e. absurd (cc e);
+  pair = λ wanted told. absurd (make_or_trial words number wanted asks);
+  tried = λ n a e. subst (IsRight held words) e (record { asks = asks; trial = trial });
+  trial = λ n also told. inl (account, ap (λ k. Tried k account) (one_number words number n asks also));
+  read = λ e. absurd (cc e);
+}
+
+follows_spent : (words : List (List ℕ)) (number : ℕ) (ledger : Ledgered) → AsksTrial words number → IsSpentOnPairOf number ledger → FollowsWords words (Spent ledger)
+follows_spent words number ledger asks spent = record {
+  made = λ e. absurd (cc e);
+  pair = λ wanted told. absurd (make_or_trial words number wanted asks);
+  tried = λ n a e. absurd (cc e);
+  trial = λ n also told. inr (ledger, refl, subst (λ k. IsSpentOnPairOf k ledger) (one_number words number n asks also) spent);
+  read = λ e. absurd (cc e);
+}
+
+spent_decides : (tells : Bool) (trial : TrialWords) (state : ShelfState) (ledger : Ledgered) → IsSpentOnPairOf trial.number ledger → Decides tells (asked_trial trial) state state (Err (Spent ledger))
+spent_decides tells trial state ledger spent = record {
+  files = λ t n other. refl;
+  left = λ t words asks. λ name. refl;
+  right = λ t words asks. inr (inr (record { number = trial.number; asks = asks; spent = spent }));
+  by_words = λ words asks. follows_spent words trial.number ledger asks spent;
+  sound = λ t words asks. tt;
+  report = λ words asks. tt;
+  ending = tt;
+  early = (stop_line spent.graphs 1000000000 (Spent ledger) (inl (ledger, refl, spent.spent))).early;
+  failed = λ e. absurd (cc e);
+  unwritten = λ e. absurd (cc e);
+}
+
+no_room_decides : (tells : Bool) (trial : TrialWords) (state : ShelfState) → Decides tells (asked_trial trial) state state (Err Memory)
+no_room_decides tells trial state = record {
+  files = λ t n other. refl;
+  left = λ t words asks. inl (λ name. refl);
+  right = λ t words asks. tt;
+  by_words = λ words asks. follows_memory words;
+  sound = λ t words asks. tt;
+  report = λ words asks. tt;
+  ending = tt;
+  early = (of_reading Memory tt).early;
+  failed = λ e. absurd (cc e);
+  unwritten = λ e. absurd (cc e);
+}
+
+-- what comes of a trial is what the words ask for
+pub tries_decides : (tells : Bool) (trial : TrialWords) (state : ShelfState) (result : Result Ending Outcome) → Tries trial.number result → Decides tells (asked_trial trial) state state result
+tries_decides tells trial state (Ok ending) tries =
+    let account = tries.answer.0 in
+    let is : ending.outcome ≡ Tried trial.number account = tries.answer.1 in
+    let right = tries.answer.2 in
+    record {
+      files = λ t n other. refl;
+      left = λ t words asks. subst (Leaves state.held state.held words) (sym is) (λ name. refl);
+      right = λ t words asks. subst (IsRight state.held words) (sym is) (record { asks = asks; trial = right });
+      by_words = λ words asks. subst (FollowsWords words) (sym is) (follows_tried state.held words trial.number account asks right);
+      sound = λ t words asks. subst (IsSound state.held words) (sym is) (record { matches = λ matching e. absurd (cc e); refuses = λ e. absurd (cc e) });
+      report = λ words asks. inl (subst IsOneLine (sym is) (record { unmatched = λ matching e. elim e [ inl f ↦ absurd (cc f) | inr f ↦ absurd (cc f) ]; no_rows = λ e. cc }), tries.answer.3);
+      ending = subst IsEnding (sym is) (record { asked = λ e. cc; read = λ e. cc; unwritten = λ e. cc });
+      early = tt;
+      failed = λ e. absurd (cc e);
+      unwritten = λ e. absurd (cc e);
+    }
+tries_decides tells trial state (Err o) tries = elim tries.stopped [
+  | inl (ledger, is, spent) ↦ subst (λ end. Decides tells (asked_trial trial) state state (Err end)) (sym is) (spent_decides tells trial state ledger spent)
+  | inr is ↦ subst (λ end. Decides tells (asked_trial trial) state state (Err end)) (sym is) (no_room_decides tells trial state)
+]

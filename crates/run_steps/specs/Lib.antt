@@ -17,6 +17,7 @@ pub use Rattle.port_report.specs.Reports
 pub use Rattle.port_report.specs.Infos
 pub use Rattle.query_core.specs.Ledgers
 pub use Rattle.oracle_core.specs.Work
+pub use Rattle.work_bound.specs.Enough
 pub use Rattle.claim_core.specs.Rows
 pub use Rattle.account_write.specs.Records
 pub use Rattle.gen_pair.specs.Names

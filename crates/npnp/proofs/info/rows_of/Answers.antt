@@ -1,5 +1,5 @@
 -- The book knows nothing and the ledger is new: rows are right, or the budget was spent.
-use Rattle.std.proofs.Common.{subst, IfErr, IfOk}
+use Rattle.std.proofs.Common.{refl, subst, IfErr, IfOk}
 use Rattle.net_core.specs.Sides.{Graphs}
 use Rattle.claim_core.specs.Rows.{AreRows}
 use Rattle.oracle_core.specs.Oracles.{IsStopped}
@@ -22,5 +22,5 @@ returns-clause-rows g c =
 
 pub returns-clause-spent : goal.returns-clause-spent
 returns-clause-spent g c = λ learned is.
-    spent_is (with_itself c.args.named.now.graph) c.new-graphs.result c.in_ok-book.book c.args.ledger.now c.info.new.ledger c.args.ledger.now.budget learned c.new-graphs.ensures c.in_ok-book.ensures.empty c.requires
+    spent_is (with_itself c.args.named.now.graph) c.new-graphs.result c.in_ok-book.book c.args.ledger.now c.info.new.ledger c.args.ledger.now.budget learned (record { inputs = refl; outputs = refl }) c.new-graphs.ensures c.in_ok-book.ensures.empty c.requires
     (subst (λ result. IfErr result (IsStopped c.in_ok-book.book c.args.ledger.now c.info.new.ledger)) is c.info.ensures.serves.stopped)

@@ -22,7 +22,7 @@ decide-requires g c = record {
 
 pub returns-in_err-found-clause-spent : goal.returns-in_err-found-clause-spent
 returns-in_err-found-clause-spent g c = λ learned is.
-    spent_is c.args.graphs.now c.graphs.result.now c.in_ok-book.book c.args.ledger.now c.decide.new.ledger c.args.ledger.now.budget learned c.graphs.ensures.value c.in_ok-book.ensures.empty c.requires.new
+    spent_is c.args.graphs.now c.graphs.result.now c.in_ok-book.book c.args.ledger.now c.decide.new.ledger c.args.ledger.now.budget learned c.graphs.ensures.ports c.graphs.ensures.value c.in_ok-book.ensures.empty c.requires.new
     (spent_says (IsStopped c.in_ok-book.book c.args.ledger.now c.decide.new.ledger) learned c.in_err-found.ensures.searches.serves.stopped (cc (err_is _ c.from_residual-in_err-found.ensures.1, is)))
 
 pub answered-requires-clause-facts : goal.answered-requires-clause-facts

@@ -1,6 +1,7 @@
 -- What a command asks for was decided.
 use Rattle.std.proofs.Common.{sym, subst}
 use Rattle.run_steps.specs.Steps.{Decides}
+use Rattle.run_steps.proofs.TryingLemmas.{tries_decides}
 use Rattle.npnp.proofs.run.follow.Goals as goal
 
 pub returns-in-Check-clause-decides : goal.returns-in-Check-clause-decides
@@ -14,3 +15,8 @@ returns-in-Info-clause-decides g c = subst (λ command. Decides g.S.Shelf.tells 
 
 pub returns-in-Make-clause-decides : goal.returns-in-Make-clause-decides
 returns-in-Make-clause-decides g c = subst (λ command. Decides g.S.Shelf.tells command (g.S.Shelf.state c.args.shelf.now) (g.S.Shelf.state c.make_files.new.shelf) c.make_files.result) (sym c.in-Make.is) c.make_files.ensures
+
+pub returns-in-Trial-clause-decides : goal.returns-in-Trial-clause-decides
+returns-in-Trial-clause-decides g c =
+    subst (λ command. Decides g.S.Shelf.tells command (g.S.Shelf.state c.args.shelf.now) (g.S.Shelf.state c.args.shelf.now) c.try_pair.result) (sym c.in-Trial.is)
+    (tries_decides g.S.Shelf.tells c.in-Trial.trial (g.S.Shelf.state c.args.shelf.now) c.try_pair.result c.try_pair.ensures)
