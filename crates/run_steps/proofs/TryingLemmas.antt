@@ -17,19 +17,20 @@ use Rattle.net_core.specs.declared.matching.Matching.{Matching}
 use Rattle.run_steps.specs.Make.{IsPairOf}
 use Rattle.query_core.specs.Ledgers.{Ledgered}
 use Rattle.shelf_core.specs.State.{ShelfState}
+use Rattle.check_steps.specs.Lines.{line_of, IsOneLine}
+use Rattle.check_steps.specs.Words.{AsksTrial}
 use Rattle.run_steps.specs.Commands.{asked_trial}
 use Rattle.run_steps.specs.Outcomes.{FollowsWords, IsRight, IsSound, Leaves}
-use Rattle.run_steps.specs.Report.{line_of, IsOneLine}
 use Rattle.run_steps.specs.Steps.{Decides, IsAnswered, IsEnding, IsProvedMatch, IsStopOfTrial, IsStopWithin, Tries}
 use Rattle.run_steps.specs.Trial.{IsSpentOnPairOf, IsTrialOf}
-use Rattle.run_steps.specs.Words.{AsksTrial}
-use Rattle.run_steps.specs.declared.words.Trial.{Trial as TrialWords}
+use Rattle.check_steps.specs.declared.words.Trial.{Trial as TrialWords}
+use Rattle.check_steps.proofs.EndLemmas.{of_reading}
 use Rattle.run_steps.proofs.CheckLemmas.{follows_memory}
 use Rattle.run_steps.proofs.FormLemmas.{make_or_trial}
-use Rattle.run_steps.proofs.OutcomeLemmas.{of_answer, of_reading, of_stop, stop_line}
-use Rattle.run_steps.specs.declared.outcome.Ending.{Ending}
-use Rattle.run_steps.specs.declared.outcome.Outcome.{Outcome}
-use Rattle.run_steps.specs.declared.outcome.Outcome.TheVariants.{Spent, Tried, Memory}
+use Rattle.run_steps.proofs.OutcomeLemmas.{of_answer, of_stop, stop_line}
+use Rattle.check_steps.specs.declared.outcome.Ending.{Ending}
+use Rattle.check_steps.specs.declared.outcome.Outcome.{Outcome}
+use Rattle.check_steps.specs.declared.outcome.Outcome.TheVariants.{Spent, Tried, Memory}
 
 -- the two netlists of a pair have as many ports, and a match
 
