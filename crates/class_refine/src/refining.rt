@@ -7,7 +7,7 @@ ghost use Rattle.ban_book.specs.Covering.{Covers};
 ghost use Rattle.pair_domains.specs.Trails.{held_in};
 ghost use Rattle.pair_search.specs.Grounded.{AreGrounded};
 ghost use Rattle.pair_search.specs.Justified.{IsTrail};
-ghost use Rattle.fact_bans.specs.Serving.{HoldsBans, MayHold};
+ghost use Rattle.fact_bans.specs.Asking.{AreSame, HoldsBy, MayHoldBy, loans};
 ghost use Rattle.class_refine.specs.Refining.{IsShownTrail, Refines};
 ghost use Rattle.class_refine.specs.Rows.{AreAllRows, AreGrounds, AreInputsOf, decided};
 ghost use Rattle.class_refine.specs.Settling.{MaySettle};
@@ -23,10 +23,9 @@ use crate::settling::settle_all;
 use account_core::{Fact, PairableGraphs};
 use ban_book::BanBook;
 use cnf_core::Stop;
-use fact_bans::Seen;
+use fact_bans::Asker;
 use oracle_core::Oracle;
 use pair_domains::Domains;
-use query_core::Ledger;
 use std::alloc::{AllocError, Global};
 
 /// Deletes, of two circuits' pairs, each that can't stand beside the held ones, until nothing excludes one that isn't
@@ -44,24 +43,32 @@ use std::alloc::{AllocError, Global};
 ///
 /// `Spent` where a line had to be learned and the ledger's budget was spent. `Memory` when out of memory.
 pub fn refine<O: Oracle>(
-    alloc: Global,
     graphs: &PairableGraphs<'_>,
-    oracle: &mut O,
+    asker: &mut Asker<'_, O>,
     domains: &mut Domains,
-    seen: &mut Seen,
     book: &mut BanBook,
-    ledger: &mut Ledger,
 ) -> Result<Refined, Stop>
-    requires may { MayHold graphs.now (O.known oracle.old) ledger.old book.old }
-    requires trail { IsShownTrail graphs.now (O.known oracle.old) book.old domains.old }
-    ensures holds { HoldsBans graphs.now (O.known oracle.old) (O.known oracle.new) ledger.old ledger.new book.old book.new result }
-    ensures refines { Refines graphs.now (map decided_by (O.known oracle.new).facts) book.old book.new domains.old domains.new }
-    ensures trail { IsShownTrail graphs.now (O.known oracle.new) book.new domains.new }
-    ensures refined { IfOk result (IsRefined graphs.now (map decided_by (O.known oracle.new).facts) book.new domains.new) }
+    requires may { MayHoldBy graphs.now (loans O.known asker.old) book.old }
+    requires trail { IsShownTrail graphs.now (O.known asker.old.oracle.now) book.old domains.old }
+    ensures same { AreSame (loans O.known asker.old) (loans O.known asker.new) }
+    ensures holds { HoldsBy graphs.now (loans O.known asker.old) (loans O.known asker.new) book.old book.new result }
+    ensures refines { Refines graphs.now (map decided_by (O.known asker.new.oracle.now).facts) book.old book.new
+        domains.old domains.new }
+    ensures trail { IsShownTrail graphs.now (O.known asker.new.oracle.now) book.new domains.new }
+    ensures refined { IfOk result
+        (IsRefined graphs.now (map decided_by (O.known asker.new.oracle.now).facts) book.new domains.new) }
 {
-    let _facts = oracle.facts();
-    let rows = rows_of(alloc, graphs, oracle, seen, ledger)?;
-    Ok(refine_by(alloc, graphs, oracle.facts(), &rows, domains, book)?)
+    // the facts of an oracle are of its circuits
+    let _facts = asker.oracle.facts();
+    let rows = rows_of(graphs, asker)?;
+    Ok(refine_by(
+        asker.alloc,
+        graphs,
+        asker.oracle.facts(),
+        &rows,
+        domains,
+        book,
+    )?)
 }
 
 // Refines by the rows of all outputs.
@@ -110,6 +117,7 @@ fn exclude(
     ensures stable { IfOk result (λ dead. IfNone dead
         (IsStable grounds.now.graphs.now (decided grounds.now) book.new domains.new)) }
 {
+    // held pairs are of ports that exist, and share none
     let _lawful = domains.entries();
     match exclude_held(alloc, grounds, domains.pairs(), book)? {
         Some(ban) => Ok(Some(ban)),
@@ -131,6 +139,7 @@ fn exclude_beside(
     ensures stable { IfOk result (λ dead. IfNone dead
         (IsStable grounds.now.graphs.now (decided grounds.now) book.new domains.new)) }
 {
+    // held pairs are of ports that exist, and share none
     let _lawful = domains.entries();
     match settle_all(alloc, grounds, domains, book)? {
         Some(ban) => Ok(Some(ban)),

@@ -3,21 +3,19 @@
 ghost use Rattle.std.specs.Prelude.{◌≡◌, ◌<◌, [], IfOk, length, map, slice_index_or};
 ghost use Rattle.net_core.specs.Sides.{graph_of};
 ghost use Rattle.account_core.specs.Given.{decided_by};
-ghost use Rattle.oracle_core.specs.Oracles.{Serves};
-ghost use Rattle.fact_bans.specs.Serving.{MayAsk};
+ghost use Rattle.fact_bans.specs.Asking.{AreSame, MayAskBy, ServesBy, loans};
 ghost use Rattle.class_refine.specs.Rows.{AreAllRows, AreRowsOf};
 
 use crate::swap_index::swaps_of;
 use account_core::PairableGraphs;
 use ban_book::InputTold;
 use cnf_core::Stop;
-use fact_bans::{Seen, claims_of};
+use fact_bans::{Asker, claims_of};
 use indexmap::IndexMap;
 use items::Items;
 use net_core::Side;
 use oracle_core::Oracle;
-use query_core::{Claim, Ledger};
-use std::alloc::Global;
+use query_core::Claim;
 
 /// What is told of each output of both circuits: a row with its claims of one input, in the order of the outputs.
 pub(crate) struct Rows {
@@ -41,20 +39,19 @@ impl Drop for Rows {
 /// Has the claims of one input of all outputs decided. Each output has to go to one of the other circuit, so that none of them is
 /// decided in vain.
 pub(crate) fn rows_of<O: Oracle>(
-    alloc: Global,
     graphs: &PairableGraphs<'_>,
-    oracle: &mut O,
-    seen: &mut Seen,
-    ledger: &mut Ledger,
+    asker: &mut Asker<'_, O>,
 ) -> Result<Rows, Stop>
-    requires may { MayAsk graphs.now (O.known oracle.old) ledger.old }
-    ensures serves { Serves (O.known oracle.old) (O.known oracle.new) ledger.old ledger.new result }
-    ensures rows { IfOk result (AreAllRows graphs.now (map decided_by (O.known oracle.new).facts)) }
+    requires may { MayAskBy graphs.now (loans O.known asker.old) }
+    ensures same { AreSame (loans O.known asker.old) (loans O.known asker.new) }
+    ensures serves { ServesBy (loans O.known asker.old) (loans O.known asker.new) result }
+    ensures rows { IfOk result (AreAllRows graphs.now (map decided_by (O.known asker.new.oracle.now).facts)) }
 {
-    let _facts = oracle.facts();
-    let first = side_rows(alloc, graphs, oracle, Side::First, seen, ledger)?;
-    let second = side_rows(alloc, graphs, oracle, Side::Second, seen, ledger)?;
-    let swaps = swaps_of(alloc, oracle.facts())?;
+    // the facts of an oracle are of its circuits
+    let _facts = asker.oracle.facts();
+    let first = side_rows(graphs, asker, Side::First)?;
+    let second = side_rows(graphs, asker, Side::Second)?;
+    let swaps = swaps_of(asker.alloc, asker.oracle.facts())?;
     Ok(Rows {
         first,
         second,
@@ -64,23 +61,22 @@ pub(crate) fn rows_of<O: Oracle>(
 
 // Has those of one circuit decided.
 fn side_rows<O: Oracle>(
-    alloc: Global,
     graphs: &PairableGraphs<'_>,
-    oracle: &mut O,
+    asker: &mut Asker<'_, O>,
     side: Side,
-    seen: &mut Seen,
-    ledger: &mut Ledger,
 ) -> Result<Items<Items<InputTold>>, Stop>
-    requires may { MayAsk graphs.now (O.known oracle.old) ledger.old }
-    ensures serves { Serves (O.known oracle.old) (O.known oracle.new) ledger.old ledger.new result }
-    ensures rows { IfOk result (AreRowsOf graphs.now (map decided_by (O.known oracle.new).facts) side
+    requires may { MayAskBy graphs.now (loans O.known asker.old) }
+    ensures same { AreSame (loans O.known asker.old) (loans O.known asker.new) }
+    ensures serves { ServesBy (loans O.known asker.old) (loans O.known asker.new) result }
+    ensures rows { IfOk result (AreRowsOf graphs.now (map decided_by (O.known asker.new.oracle.now).facts) side
         (length (graph_of graphs.now side).outputs)) }
 {
-    let _facts = oracle.facts();
+    // the facts of an oracle are of its circuits
+    let _facts = asker.oracle.facts();
     let outputs = graphs.side(side).outputs().len() as u32;
-    let mut rows = Items::new(alloc);
+    let mut rows = Items::new(asker.alloc);
     for output in 0..outputs {
-        let row = claims_of(alloc, graphs, oracle, side, output, seen, ledger)?;
+        let row = claims_of(graphs, asker, side, output)?;
         rows.push(row)?;
     }
     Ok(rows)

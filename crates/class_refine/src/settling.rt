@@ -1,12 +1,14 @@
 //! Settling pairs: each is deleted, or nothing excludes it beside the held ones.
 
-ghost use Rattle.std.specs.Prelude.{◌≡◌, ◌<◌, ◌∷◌, IfNone, IfOk, IfSome};
+ghost use Rattle.std.specs.Prelude.{◌≡◌, ◌<◌, ◌∷◌, IfNone, IfOk, IfSome, List};
+ghost use Rattle.account_core.specs.declared.step.Ban.{Ban as AnyBan};
 ghost use Rattle.ban_book.specs.Covering.{Covers};
 ghost use Rattle.ban_book.specs.Shown.{IsShownBan};
 ghost use Rattle.pair_domains.specs.declared.entry.Fate.TheVariants.{Deleted};
 ghost use Rattle.pair_domains.specs.Trails.{IsOpen, IsPairOf, held_in, ports_of};
 ghost use Rattle.pair_search.specs.Grounded.{IsGrounded};
 ghost use Rattle.pair_search.specs.Named.{AreNamed};
+ghost use Rattle.class_refine.specs.declared.grounds.Grounds.{Grounds as AnyGrounds};
 ghost use Rattle.class_refine.specs.Rows.{decided};
 ghost use Rattle.class_refine.specs.Settling.{Excludes, IsClear, MaySettle, Settles};
 ghost use Rattle.class_refine.specs.Stable.{HaveNoBan};
@@ -112,6 +114,7 @@ fn settle(
     ensures { Settles grounds.now book.old book.new domains.old domains.new
         (λ pair. pair ≡ way) result }
 {
+    // held pairs are of ports that exist, and share none
     let _lawful = domains.entries();
     match domains.fate(way) {
         Some(_) => Ok(None),
@@ -137,8 +140,8 @@ fn settle_open(
         return Ok(None);
     };
     match exclusion {
-        Exclusion::Known(reason) => delete(grounds, domains, way, reason, book),
-        Exclusion::Shown(ban) => delete_by(grounds, domains, way, ban, book),
+        Exclusion::Known(reason) => delete(domains, way, reason),
+        Exclusion::Shown(ban) => delete_by(domains, way, ban, book),
     }
 }
 
@@ -158,6 +161,7 @@ fn exclusion_of(
     ensures none { IfOk result (λ found. IfNone found
         (IsClear grounds.now book.now (held_in domains.now.entries) way)) }
 {
+    // held pairs are of ports that exist, and share none
     let _lawful = domains.entries();
     let held = domains.pairs();
     if let Some(with) = clashing(held, way) {
@@ -179,19 +183,18 @@ fn exclusion_of(
 // Holds a ban that facts show, and deletes the pair that it excludes beside the held ones. A ban that is within these alone is
 // answered.
 fn delete_by(
-    grounds: &Grounds<'_>,
     domains: &mut Domains,
     way: Pair,
     ban: Ban,
     book: &mut BanBook,
 ) -> Result<Option<u64>, AllocError>
-    requires shown { IsShownBan grounds.now.graphs.now (decided grounds.now) (way ∷ held_in domains.old.entries) ban }
     requires known { IsPairOf domains.old.inputs domains.old.outputs way }
     requires open { IsOpen domains.old.entries way }
-    ensures { Settles grounds.now book.old book.new domains.old domains.new
-        (λ pair. pair ≡ way) result }
+    ensures { (grounds : AnyGrounds)
+        → IsShownBan grounds.graphs.now (decided grounds) (way ∷ held_in domains.old.entries) ban
+        → Settles grounds book.old book.new domains.old domains.new (λ pair. pair ≡ way) result }
 {
-    let _ = grounds;
+    // no pair has two entries
     let _lawful = domains.entries();
     let number = book.hold(ban)?;
     if let Some(dead) = book.covering(domains.pairs()) {
@@ -202,23 +205,16 @@ fn delete_by(
 }
 
 // Deletes a pair that clashes with a held one, or that a held ban excludes beside them.
-fn delete(
-    grounds: &Grounds<'_>,
-    domains: &mut Domains,
-    way: Pair,
-    reason: Reason,
-    book: &BanBook,
-) -> Result<Option<u64>, AllocError>
-    requires no_ban { HaveNoBan book.now (held_in domains.old.entries) }
-    requires named { AreNamed book.now (held_in domains.old.entries) way reason }
-    requires shown { IsGrounded grounds.now.graphs.now (decided grounds.now) way (Deleted reason) }
+fn delete(domains: &mut Domains, way: Pair, reason: Reason) -> Result<Option<u64>, AllocError>
     requires known { IsPairOf domains.old.inputs domains.old.outputs way }
     requires open { IsOpen domains.old.entries way }
-    ensures { Settles grounds.now book.now book.now domains.old domains.new
-        (λ pair. pair ≡ way) result }
+    ensures { (grounds : AnyGrounds) (bans : List AnyBan)
+        → HaveNoBan bans (held_in domains.old.entries)
+        → AreNamed bans (held_in domains.old.entries) way reason
+        → IsGrounded grounds.graphs.now (decided grounds) way (Deleted reason)
+        → Settles grounds bans bans domains.old domains.new (λ pair. pair ≡ way) result }
 {
-    let _ = grounds;
-    let _ = book;
+    // no pair has two entries
     let _lawful = domains.entries();
     domains.delete(way, reason)?;
     Ok(None)

@@ -1,3 +1,4 @@
+pub mod AskingLemmas
 pub mod CarryLemmas
 pub mod ServeLemmas
 pub mod FactLemmas

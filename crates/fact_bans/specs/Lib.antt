@@ -1,4 +1,5 @@
 pub mod Serving
+pub mod Asking
 pub mod Referred
 pub mod Wanted
 pub mod Carrying

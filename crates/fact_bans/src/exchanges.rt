@@ -6,8 +6,9 @@ ghost use Rattle.ban_book.specs.Covering.{Covers};
 ghost use Rattle.claim_core.specs.declared.claims.Shape.TheVariants as AnyShape;
 ghost use Rattle.claim_core.specs.Images.{moved_value, two_inputs};
 ghost use Rattle.fact_bans.specs.Carrying.{AreSwapPairs, all_of};
-ghost use Rattle.fact_bans.specs.Serving.{HoldsBans, MayHold};
+ghost use Rattle.fact_bans.specs.Asking.{AreSame, HoldsBy, MayHoldBy, loans};
 
+use crate::asker::Asker;
 use crate::mismatched::hold_by;
 use crate::seen::Seen;
 use account_core::PairableGraphs;
@@ -16,8 +17,7 @@ use circuits::Pair;
 use cnf_core::Stop;
 use net_core::Side;
 use oracle_core::Oracle;
-use query_core::{Claim, Ledger, Shape};
-use std::alloc::Global;
+use query_core::{Claim, Shape};
 
 /// The pairs of two inputs and of an output.
 #[derive(Clone, Copy, Debug, Drop)]
@@ -36,17 +36,15 @@ pub struct SwapPairs {
 ///
 /// `Spent` where a line had to be learned and the ledger's budget was spent. `Memory` when out of memory.
 pub fn swap_mismatch<O: Oracle>(
-    alloc: Global,
     graphs: &PairableGraphs<'_>,
-    oracle: &mut O,
+    asker: &mut Asker<'_, O>,
     pairs: SwapPairs,
-    seen: &mut Seen,
     book: &mut BanBook,
-    ledger: &mut Ledger,
 ) -> Result<Option<u64>, Stop>
-    requires may { MayHold graphs.now (O.known oracle.old) ledger.old book.old }
+    requires may { MayHoldBy graphs.now (loans O.known asker.old) book.old }
     requires pairs { AreSwapPairs graphs.now pairs }
-    ensures holds { HoldsBans graphs.now (O.known oracle.old) (O.known oracle.new) ledger.old ledger.new book.old book.new result }
+    ensures same { AreSame (loans O.known asker.old) (loans O.known asker.new) }
+    ensures holds { HoldsBy graphs.now (loans O.known asker.old) (loans O.known asker.new) book.old book.new result }
     ensures covers { IfOk result (λ found. IfSome found (Covers book.new (all_of pairs))) }
 {
     let SwapPairs { one, other, output } = pairs;
@@ -54,40 +52,38 @@ pub fn swap_mismatch<O: Oracle>(
         return Ok(None);
     }
     if one.from < other.from {
-        return by_values(alloc, graphs, oracle, pairs, seen, book, ledger);
+        return by_values(graphs, asker, pairs, book);
     }
     let exchanged = SwapPairs {
         one: other,
         other: one,
         output,
     };
-    by_values(alloc, graphs, oracle, exchanged, seen, book, ledger)
+    by_values(graphs, asker, exchanged, book)
 }
 
 // Holds a ban of the pairs, of which the first input's comes first, by the claim of values that is worth to be asked.
 fn by_values<O: Oracle>(
-    alloc: Global,
     graphs: &PairableGraphs<'_>,
-    oracle: &mut O,
+    asker: &mut Asker<'_, O>,
     pairs: SwapPairs,
-    seen: &mut Seen,
     book: &mut BanBook,
-    ledger: &mut Ledger,
 ) -> Result<Option<u64>, Stop>
-    requires may { MayHold graphs.now (O.known oracle.old) ledger.old book.old }
+    requires may { MayHoldBy graphs.now (loans O.known asker.old) book.old }
     requires pairs { AreSwapPairs graphs.now pairs }
     requires before { pairs.one.from < pairs.other.from }
     requires apart { pairs.one.to ≢ pairs.other.to }
-    ensures holds { HoldsBans graphs.now (O.known oracle.old) (O.known oracle.new) ledger.old ledger.new book.old book.new result }
+    ensures same { AreSame (loans O.known asker.old) (loans O.known asker.new) }
+    ensures holds { HoldsBy graphs.now (loans O.known asker.old) (loans O.known asker.new) book.old book.new result }
     ensures covers { IfOk result (λ found. IfSome found (Covers book.new (all_of pairs))) }
 {
-    seen.look_at_swaps(alloc, graphs)?;
-    let Some(values) = values_to_ask(pairs, seen) else {
+    asker.seen.look_at_swaps(asker.alloc, graphs)?;
+    let Some(values) = values_to_ask(pairs, asker.seen) else {
         return Ok(None);
     };
     let carried = carried(pairs, values);
     let pairs = [pairs.one, pairs.other, pairs.output];
-    hold_by(alloc, graphs, oracle, &pairs, carried, seen, book, ledger)
+    hold_by(graphs, asker, &pairs, carried, book)
 }
 
 /// All values of two inputs.

@@ -1,6 +1,7 @@
 //! Bans that follow from decided claims.
 #![tactic(auto)]
 
+mod asker;
 mod classes;
 mod exchanges;
 mod lists;
@@ -15,6 +16,7 @@ mod swaps;
 mod tallies;
 mod told;
 
+pub use asker::Asker;
 pub use ban_book::Unlike;
 pub use exchanges::{SwapPairs, swap_mismatch};
 pub use mismatches::{mismatch, tell_apart};

@@ -4,11 +4,12 @@ ghost use Rattle.std.specs.Prelude.{◌∷◌, [], IfOk, IfSome, map};
 ghost use Rattle.circuits.specs.declared.port.PortKind.TheVariants.{Input, Output};
 ghost use Rattle.account_core.specs.Given.{decided_by};
 ghost use Rattle.ban_book.specs.Covering.{Covers};
-ghost use Rattle.oracle_core.specs.Oracles.{Serves};
+ghost use Rattle.oracle_core.specs.Oracles.{Suits};
 ghost use Rattle.ban_book.specs.Mismatched.{IsBanBy, mismatch_of};
 ghost use Rattle.fact_bans.specs.Carrying.{IsPairOf};
-ghost use Rattle.fact_bans.specs.Serving.{HoldsBans, MayAsk, MayHold};
+ghost use Rattle.fact_bans.specs.Asking.{AreSame, HoldsBy, MayHoldBy, ServesBy, loans};
 
+use crate::asker::Asker;
 use crate::mismatched::{hold_by, unlike_by};
 use crate::seen::Seen;
 use account_core::PairableGraphs;
@@ -17,8 +18,6 @@ use circuits::Pair;
 use cnf_core::Stop;
 use net_core::Side;
 use oracle_core::Oracle;
-use query_core::Ledger;
-use std::alloc::Global;
 
 /// Holds a ban of the pairs of an input and an output where a claim of the one circuit fails that holds for the other one, and
 /// answers its number; None where none was shown. Only claims are asked of which vectors break one and not the other.
@@ -27,35 +26,24 @@ use std::alloc::Global;
 ///
 /// `Spent` where a line had to be learned and the ledger's budget was spent. `Memory` when out of memory.
 pub fn mismatch<O: Oracle>(
-    alloc: Global,
     graphs: &PairableGraphs<'_>,
-    oracle: &mut O,
+    asker: &mut Asker<'_, O>,
     input: Pair,
     output: Pair,
-    seen: &mut Seen,
     book: &mut BanBook,
-    ledger: &mut Ledger,
 ) -> Result<Option<u64>, Stop>
-    requires may { MayHold graphs.now (O.known oracle.old) ledger.old book.old }
+    requires may { MayHoldBy graphs.now (loans O.known asker.old) book.old }
     requires input { IsPairOf graphs.now Input input }
     requires output { IsPairOf graphs.now Output output }
-    ensures holds { HoldsBans graphs.now (O.known oracle.old) (O.known oracle.new) ledger.old ledger.new book.old book.new result }
+    ensures same { AreSame (loans O.known asker.old) (loans O.known asker.new) }
+    ensures holds { HoldsBy graphs.now (loans O.known asker.old) (loans O.known asker.new) book.old book.new result }
     ensures covers { IfOk result (λ found. IfSome found (Covers book.new (input ∷ output ∷ []))) }
 {
-    let Some(value) = value_to_ask(input, output, seen) else {
+    let Some(value) = value_to_ask(input, output, asker.seen) else {
         return Ok(None);
     };
     let carried = carry(input, output, value);
-    hold_by(
-        alloc,
-        graphs,
-        oracle,
-        &[input, output],
-        carried,
-        seen,
-        book,
-        ledger,
-    )
+    hold_by(graphs, asker, &[input, output], carried, book)
 }
 
 /// The facts by which the pairs of an input and an output have a ban, where a claim of the one circuit fails that holds for the
@@ -65,28 +53,26 @@ pub fn mismatch<O: Oracle>(
 ///
 /// As for `mismatch`.
 pub fn tell_apart<O: Oracle>(
-    alloc: Global,
-    graphs: &PairableGraphs<'_>,
-    oracle: &mut O,
+    asker: &mut Asker<'_, O>,
     input: Pair,
     output: Pair,
-    seen: &mut Seen,
-    ledger: &mut Ledger,
 ) -> Result<Option<Unlike>, Stop>
-    requires may { MayAsk graphs.now (O.known oracle.old) ledger.old }
-    requires input { IsPairOf graphs.now Input input }
-    requires output { IsPairOf graphs.now Output output }
-    ensures serves { Serves (O.known oracle.old) (O.known oracle.new) ledger.old ledger.new result }
-    ensures shown { IfOk result (λ found. IfSome found (λ unlike. IsBanBy graphs.now
-        (map decided_by (O.known oracle.new).facts) (input ∷ output ∷ []) (mismatch_of (input ∷ output ∷ []) unlike))) }
+    requires suits { Suits (O.known asker.old.oracle.now) asker.old.ledger.now }
+    requires input { IsPairOf (O.known asker.old.oracle.now).graphs Input input }
+    requires output { IsPairOf (O.known asker.old.oracle.now).graphs Output output }
+    ensures same { AreSame (loans O.known asker.old) (loans O.known asker.new) }
+    ensures serves { ServesBy (loans O.known asker.old) (loans O.known asker.new) result }
+    ensures shown { IfOk result (λ found. IfSome found (λ unlike. IsBanBy (O.known asker.old.oracle.now).graphs
+        (map decided_by (O.known asker.new.oracle.now).facts) (input ∷ output ∷ [])
+        (mismatch_of (input ∷ output ∷ []) unlike))) }
 {
-    let _ = graphs;
-    let _facts = oracle.facts();
-    let Some(value) = value_to_ask(input, output, seen) else {
+    // the facts of an oracle are of its circuits
+    let _facts = asker.oracle.facts();
+    let Some(value) = value_to_ask(input, output, asker.seen) else {
         return Ok(None);
     };
     let carried = carry(input, output, value);
-    unlike_by(alloc, oracle, &[input, output], carried, seen, ledger)
+    unlike_by(asker, carried)
 }
 
 // The value for which vectors break the claim of one circuit, and not that of the other one.

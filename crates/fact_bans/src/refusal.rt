@@ -7,11 +7,11 @@ ghost use Rattle.account_core.specs.Ports.{ports_in};
 ghost use Rattle.ban_book.specs.Covering.{Covers};
 ghost use Rattle.fact_bans.specs.Carrying.{IsPairOf};
 ghost use Rattle.fact_bans.specs.Referred.{AreReferred};
-ghost use Rattle.fact_bans.specs.Serving.{HoldsBans, MayHold};
+ghost use Rattle.fact_bans.specs.Asking.{AreSame, HoldsBy, MayHoldBy, loans};
 ghost use Rattle.ban_book.specs.Ways.{IsBlock, ways_in};
 
+use crate::asker::Asker;
 use crate::classes::Classes;
-use crate::seen::Seen;
 use crate::tallies::tally;
 use account_core::PairableGraphs;
 use ban_book::BanBook;
@@ -21,7 +21,6 @@ use circuits::{Pair, PortKind};
 use cnf_core::Stop;
 use items::Items;
 use oracle_core::Oracle;
-use query_core::Ledger;
 use std::alloc::{AllocError, Global};
 
 /// Where one of two circuits with as many ports has more outputs that depend on this many inputs and are binate in this many:
@@ -37,24 +36,22 @@ use std::alloc::{AllocError, Global};
 ///
 /// `Spent` where a line had to be learned and the ledger's budget was spent. `Memory` when out of memory.
 pub fn refuse<O: Oracle>(
-    alloc: Global,
     graphs: &PairableGraphs<'_>,
-    oracle: &mut O,
+    asker: &mut Asker<'_, O>,
     tries: u32,
-    seen: &mut Seen,
     book: &mut BanBook,
-    ledger: &mut Ledger,
 ) -> Result<Option<u64>, Stop>
-    requires may { MayHold graphs.now (O.known oracle.old) ledger.old book.old }
-    ensures holds { HoldsBans graphs.now (O.known oracle.old) (O.known oracle.new) ledger.old ledger.new book.old book.new result }
+    requires may { MayHoldBy graphs.now (loans O.known asker.old) book.old }
+    ensures same { AreSame (loans O.known asker.old) (loans O.known asker.new) }
+    ensures holds { HoldsBy graphs.now (loans O.known asker.old) (loans O.known asker.new) book.old book.new result }
     ensures empty { IfOk result (λ found. IfSome found (IsEmptyBan book.new)) }
 {
     for _try in 0..tries {
         let outputs = graphs.ports(PortKind::Output);
-        let Some(classes) = Classes::new(alloc, outputs, seen)? else {
+        let Some(classes) = Classes::new(asker.alloc, outputs, asker.seen)? else {
             return Ok(None);
         };
-        if let Some(number) = refuse_by(alloc, graphs, oracle, &classes, seen, book, ledger)? {
+        if let Some(number) = refuse_by(graphs, asker, &classes, book)? {
             return Ok(Some(number));
         }
     }
@@ -63,22 +60,20 @@ pub fn refuse<O: Oracle>(
 
 // Holds the ban that classes of outputs are for.
 fn refuse_by<O: Oracle>(
-    alloc: Global,
     graphs: &PairableGraphs<'_>,
-    oracle: &mut O,
+    asker: &mut Asker<'_, O>,
     classes: &Classes,
-    seen: &mut Seen,
     book: &mut BanBook,
-    ledger: &mut Ledger,
 ) -> Result<Option<u64>, Stop>
-    requires may { MayHold graphs.now (O.known oracle.old) ledger.old book.old }
-    ensures holds { HoldsBans graphs.now (O.known oracle.old) (O.known oracle.new) ledger.old ledger.new book.old book.new result }
+    requires may { MayHoldBy graphs.now (loans O.known asker.old) book.old }
+    ensures same { AreSame (loans O.known asker.old) (loans O.known asker.new) }
+    ensures holds { HoldsBy graphs.now (loans O.known asker.old) (loans O.known asker.new) book.old book.new result }
     ensures empty { IfOk result (λ found. IfSome found (IsEmptyBan book.new)) }
 {
-    let Some(block) = block_of(alloc, graphs, classes)? else {
+    let Some(block) = block_of(asker.alloc, graphs, classes)? else {
         return Ok(None);
     };
-    refuse_block(alloc, graphs, oracle, block, seen, book, ledger)
+    refuse_block(graphs, asker, block, book)
 }
 
 // The block of outputs of these classes. None where they aren't more than a circuit has.
@@ -102,64 +97,58 @@ fn block_of(
 
 // Holds the ban that a block of outputs is for.
 fn refuse_block<O: Oracle>(
-    alloc: Global,
     graphs: &PairableGraphs<'_>,
-    oracle: &mut O,
+    asker: &mut Asker<'_, O>,
     block: Block,
-    seen: &mut Seen,
     book: &mut BanBook,
-    ledger: &mut Ledger,
 ) -> Result<Option<u64>, Stop>
-    requires may { MayHold graphs.now (O.known oracle.old) ledger.old book.old }
+    requires may { MayHoldBy graphs.now (loans O.known asker.old) book.old }
     requires block { IsBlock (ports_in graphs.now.second block.kind) block }
     requires outputs { All (IsPairOf graphs.now Output) (ways_in block) }
-    ensures holds { HoldsBans graphs.now (O.known oracle.old) (O.known oracle.new) ledger.old ledger.new book.old book.new result }
+    ensures same { AreSame (loans O.known asker.old) (loans O.known asker.new) }
+    ensures holds { HoldsBy graphs.now (loans O.known asker.old) (loans O.known asker.new) book.old book.new result }
     ensures empty { IfOk result (λ found. IfSome found (IsEmptyBan book.new)) }
 {
-    let Some(refs) = bans_in(alloc, graphs, oracle, &block, seen, book, ledger)? else {
+    let Some(refs) = bans_in(graphs, asker, &block, book)? else {
         return Ok(None);
     };
-    let number = hold_cover(alloc, graphs, &[], block, refs, book)?;
+    let number = hold_cover(asker.alloc, graphs, &[], block, refs, book)?;
     Ok(Some(number))
 }
 
 // The bans of all ways in a block of outputs. None where one of them has none.
 fn bans_in<O: Oracle>(
-    alloc: Global,
     graphs: &PairableGraphs<'_>,
-    oracle: &mut O,
+    asker: &mut Asker<'_, O>,
     block: &Block,
-    seen: &mut Seen,
     book: &mut BanBook,
-    ledger: &mut Ledger,
 ) -> Result<Option<Items<Option<u64>>>, Stop>
-    requires may { MayHold graphs.now (O.known oracle.old) ledger.old book.old }
+    requires may { MayHoldBy graphs.now (loans O.known asker.old) book.old }
     requires outputs { All (IsPairOf graphs.now Output) (ways_in block.now) }
-    ensures holds { HoldsBans graphs.now (O.known oracle.old) (O.known oracle.new) ledger.old ledger.new book.old book.new result }
+    ensures same { AreSame (loans O.known asker.old) (loans O.known asker.new) }
+    ensures holds { HoldsBy graphs.now (loans O.known asker.old) (loans O.known asker.new) book.old book.new result }
     ensures referred { IfOk result (λ found. IfSome found (AreReferred book.new (ways_in block.now))) }
 {
-    let ways = ways_in(alloc, block)?;
-    bans_of(alloc, graphs, oracle, &ways, seen, book, ledger)
+    let ways = ways_in(asker.alloc, block)?;
+    bans_of(graphs, asker, &ways, book)
 }
 
 // The bans of these ways to pair outputs. None where one of them has none.
 fn bans_of<O: Oracle>(
-    alloc: Global,
     graphs: &PairableGraphs<'_>,
-    oracle: &mut O,
+    asker: &mut Asker<'_, O>,
     ways: &[Pair],
-    seen: &mut Seen,
     book: &mut BanBook,
-    ledger: &mut Ledger,
 ) -> Result<Option<Items<Option<u64>>>, Stop>
-    requires may { MayHold graphs.now (O.known oracle.old) ledger.old book.old }
+    requires may { MayHoldBy graphs.now (loans O.known asker.old) book.old }
     requires outputs { All (IsPairOf graphs.now Output) ways.now }
-    ensures holds { HoldsBans graphs.now (O.known oracle.old) (O.known oracle.new) ledger.old ledger.new book.old book.new result }
+    ensures same { AreSame (loans O.known asker.old) (loans O.known asker.new) }
+    ensures holds { HoldsBy graphs.now (loans O.known asker.old) (loans O.known asker.new) book.old book.new result }
     ensures referred { IfOk result (λ found. IfSome found (AreReferred book.new ways.now)) }
 {
-    let mut refs = Items::new(alloc);
+    let mut refs = Items::new(asker.alloc);
     for pair in ways.iter() {
-        let Some(number) = ban_of(alloc, graphs, oracle, *pair, seen, book, ledger)? else {
+        let Some(number) = ban_of(graphs, asker, *pair, book)? else {
             return Ok(None);
         };
         refs.push(Some(number))?;
@@ -169,21 +158,19 @@ fn bans_of<O: Oracle>(
 
 // A ban of one way, held already, as by an earlier try, or by a tally.
 fn ban_of<O: Oracle>(
-    alloc: Global,
     graphs: &PairableGraphs<'_>,
-    oracle: &mut O,
+    asker: &mut Asker<'_, O>,
     pair: Pair,
-    seen: &mut Seen,
     book: &mut BanBook,
-    ledger: &mut Ledger,
 ) -> Result<Option<u64>, Stop>
-    requires may { MayHold graphs.now (O.known oracle.old) ledger.old book.old }
+    requires may { MayHoldBy graphs.now (loans O.known asker.old) book.old }
     requires outputs { IsPairOf graphs.now Output pair }
-    ensures holds { HoldsBans graphs.now (O.known oracle.old) (O.known oracle.new) ledger.old ledger.new book.old book.new result }
+    ensures same { AreSame (loans O.known asker.old) (loans O.known asker.new) }
+    ensures holds { HoldsBy graphs.now (loans O.known asker.old) (loans O.known asker.new) book.old book.new result }
     ensures covers { IfOk result (λ found. IfSome found (Covers book.new (pair ∷ []))) }
 {
     if let Some(number) = book.covering(&[pair]) {
         return Ok(Some(number));
     }
-    tally(alloc, graphs, oracle, pair, seen, book, ledger)
+    tally(graphs, asker, pair, book)
 }

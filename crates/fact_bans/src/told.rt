@@ -3,55 +3,47 @@
 ghost use Rattle.std.specs.Prelude.{◌≡◌, ◌++◌, ◌∷◌, [], IfOk, IfSome, IsTrue, map};
 ghost use Rattle.claim_core.specs.Claims.{IsClaim};
 ghost use Rattle.account_core.specs.Given.{decided_by};
-ghost use Rattle.oracle_core.specs.Oracles.{IsNumberOf, Serves, Suits};
+ghost use Rattle.oracle_core.specs.Oracles.{IsNumberOf, Suits};
 ghost use Rattle.ban_book.specs.Told.{AddsFact, IsToldAs};
+ghost use Rattle.fact_bans.specs.Asking.{AreSame, ServesBy, loans};
 
+use crate::asker::Asker;
 use crate::seen::Seen;
 use account_core::Fact;
 use ban_book::Told;
 use cnf_core::Stop;
 use items::Items;
 use oracle_core::Oracle;
-use query_core::{Claim, Ledger};
-use std::alloc::Global;
+use query_core::Claim;
 
 /// Has a claim decided. Where it fails, that is noted as seen.
-pub(crate) fn decide<O: Oracle>(
-    alloc: Global,
-    oracle: &mut O,
-    claim: Claim,
-    seen: &mut Seen,
-    ledger: &mut Ledger,
-) -> Result<Told, Stop>
-    requires placed { IsClaim (O.known oracle.old).graphs claim }
-    requires suits { Suits (O.known oracle.old) ledger.old }
-    ensures serves { Serves (O.known oracle.old) (O.known oracle.new) ledger.old ledger.new result }
-    ensures told { IfOk result (λ told. IsToldAs (map decided_by (O.known oracle.new).facts) claim told.holds told.number) }
+pub(crate) fn decide<O: Oracle>(asker: &mut Asker<'_, O>, claim: Claim) -> Result<Told, Stop>
+    requires placed { IsClaim (O.known asker.old.oracle.now).graphs claim }
+    requires suits { Suits (O.known asker.old.oracle.now) asker.old.ledger.now }
+    ensures same { AreSame (loans O.known asker.old) (loans O.known asker.new) }
+    ensures serves { ServesBy (loans O.known asker.old) (loans O.known asker.new) result }
+    ensures told { IfOk result (λ told.
+        IsToldAs (map decided_by (O.known asker.new.oracle.now).facts) claim told.holds told.number) }
 {
-    let number = number_of(alloc, oracle, claim, seen, ledger)?;
-    let fact = &oracle.facts()[number as usize];
+    let number = number_of(asker, claim)?;
+    let fact = &asker.oracle.facts()[number as usize];
     let holds = fact.holds();
-    seen.note(claim, number, holds);
+    asker.seen.note(claim, number, holds);
     Ok(Told { number, holds })
 }
 
 // The number of a claim's fact. One that was noted is found without asking.
-fn number_of<O: Oracle>(
-    alloc: Global,
-    oracle: &mut O,
-    claim: Claim,
-    seen: &Seen,
-    ledger: &mut Ledger,
-) -> Result<u64, Stop>
-    requires placed { IsClaim (O.known oracle.old).graphs claim }
-    requires suits { Suits (O.known oracle.old) ledger.old }
-    ensures serves { Serves (O.known oracle.old) (O.known oracle.new) ledger.old ledger.new result }
-    ensures number { IfOk result (IsNumberOf (O.known oracle.new).facts claim) }
+fn number_of<O: Oracle>(asker: &mut Asker<'_, O>, claim: Claim) -> Result<u64, Stop>
+    requires placed { IsClaim (O.known asker.old.oracle.now).graphs claim }
+    requires suits { Suits (O.known asker.old.oracle.now) asker.old.ledger.now }
+    ensures same { AreSame (loans O.known asker.old) (loans O.known asker.new) }
+    ensures serves { ServesBy (loans O.known asker.old) (loans O.known asker.new) result }
+    ensures number { IfOk result (IsNumberOf (O.known asker.new.oracle.now).facts claim) }
 {
-    if let Some(number) = noted(oracle.facts(), claim, seen) {
+    if let Some(number) = noted(asker.oracle.facts(), claim, asker.seen) {
         return Ok(number);
     }
-    oracle.claim(alloc, claim, ledger)
+    asker.oracle.claim(asker.alloc, claim, asker.ledger)
 }
 
 // The number that was noted of a claim's fact, if the fact is of the claim.
@@ -77,21 +69,19 @@ fn is_of(facts: &[Fact], number: u64, claim: Claim) -> bool
 
 /// Has a claim decided, and adds the number of its fact where that says what is wanted. Answers whether it does.
 pub(crate) fn add_fact<O: Oracle>(
-    alloc: Global,
-    oracle: &mut O,
+    asker: &mut Asker<'_, O>,
     claim: Claim,
     holds: bool,
     numbers: &mut Items<u64>,
-    seen: &mut Seen,
-    ledger: &mut Ledger,
 ) -> Result<bool, Stop>
-    requires placed { IsClaim (O.known oracle.old).graphs claim }
-    requires suits { Suits (O.known oracle.old) ledger.old }
-    ensures serves { Serves (O.known oracle.old) (O.known oracle.new) ledger.old ledger.new result }
+    requires placed { IsClaim (O.known asker.old.oracle.now).graphs claim }
+    requires suits { Suits (O.known asker.old.oracle.now) asker.old.ledger.now }
+    ensures same { AreSame (loans O.known asker.old) (loans O.known asker.new) }
+    ensures serves { ServesBy (loans O.known asker.old) (loans O.known asker.new) result }
     ensures adds { IfOk result (λ added. IsTrue added
-        → AddsFact (map decided_by (O.known oracle.new).facts) claim holds numbers.old numbers.new) }
+        → AddsFact (map decided_by (O.known asker.new.oracle.now).facts) claim holds numbers.old numbers.new) }
 {
-    let told = decide(alloc, oracle, claim, seen, ledger)?;
+    let told = decide(asker, claim)?;
     if told.holds != holds {
         return Ok(false);
     }

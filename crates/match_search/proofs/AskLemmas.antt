@@ -6,6 +6,7 @@ use Rattle.std.proofs.lemmas.Result.{IfOk-weaker}
 use Rattle.cnf_core.specs.declared.stop.Stop.{Stop}
 use Rattle.circuits.specs.declared.port.Pair.{Pair}
 use Rattle.circuits.specs.declared.port.PortKind.{PortKind}
+use Rattle.circuits.specs.declared.port.PortKind.TheVariants.{Input, Output}
 use Rattle.account_core.specs.Ports.{IsKnown}
 use Rattle.net_core.specs.Sides.{Graphs}
 use Rattle.query_core.specs.Ledgers.{Ledgered}
@@ -20,6 +21,7 @@ use Rattle.match_guess.specs.Trials.{AreTrials}
 use Rattle.ban_book.specs.Vectors.{AreLastResorts}
 use Rattle.ban_book.proofs.VectorLemmas.{last_resorts_push_other}
 use Rattle.fact_bans.specs.declared.exchanges.SwapPairs.{SwapPairs}
+use Rattle.fact_bans.specs.Carrying.{IsPairOf as IsOfKind}
 use Rattle.fact_bans.proofs.HoldingLemmas.{HasHeld, adds_then}
 use Rattle.pair_domains.specs.declared.entry.Entry.{Entry}
 use Rattle.pair_domains.specs.declared.entry.Fate.TheVariants.{Deleted}
@@ -88,11 +90,17 @@ deletes_one before after pair way fails holds after_is there lawful known open' 
     }
 
 -- two pairs that are known, the input's first
-pub both_known : {graphs : Graphs} {pair other : Pair} {both : Pair × Pair} → AreOfBothKinds pair other both → IsKnown graphs pair → IsKnown graphs other → IsKnown graphs both.0 × IsKnown graphs both.1
+both_known : {graphs : Graphs} {pair other : Pair} {both : Pair × Pair} → AreOfBothKinds pair other both → IsKnown graphs pair → IsKnown graphs other → IsKnown graphs both.0 × IsKnown graphs both.1
 both_known {graphs} {pair} {other} {both} are one two = elim are.are [
   | inl e ↦ (subst (λ (b : Pair × Pair). IsKnown graphs b.0 × IsKnown graphs b.1) (sym e) (one, two))
   | inr e ↦ (subst (λ (b : Pair × Pair). IsKnown graphs b.0 × IsKnown graphs b.1) (sym e) (two, one))
 ]
+
+-- the input's and the output's, of circuits that an oracle knows
+pub both_pairs : {graphs other : Graphs} {pair way : Pair} {both : Pair × Pair} → graphs ≡ other → AreOfBothKinds pair way both → IsKnown graphs pair → IsKnown graphs way → IsOfKind other Input both.0 × IsOfKind other Output both.1
+both_pairs {graphs} {other} {pair} {way} {both} same are one two =
+    let known = both_known are one two in
+    subst (λ (g : Graphs). IsOfKind g Input both.0 × IsOfKind g Output both.1) same (record { kind_is = are.input; known = known.0 }, record { kind_is = are.output; known = known.1 })
 
 -- what is so of three pairs, of the inputs' first
 pub each_of_three : (P : Pair → Type 0) {one other third : Pair} {pairs : SwapPairs} → AreInputsAndOutput one other third pairs → P one → P other → P third → P pairs.one × P pairs.other × P pairs.output

@@ -27,6 +27,6 @@ whole_of graphs n m held fit inputs outputs Input port below = inputs port (omeg
 whole_of graphs n m held fit inputs outputs Output port below = outputs port (omega (arith, below, fit.outputs_are))
 
 -- where no input is answered, and all outputs are taken, all ports are
-pub whole_if : (graphs : Graphs) (n m : ℕ) (held : List Pair) (found : Option Port) → FitPorts graphs n m → IfNone found ((port : ℕ) → port < n → IsTaken First held Input port) → ((port : ℕ) → port < m → IsTaken First held Output port) → IfNone found (IsWhole graphs held)
-whole_if graphs n m held None fit inputs outputs = whole_of graphs n m held fit inputs outputs
-whole_if graphs n m held (Some port) fit inputs outputs = tt
+pub whole_if : (n m : ℕ) (held : List Pair) (found : Option Port) → IfNone found ((port : ℕ) → port < n → IsTaken First held Input port) → ((port : ℕ) → port < m → IsTaken First held Output port) → IfNone found ((graphs : Graphs) → FitPorts graphs n m → IsWhole graphs held)
+whole_if n m held None inputs outputs = λ graphs fit. whole_of graphs n m held fit inputs outputs
+whole_if n m held (Some port) inputs outputs = tt

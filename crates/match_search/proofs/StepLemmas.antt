@@ -1,6 +1,7 @@
 -- Steps of the search, one after the other.
 use Rattle.std.proofs.Common.{◌≡◌, List, [], Result, Ok, Err, refl, sym, subst, ◌∙◌}
 use Rattle.std.specs.Prelude.{IfOk, IsErrAnd, OnOk}
+use Rattle.std.specs.Borrow.{GName}
 use Rattle.cnf_core.specs.declared.stop.Stop.{Stop}
 use Rattle.cnf_core.specs.declared.stop.Stop.TheVariants.{Memory}
 use Rattle.net_core.specs.Sides.{Graphs}
@@ -10,6 +11,7 @@ use Rattle.oracle_core.specs.Oracles.{Known, Serves}
 use Rattle.match_guess.specs.declared.trials.Trials.{Trials}
 use Rattle.match_guess.specs.Trials.{AreTrials}
 use Rattle.pair_domains.specs.Trails.{Domained}
+use Rattle.fact_bans.specs.Asking.{AreSame, Loans}
 use Rattle.fact_bans.specs.Serving.{HoldsBans}
 use Rattle.fact_bans.proofs.HoldingLemmas.{HasHeld, held_kept, held_one, held_same, held_then, holds_err, holds_last, holds_no_more, holds_ok, holds_stop, may_later}
 use Rattle.pair_search.specs.Grounded.{LearnsMore, StayGrounded}
@@ -42,15 +44,24 @@ held_asked held serves = held_then _ _ _ _ _ _ _ _ _ _ held (held_kept _ _ _ _ _
 
 -- what is lent may change, and the loans stay the same
 pub same_loans : {s : Lent} {known : Known} {ledger : Ledgered} {bans : List Ban} {vectors : Trials} → AreSameLoans s (record s { known = known; ledger = ledger; bans = bans; vectors = vectors })
-same_loans = record { oracle = refl; aids = refl; book = refl; ledger = refl }
+same_loans = record { oracle = refl; seen = refl; aids = refl; book = refl; ledger = refl }
 
 pub same_then : {old mid new : Lent} → AreSameLoans old mid → AreSameLoans mid new → AreSameLoans old new
 same_then one other = record {
   oracle = other.oracle ∙ one.oracle;
+  seen = other.seen ∙ one.seen;
   aids = other.aids ∙ one.aids;
   book = other.book ∙ one.book;
   ledger = other.ledger ∙ one.ledger;
 }
+
+-- what the asker is lent
+abbrev pub asker_of : Lent → Loans
+asker_of s = record { known = s.known; ledger = s.ledger; oracle_name = s.oracle_name; seen_name = s.seen_name; ledger_name = s.ledger_name }
+
+-- the asker was lent to a call
+pub same_asker : {s : Lent} {known : Known} {ledger : Ledgered} {oracle seen book : GName} {bans : List Ban} {vectors : Trials} → AreSame (asker_of s) (record { known = known; ledger = ledger; oracle_name = oracle; seen_name = seen; ledger_name = book }) → AreSameLoans s (record s { known = known; ledger = ledger; oracle_name = oracle; seen_name = seen; ledger_name = book; bans = bans; vectors = vectors })
+same_asker same = record { oracle = same.oracle; seen = same.seen; aids = refl; book = refl; ledger = same.ledger }
 
 -- all pairs are open
 pub may_anew : {graphs : Graphs} {s : Lent} {d : Domained} → MayGoOn graphs s → AreTrials graphs.first s.vectors → IsTrail graphs s.bans d → d.entries ≡ [] → MayStep graphs s d
@@ -97,9 +108,9 @@ way_bans {X} {graphs} way goes = record {
 }
 
 -- and a vector was kept
-pub way_tried : {X : Type 0} {graphs : Graphs} {old mid : Lent} {d : Domained} {known : Known} {ledger : Ledgered} {bans : List Ban} {vectors : Trials} {x : X} → IsUnderWay graphs old mid d → HoldsBans graphs mid.known known mid.ledger ledger mid.bans bans (Ok x) → AreTrials graphs.first vectors → IsUnderWay graphs old (record mid { known = known; ledger = ledger; bans = bans; vectors = vectors }) d
-way_tried way holds trials = record {
-  same = same_then way.same same_loans;
+pub way_tried : {X : Type 0} {graphs : Graphs} {old mid : Lent} {d : Domained} {known : Known} {ledger : Ledgered} {oracle seen book : GName} {bans : List Ban} {vectors : Trials} {x : X} → IsUnderWay graphs old mid d → AreSame (asker_of mid) (record { known = known; ledger = ledger; oracle_name = oracle; seen_name = seen; ledger_name = book }) → HoldsBans graphs mid.known known mid.ledger ledger mid.bans bans (Ok x) → AreTrials graphs.first vectors → IsUnderWay graphs old (record mid { known = known; ledger = ledger; oracle_name = oracle; seen_name = seen; ledger_name = book; bans = bans; vectors = vectors }) d
+way_tried way same holds trials = record {
+  same = same_then way.same (same_asker same);
   held = held_on way.held holds;
   trail = shown_adds _ _ _ _ _ _ holds.serves.grows holds.adds way.trail;
   trials = trials;
@@ -201,17 +212,21 @@ steps_last way steps = record {
   trials = steps.trials;
 }
 
--- a call of what the session is lent, one by one
-pub goes_by : {X : Type 0} {graphs : Graphs} {old : Lent} {known : Known} {ledger : Ledgered} {bans : List Ban} {vectors : Trials} {result : Result X Stop} → HoldsBans graphs old.known known old.ledger ledger old.bans bans result → vectors ≡ old.vectors → GoesOn graphs old (record old { known = known; ledger = ledger; bans = bans; vectors = vectors }) result
-goes_by holds trials = record {
-  same = same_loans;
+-- a call that is lent the asker and the book
+pub goes_by : {X : Type 0} {graphs : Graphs} {old : Lent} {known : Known} {ledger : Ledgered} {oracle seen book : GName} {bans : List Ban} {vectors : Trials} {result : Result X Stop} → AreSame (asker_of old) (record { known = known; ledger = ledger; oracle_name = oracle; seen_name = seen; ledger_name = book }) → HoldsBans graphs old.known known old.ledger ledger old.bans bans result → vectors ≡ old.vectors → GoesOn graphs old (record old { known = known; ledger = ledger; oracle_name = oracle; seen_name = seen; ledger_name = book; bans = bans; vectors = vectors }) result
+goes_by same holds trials = record {
+  same = same_asker same;
   holds = holds;
   trials = trials;
 }
 
--- and one by which none is held
+-- one that is lent the asker alone
+pub goes_told : {X : Type 0} {graphs : Graphs} {old : Lent} {known : Known} {ledger : Ledgered} {oracle seen book : GName} {result : Result X Stop} → MayGoOn graphs old → AreSame (asker_of old) (record { known = known; ledger = ledger; oracle_name = oracle; seen_name = seen; ledger_name = book }) → Serves old.known known old.ledger ledger result → GoesOn graphs old (record old { known = known; ledger = ledger; oracle_name = oracle; seen_name = seen; ledger_name = book }) result
+goes_told may same serves = goes_by same (holds_no_more _ _ _ _ _ _ _ may.valid serves) refl
+
+-- and one that is lent the oracle and the ledger
 pub goes_asked : {X : Type 0} {graphs : Graphs} {old : Lent} {known : Known} {ledger : Ledgered} {result : Result X Stop} → MayGoOn graphs old → Serves old.known known old.ledger ledger result → GoesOn graphs old (record old { known = known; ledger = ledger }) result
-goes_asked may serves = goes_by (holds_no_more _ _ _ _ _ _ _ may.valid serves) refl
+goes_asked may serves = goes_told may (record { oracle = refl; seen = refl; ledger = refl }) serves
 
 -- Calls that hold bans and no pair, one after the other.
 pub record HasGoneOn (graphs : Graphs) (old now : Lent) : Type 0 where

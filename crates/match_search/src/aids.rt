@@ -5,15 +5,13 @@ ghost use Rattle.match_guess.specs.Trials.{AreTrials};
 
 use crate::Guide;
 use account_core::PairableGraphs;
-use fact_bans::Seen;
 use match_guess::Trials;
 use std::alloc::{AllocError, Global};
 
-/// What a search goes by: what guides it, vectors that pairs are tried on, and what vectors showed of claims.
+/// What a search goes by: what guides it, and vectors that pairs are tried on.
 pub(crate) struct Aids {
     pub(crate) guide: Guide,
     pub(crate) trials: Trials,
-    pub(crate) seen: Seen,
 }
 
 // By hand, and so one call wherever a value ends: a derived drop is expanded there, field by field, and makes proofs long.
@@ -22,7 +20,6 @@ impl Drop for Aids {
         let Aids {
             guide: _guide,
             trials: _trials,
-            seen: _seen,
         } = self;
     }
 }
@@ -37,12 +34,7 @@ impl Aids {
         ensures { IfOk result (λ aids. AreTrials graphs.now.first aids.trials) }
     {
         let trials = Trials::new(alloc, graphs.first(), seed)?;
-        let seen = Seen::new(alloc, graphs, seed)?;
         let guide = Guide::new(alloc, graphs)?;
-        Ok(Aids {
-            guide,
-            trials,
-            seen,
-        })
+        Ok(Aids { guide, trials })
     }
 }

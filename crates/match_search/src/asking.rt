@@ -53,6 +53,7 @@ pub(crate) fn ask_held<O: Oracle>(
     requires held { Contains (held_in domains.now.entries) pair }
     ensures steps { Steps graphs.now (lent O.known session.old) (lent O.known session.new) domains.now result }
 {
+    // held pairs are of ports that exist, and share none
     let _lawful = domains.entries();
     let count = session.book.bans().len();
     let held = domains.pairs();
@@ -74,15 +75,7 @@ fn ask_alone<O: Oracle>(
     ensures { GoesOn graphs.now (lent O.known session.old) (lent O.known session.new) result }
 {
     match pair.kind {
-        PortKind::Output => tally(
-            session.alloc,
-            graphs,
-            session.oracle,
-            pair,
-            &mut session.aids.seen,
-            session.book,
-            session.ledger,
-        ),
+        PortKind::Output => tally(graphs, &mut session.asker, pair, session.book),
         PortKind::Input => Ok(None),
     }
 }
@@ -102,16 +95,7 @@ fn ask_two<O: Oracle>(
     let Some((input, output)) = input_and_output(pair, other) else {
         return Ok(None);
     };
-    mismatch(
-        session.alloc,
-        graphs,
-        session.oracle,
-        input,
-        output,
-        &mut session.aids.seen,
-        session.book,
-        session.ledger,
-    )
+    mismatch(graphs, &mut session.asker, input, output, session.book)
 }
 
 /// An input's pair and an output's, of two that are of different kinds.

@@ -41,7 +41,7 @@ pub(crate) fn explore_rounds<O: Oracle>(
     ensures explores { Explores graphs.now (lent O.known session.old) (lent O.known session.new) result }
     ensures found { IfOk result (λ found. IfSome found (IsFoundBy graphs.now (lent O.known session.new))) }
 {
-    let mut trail = PairTrail::new(session.alloc, graphs)?;
+    let mut trail = PairTrail::new(session.asker.alloc, graphs)?;
     session.aids.guide.begin(lines);
     run_rounds(graphs, session, &mut trail, rounds)
 }
@@ -81,9 +81,10 @@ pub(crate) fn explore_whole<O: Oracle>(
 ) -> Result<Found, Stop>
     requires may { MaySearch graphs.now (lent O.known session.old) }
     ensures searches { SearchesBy graphs.now (lent O.known session.old) (lent O.known session.new) result }
-    ensures decided { IfOk result (IsDecidedFound graphs.now (map decided_by (O.known session.new.oracle.now).facts)) }
+    ensures decided { IfOk result
+        (IsDecidedFound graphs.now (map decided_by (O.known session.new.asker.oracle.now).facts)) }
 {
-    let mut trail = PairTrail::new(session.alloc, graphs)?;
+    let mut trail = PairTrail::new(session.asker.alloc, graphs)?;
     match explore_round(graphs, session, &mut trail, false)? {
         Some(found) => Ok(found),
         None => unreachable!(),
@@ -102,12 +103,17 @@ fn explore_round<O: Oracle>(
     ensures found { IfOk result (λ found. IfSome found (IsFoundBy graphs.now (lent O.known session.new))) }
     ensures ends { ends ≡ false → IfOk result (λ found. IfNone found ⊥) }
 {
-    while !(ends & session.aids.guide.is_round_over(session.ledger.learned())) {
+    while !(ends & is_round_over(session)) {
         if let Some(found) = turn(graphs, session, trail)? {
             return Ok(Some(found));
         }
     }
     Ok(None)
+}
+
+fn is_round_over<O: Oracle>(session: &Session<'_, O>) -> bool {
+    let learned = session.learned();
+    session.aids.guide.is_round_over(learned)
 }
 
 // One step ahead, and back from an impasse. It answers None where less is left than before.
@@ -121,9 +127,8 @@ fn turn<O: Oracle>(
     ensures less { IfOk result (λ found. IfNone found (left trail.new.domains < left trail.old.domains)) }
     ensures found { IfOk result (λ found. IfSome found (IsFoundBy graphs.now (lent O.known session.new))) }
 {
-    session.oracle.at(Stage::Banning {
-        bans: session.book.bans().len() as u64,
-    });
+    let bans = session.book.bans().len() as u64;
+    session.at(Stage::Banning { bans });
     let impasse = match ahead(graphs, session, trail)? {
         Ahead::Deeper => return Ok(None),
         Ahead::Match(matching, logs) => return Ok(Some(Found::Match(matching, logs))),
@@ -133,7 +138,7 @@ fn turn<O: Oracle>(
     let dead = impasse.ban();
     session.aids.guide.hurry(&impasse);
     let refusal = turn_back(
-        session.alloc,
+        session.asker.alloc,
         graphs,
         &mut trail.domains,
         &mut trail.queue,
@@ -174,7 +179,7 @@ fn go_on<O: Oracle>(
     ensures steps { Steps graphs.now (lent O.known session.old) (lent O.known session.new) domains.new result }
     ensures ahead { IfOk result (IsAhead graphs.now (lent O.known session.new) domains.old domains.new) }
 {
-    let Some(port) = next_port(session.alloc, graphs, &session.aids.guide, domains)? else {
+    let Some(port) = next_port(session.asker.alloc, &session.aids.guide, domains)? else {
         return compare_held(graphs, session, domains);
     };
     session.aids.guide.decide(port);
@@ -215,15 +220,7 @@ fn confirm<O: Oracle>(
     ensures steps { Steps graphs.now (lent O.known session.old) (lent O.known session.new) domains.new result }
     ensures ahead { IfOk result (IsAhead graphs.now (lent O.known session.new) domains.old domains.new) }
 {
-    match refine(
-        session.alloc,
-        graphs,
-        session.oracle,
-        domains,
-        &mut session.aids.seen,
-        session.book,
-        session.ledger,
-    )? {
+    match refine(graphs, &mut session.asker, domains, session.book)? {
         Refined::Stable => Ok(Ahead::Match(matching, logs)),
         Refined::Dead(ban) => Ok(Ahead::Impasse(Impasse::Ban(ban))),
     }

@@ -37,34 +37,30 @@ pub(crate) fn compare_whole<O: Oracle>(
     ensures steps { Steps graphs.now (lent O.known session.old) (lent O.known session.new) domains.now result }
     ensures settled { IfOk result (IsSettled graphs.now session.new.book.now (held_in domains.now.entries)) }
 {
+    // the gates of a graph are in order
     let _first = graphs.first();
     let _second = graphs.second();
+    // held pairs are of ports that exist, and share none
     let _lawful = domains.entries();
-    let alloc = session.alloc;
+    let asker = &mut session.asker;
+    let alloc = asker.alloc;
     let matching = matching_of(alloc, graphs, domains.pairs())?;
     let mut logs = Items::new(alloc);
     match compare_all(
         alloc,
         graphs,
-        session.oracle,
+        asker.oracle,
         &matching,
-        session.ledger,
+        asker.ledger,
         &mut logs,
     )? {
         None => Ok(Settled::Match(matching, logs)),
         Some(found) => {
-            let aids = &mut *session.aids;
-            aids.trials.keep(alloc, graphs.first(), &found.vector)?;
-            let ban = exclude(
-                alloc,
-                graphs,
-                session.oracle,
-                &matching,
-                &found,
-                &mut aids.seen,
-                session.book,
-                session.ledger,
-            )?;
+            session
+                .aids
+                .trials
+                .keep(alloc, graphs.first(), &found.vector)?;
+            let ban = exclude(graphs, &mut session.asker, &matching, &found, session.book)?;
             Ok(Settled::Ban(ban))
         }
     }

@@ -1,6 +1,7 @@
 //! Which port is decided next.
 
 ghost use Rattle.std.specs.Prelude.{ℕ, ◌≡◌, ◌<◌, false, IfNone, IfOk, IfSome, IsTrue};
+ghost use Rattle.net_core.specs.Sides.{Graphs as AnyGraphs};
 ghost use Rattle.net_core.specs.declared.graphs.Side.TheVariants as AnySide;
 ghost use Rattle.account_core.specs.Held.{IsTaken, IsWhole};
 ghost use Rattle.pair_domains.specs.Trails.{IsFreePort, held_in, ports_of};
@@ -8,7 +9,6 @@ ghost use Rattle.pair_search.specs.Conflicts.{FitPorts};
 
 use crate::fewest::fewest_ways;
 use crate::guide::Guide;
-use account_core::PairableGraphs;
 use circuits::PortKind;
 use net_core::Side;
 use pair_domains::Domains;
@@ -23,23 +23,23 @@ use std::alloc::{AllocError, Global};
 /// Only when out of memory.
 pub fn next_port(
     alloc: Global,
-    graphs: &PairableGraphs<'_>,
     guide: &Guide,
     domains: &Domains,
 ) -> Result<Option<Port>, AllocError>
-    requires fit { FitPorts graphs.now domains.now.inputs domains.now.outputs }
     ensures port { IfOk result (λ next. IfSome next
         (λ port. port.number < ports_of domains.now.inputs domains.now.outputs port.kind)) }
     ensures free { IfOk result (λ next. IfSome next
         (λ port. IsFreePort domains.now.entries port.side port.kind port.number)) }
-    ensures none { IfOk result (λ next. IfNone next (IsWhole graphs.now (held_in domains.now.entries))) }
+    ensures none { IfOk result (λ next. IfNone next ((graphs : AnyGraphs)
+        → FitPorts graphs domains.now.inputs domains.now.outputs
+        → IsWhole graphs (held_in domains.now.entries))) }
 {
     if let Some(port) = preferred(alloc, guide, domains)? {
         if is_free(domains, port) {
             return Ok(Some(port));
         }
     }
-    Ok(first_free(graphs, domains))
+    Ok(first_free(domains))
 }
 
 // The urgent port, if it is in no pair, or that with the fewest ways left for its weight.
@@ -54,13 +54,13 @@ fn preferred(alloc: Global, guide: &Guide, domains: &Domains) -> Result<Option<P
 }
 
 // The first port of the first circuit that is in no pair.
-fn first_free(graphs: &PairableGraphs<'_>, domains: &Domains) -> Option<Port>
-    requires fit { FitPorts graphs.now domains.now.inputs domains.now.outputs }
+fn first_free(domains: &Domains) -> Option<Port>
     ensures port { IfSome result (λ port. port.number < ports_of domains.now.inputs domains.now.outputs port.kind) }
     ensures free { IfSome result (λ port. IsFreePort domains.now.entries port.side port.kind port.number) }
-    ensures none { IfNone result (IsWhole graphs.now (held_in domains.now.entries)) }
+    ensures none { IfNone result ((graphs : AnyGraphs)
+        → FitPorts graphs domains.now.inputs domains.now.outputs
+        → IsWhole graphs (held_in domains.now.entries)) }
 {
-    let _ = graphs;
     if let Some(port) = first_of(domains, PortKind::Output) {
         return Some(port);
     }

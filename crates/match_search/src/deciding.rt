@@ -12,6 +12,7 @@ use account_core::PairableGraphs;
 use ban_book::BanBook;
 use circuits::PortKind;
 use cnf_core::Stop;
+use fact_bans::{Asker, Seen};
 use match_guess::{Effort, Guesser};
 use oracle_core::Oracle;
 use query_core::Ledger;
@@ -69,13 +70,17 @@ pub fn decide<O: Oracle>(
     )? {
         return Ok(Found::Match(matching, logs));
     }
+    let mut seen = Seen::new(alloc, graphs, seed)?;
     let mut aids = Aids::new(alloc, graphs, seed)?;
     let mut session = Session {
-        alloc,
-        oracle,
+        asker: Asker {
+            alloc,
+            oracle,
+            seen: &mut seen,
+            ledger,
+        },
         aids: &mut aids,
         book,
-        ledger,
     };
     match effort {
         Effort::Little => refuse_or_find(graphs, &mut session, &mut guesser),
@@ -108,17 +113,18 @@ fn refuse_or_find<O: Oracle>(
     if let Some(ban) = refuse_by_counts(graphs, session, FEW_TRIES)? {
         return Ok(Found::None(ban));
     }
-    let lines = session.ledger.learned().saturating_add(FEW_LINES);
+    let lines = session.learned().saturating_add(FEW_LINES);
     if let Some(found) = explore_rounds(graphs, session, LITTLE_ROUNDS, lines)? {
         return Ok(found);
     }
+    let asker = &mut session.asker;
     if let Some((matching, logs)) = compare_guesses(
-        session.alloc,
+        asker.alloc,
         graphs,
-        session.oracle,
+        asker.oracle,
         guesser,
         Effort::Whole,
-        session.ledger,
+        asker.ledger,
     )? {
         return Ok(Found::Match(matching, logs));
     }

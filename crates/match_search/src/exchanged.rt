@@ -82,15 +82,7 @@ fn exclude_three<O: Oracle>(
     let Some(pairs) = inputs_and_output(one, other, third) else {
         return Ok(None);
     };
-    swap_mismatch(
-        session.alloc,
-        graphs,
-        session.oracle,
-        pairs,
-        &mut session.aids.seen,
-        session.book,
-        session.ledger,
-    )
+    swap_mismatch(graphs, &mut session.asker, pairs, session.book)
 }
 
 // The pairs of two inputs and of an output, if the third pair or the first is the output's.

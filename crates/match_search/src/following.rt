@@ -15,8 +15,10 @@ use account_core::PairableGraphs;
 use circuits::{Pair, PortKind};
 use class_refine::Domains;
 use cnf_core::Stop;
+use fact_bans::Asker;
 use oracle_core::Oracle;
 use pair_search::{Impasse, propagate};
+use std::alloc::AllocError;
 use vector_bans::foresee;
 
 /// Holds and deletes what follows of bans and of claims, those of one input first, which are fewer and whose bans are shorter,
@@ -34,11 +36,8 @@ pub(crate) fn follow<O: Oracle>(
     if let Some(impasse) = settle(graphs, session, trail)? {
         return Ok(Some(impasse));
     }
-    if session
-        .aids
-        .guide
-        .has_had_its_share(session.ledger.learned())
-    {
+    let learned = session.learned();
+    if session.aids.guide.has_had_its_share(learned) {
         return Ok(None);
     }
     let domains = &trail.domains;
@@ -58,17 +57,14 @@ fn try_held<O: Oracle>(
     ensures steps { Steps graphs.now (lent O.known session.old) (lent O.known session.new) domains.now result }
     ensures impasse { IfOk result (λ found. IfSome found (IsImpasse session.new.book.now domains.now)) }
 {
+    // held pairs are of ports that exist, and share none
     let _lawful = domains.entries();
-    let aids = &mut *session.aids;
     match foresee(
-        session.alloc,
         graphs,
-        session.oracle,
+        &mut session.asker,
         domains.pairs(),
-        &aids.trials,
-        &mut aids.seen,
+        &session.aids.trials,
         session.book,
-        session.ledger,
     )? {
         Some(ban) => Ok(Some(Impasse::Ban(ban))),
         None => Ok(None),
@@ -85,6 +81,7 @@ fn exchange_held<O: Oracle>(
     ensures steps { Steps graphs.now (lent O.known session.old) (lent O.known session.new) domains.now result }
     ensures impasse { IfOk result (λ found. IfSome found (IsImpasse session.new.book.now domains.now)) }
 {
+    // held pairs are of ports that exist, and share none
     let _lawful = domains.entries();
     let held = domains.pairs();
     for place in session.aids.guide.exchanged..held.len() {
@@ -113,7 +110,7 @@ fn settle<O: Oracle>(
     let outputs = trail.domains.ports(PortKind::Output) as u64;
     for _turn in 0..inputs + 2 * outputs + 1 {
         if let Some(impasse) = propagate(
-            session.alloc,
+            session.asker.alloc,
             &mut trail.domains,
             &mut trail.queue,
             session.book.bans(),
@@ -121,12 +118,8 @@ fn settle<O: Oracle>(
             return Ok(Some(impasse));
         }
         let more = ask_next(graphs, session, &mut trail.domains)?;
-        if !more
-            | session
-                .aids
-                .guide
-                .has_had_its_share(session.ledger.learned())
-        {
+        let learned = session.learned();
+        if !more | session.aids.guide.has_had_its_share(learned) {
             return Ok(None);
         }
     }
@@ -196,6 +189,16 @@ fn delete_beside<O: Oracle>(
     ensures deletes { OnOk result (Deletes pair domains.old domains.new) }
 {
     let again = session.aids.guide.compare(pair);
-    let ways = list_unlike(session.alloc, domains, &session.aids.seen, pair, again)?;
+    let ways = ways_beside(&session.asker, domains, pair, again)?;
     delete_unlike(graphs, session, domains, pair, &ways)
+}
+
+// The ways that vectors tell from a held pair.
+fn ways_beside<O: Oracle>(
+    asker: &Asker<'_, O>,
+    domains: &Domains,
+    pair: Pair,
+    again: bool,
+) -> Result<Vec<Pair>, AllocError> {
+    list_unlike(asker.alloc, domains, asker.seen, pair, again)
 }

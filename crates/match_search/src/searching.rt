@@ -13,7 +13,7 @@ use crate::session::Session;
 use account_core::PairableGraphs;
 use ban_book::BanBook;
 use cnf_core::Stop;
-use fact_bans::refuse;
+use fact_bans::{Asker, Seen, refuse};
 use oracle_core::Oracle;
 use query_core::Ledger;
 use std::alloc::Global;
@@ -54,14 +54,19 @@ pub fn search<O: Oracle>(
     ensures searches { Searches graphs.now (O.known oracle.old) (O.known oracle.new) ledger.old ledger.new book.new result }
     ensures decided { IfOk result (IsDecidedFound graphs.now (map decided_by (O.known oracle.new).facts)) }
 {
+    // the facts of an oracle are of its circuits
     let _facts = oracle.facts();
+    let mut seen = Seen::new(alloc, graphs, seed)?;
     let mut aids = Aids::new(alloc, graphs, seed)?;
     let mut session = Session {
-        alloc,
-        oracle,
+        asker: Asker {
+            alloc,
+            oracle,
+            seen: &mut seen,
+            ledger,
+        },
         aids: &mut aids,
         book,
-        ledger,
     };
     refuse_or_explore(graphs, &mut session)
 }
@@ -82,7 +87,8 @@ pub(crate) fn refuse_or_explore<O: Oracle>(
 ) -> Result<Found, Stop>
     requires may { MaySearch graphs.now (lent O.known session.old) }
     ensures searches { SearchesBy graphs.now (lent O.known session.old) (lent O.known session.new) result }
-    ensures decided { IfOk result (IsDecidedFound graphs.now (map decided_by (O.known session.new.oracle.now).facts)) }
+    ensures decided { IfOk result
+        (IsDecidedFound graphs.now (map decided_by (O.known session.new.asker.oracle.now).facts)) }
 {
     if let Some(ban) = refuse_by_counts(graphs, session, MOST_TRIES)? {
         return Ok(Found::None(ban));
@@ -91,7 +97,7 @@ pub(crate) fn refuse_or_explore<O: Oracle>(
         if let Some(found) = explore_rounds(graphs, session, MOST_ROUNDS, u64::MAX)? {
             return Ok(found);
         }
-        let_go(session.alloc, session.book);
+        let_go(session.asker.alloc, session.book);
         session.aids.guide.begin_anew();
     }
     explore_whole(graphs, session)
@@ -111,15 +117,7 @@ pub(crate) fn refuse_by_counts<O: Oracle>(
     ensures explores { Explores graphs.now (lent O.known session.old) (lent O.known session.new) result }
     ensures empty { IfOk result (λ found. IfSome found (IsEmptyBan session.new.book.now)) }
 {
-    refuse(
-        session.alloc,
-        graphs,
-        session.oracle,
-        tries,
-        &mut session.aids.seen,
-        session.book,
-        session.ledger,
-    )
+    refuse(graphs, &mut session.asker, tries, session.book)
 }
 
 // Lets all bans go.

@@ -2,17 +2,28 @@
 
 use crate::aids::Aids;
 use ban_book::BanBook;
+use fact_bans::Asker;
 use oracle_core::Oracle;
-use query_core::Ledger;
-use std::alloc::Global;
+use watch_core::Stage;
 
-/// What the steps of a search are lent: an oracle that decides claims, what the search goes by, the book of its bans and the
-/// ledger.
+/// What the steps of a search are lent: who has claims decided, what the search goes by, and the book of its bans.
 #[derive(Drop)]
 pub(crate) struct Session<'a, O: Oracle> {
-    pub(crate) alloc: Global,
-    pub(crate) oracle: &'a mut O,
+    pub(crate) asker: Asker<'a, O>,
     pub(crate) aids: &'a mut Aids,
     pub(crate) book: &'a mut BanBook,
-    pub(crate) ledger: &'a mut Ledger,
+}
+
+impl<O: Oracle> Session<'_, O> {
+    /// How many lines were learned in the run.
+    pub(crate) fn learned(&self) -> u64 {
+        let asker = &self.asker;
+        asker.ledger.learned()
+    }
+
+    /// Whoever watches is told what the run is at.
+    pub(crate) fn at(&self, stage: Stage) {
+        let asker = &self.asker;
+        asker.oracle.at(stage);
+    }
 }

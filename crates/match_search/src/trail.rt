@@ -23,6 +23,7 @@ impl PairTrail {
         ensures trail { IfOk result (λ trail. (bans : List AnyBan) → IsTrail graphs.now bans trail.domains) }
         ensures none { IfOk result (λ trail. trail.domains.entries ≡ []) }
     {
+        // both circuits have as many ports
         let _ports = graphs.graphs();
         let inputs = graphs.ports(PortKind::Input);
         let outputs = graphs.ports(PortKind::Output);

@@ -171,6 +171,7 @@ fn delete_way<O: Oracle>(
     ensures steps { Steps graphs.now (lent O.known session.old) (lent O.known session.new) domains.new result }
     ensures deletes { OnOk result (Deletes pair domains.old domains.new) }
 {
+    // held pairs are of ports that exist, and share none
     let _lawful = domains.entries();
     if !is_open(domains, way) {
         return Ok(());
@@ -196,18 +197,11 @@ fn unlike_beside<O: Oracle>(
     requires way { IsKnown graphs.now way }
     ensures goes_on { GoesOn graphs.now (lent O.known session.old) (lent O.known session.new) result }
     ensures shown { IfOk result (λ found. IfSome found (λ unlike. IsGrounded graphs.now
-        (map decided_by (O.known session.new.oracle.now).facts) way (Deleted (Mismatch pair unlike.fails unlike.holds)))) }
+        (map decided_by (O.known session.new.asker.oracle.now).facts) way
+        (Deleted (Mismatch pair unlike.fails unlike.holds)))) }
 {
     let Some((input, output)) = input_and_output(pair, way) else {
         return Ok(None);
     };
-    tell_apart(
-        session.alloc,
-        graphs,
-        session.oracle,
-        input,
-        output,
-        &mut session.aids.seen,
-        session.ledger,
-    )
+    tell_apart(&mut session.asker, input, output)
 }

@@ -17,7 +17,7 @@ use ban_book::BanBook;
 use circuits::{Pair, PortKind};
 use class_refine::{Refined, refine};
 use cnf_core::Stop;
-use fact_bans::Seen;
+use fact_bans::{Asker, Seen};
 use net_core::{Graphs, Side};
 use oracle_core::Oracle;
 use pair_domains::{Cause, Domains};
@@ -58,6 +58,7 @@ fn all_open(alloc: Global, graphs: &PairableGraphs<'_>) -> Result<Domains, Alloc
     ensures trail { IfOk result (λ domains. IsTrail graphs.now [] domains) }
     ensures shown { IfOk result (λ domains. (facts : List AnyFact) → AreGrounded graphs.now facts domains.entries) }
 {
+    // both circuits have as many ports
     let _ports = graphs.graphs();
     Domains::new(
         alloc,
@@ -89,6 +90,7 @@ fn hold(graphs: &PairableGraphs<'_>, domains: &mut Domains, pair: Pair) -> Resul
     ensures trail { OnOk result (IsTrail graphs.now [] domains.new) }
     ensures shown { OnOk result ((facts : List AnyFact) → AreGrounded graphs.now facts domains.new.entries) }
 {
+    // its contract alone speaks of the circuits
     let _ = graphs;
     if !is_free(domains, pair) {
         return Ok(());
@@ -129,19 +131,18 @@ fn refined_by<O: Oracle>(
     requires trail { IsTrail graphs.now [] domains.old }
     requires shown { (facts : List AnyFact) → AreGrounded graphs.now facts domains.old.entries }
 {
+    // the facts of an oracle are of its circuits
     let _facts = oracle.facts();
     let mut seen = Seen::new(alloc, graphs, 1)?;
     let mut book = BanBook::new(alloc);
     let mut ledger = Ledger::new(alloc, 1_000_000);
-    let answer = refine(
+    let mut asker = Asker {
         alloc,
-        graphs,
         oracle,
-        domains,
-        &mut seen,
-        &mut book,
-        &mut ledger,
-    );
+        seen: &mut seen,
+        ledger: &mut ledger,
+    };
+    let answer = refine(graphs, &mut asker, domains, &mut book);
     Ok(outcome_of(&answer, domains.entries().len(), book.bans()))
 }
 

@@ -10,7 +10,7 @@ ghost use Rattle.ban_book.specs.Covering.{Covers};
 ghost use Rattle.word_sim.specs.ThreeValues.{of_bit};
 ghost use Rattle.vector_bans.specs.Differences.{pair_from, pairs_from, AreShown, IsLeftOut, IsShown, IsWrong, MayTry, Differs};
 ghost use Rattle.account_core.specs.Held.{IsWhole};
-ghost use Rattle.fact_bans.specs.Serving.{HoldsBans, MayHold};
+ghost use Rattle.fact_bans.specs.Asking.{AreSame, HoldsBy, MayHoldBy, loans};
 
 use crate::last_resort::hold_shown;
 use account_core::{PairableGraphs, values_sent};
@@ -19,11 +19,10 @@ use ban_book::needed::place_of;
 use bit_list::Bits;
 use circuits::{Pair, PortKind};
 use cnf_core::Stop;
-use fact_bans::Seen;
+use fact_bans::Asker;
 use items::Items;
 use net_core::{Matching, SignalValue};
 use oracle_core::Oracle;
-use query_core::Ledger;
 use std::alloc::{AllocError, Global};
 use word_sim::{Tri, tri_output};
 
@@ -34,6 +33,15 @@ pub(crate) struct Shown {
     pub(crate) pair: Pair,
     pub(crate) pairs: Items<Pair>,
     pub(crate) values: Items<Tri>,
+}
+
+/// On what it is tried whether an output differs from its partner: the output's pair, values of the first circuit's
+/// inputs, and the value that the output has on them.
+#[derive(Clone, Copy)]
+pub(crate) struct Tried<'a> {
+    pub(crate) pair: Pair,
+    pub(crate) values: &'a [Tri],
+    pub(crate) first: Tri,
 }
 
 /// An output that differs from its partner, and a vector on which it does.
@@ -51,26 +59,24 @@ pub struct Difference {
 ///
 /// `Spent` where a line had to be learned and the ledger's budget was spent. `Memory` when out of memory.
 pub fn exclude<O: Oracle>(
-    alloc: Global,
     graphs: &PairableGraphs<'_>,
-    oracle: &mut O,
+    asker: &mut Asker<'_, O>,
     matching: &Matching,
     difference: &Difference,
-    seen: &mut Seen,
     book: &mut BanBook,
-    ledger: &mut Ledger,
 ) -> Result<u64, Stop>
-    requires may { MayHold graphs.now (O.known oracle.old) ledger.old book.old }
+    requires may { MayHoldBy graphs.now (loans O.known asker.old) book.old }
     requires ports { HavePorts graphs.now.first graphs.now.second matching.now.inputs matching.now.outputs }
     requires differs { Differs graphs.now matching.now difference.now }
-    ensures holds { HoldsBans graphs.now (O.known oracle.old) (O.known oracle.new) ledger.old ledger.new book.old book.new result }
+    ensures same { AreSame (loans O.known asker.old) (loans O.known asker.new) }
+    ensures holds { HoldsBy graphs.now (loans O.known asker.old) (loans O.known asker.new) book.old book.new result }
     ensures covers { (held : List AnyPair)
         → IsWhole graphs.now held
         → Extends held matching.now.inputs matching.now.outputs
         → IfOk result (Covers book.new held) }
 {
-    let shown = shown_by(alloc, graphs, matching, difference)?;
-    hold_shown(alloc, graphs, oracle, shown, seen, book, ledger)
+    let shown = shown_by(asker.alloc, graphs, matching, difference)?;
+    hold_shown(graphs, asker, shown, book)
 }
 
 // The pairs on which a vector shows that an output differs from the one that a matching sends it to. The pairs of inputs that the
@@ -89,6 +95,7 @@ fn shown_by(
         → Extends held matching.now.inputs matching.now.outputs
         → IfOk result (λ shown. All (Contains held) shown.pairs) }
 {
+    // the inputs of a graph are fewer than 2^32, and its gates in order
     let _first = graphs.first();
     let _second = graphs.second();
     let values = definite(alloc, &difference.vector)?;
@@ -163,11 +170,16 @@ pub(crate) fn leave_out(
     ensures { IfOk result (λ pairs. IsShown graphs.now whole.items pair values.now pairs.items) }
 {
     let first = tri_output(alloc, graphs.first(), values, pair.from)?;
+    let tried = Tried {
+        pair,
+        values,
+        first,
+    };
     let mut pairs = whole;
     let mut left = order.len();
     while left > 0 {
         left -= 1;
-        pairs = without_one(alloc, graphs, pairs, order[left], pair, values, first)?;
+        pairs = without_one(alloc, graphs, pairs, order[left], &tried)?;
     }
     Ok(pairs)
 }
@@ -178,18 +190,16 @@ fn without_one(
     graphs: &PairableGraphs<'_>,
     pairs: Vec<Pair>,
     other: Pair,
-    pair: Pair,
-    values: &[Tri],
-    first: Tri,
+    tried: &Tried<'_>,
 ) -> Result<Vec<Pair>, AllocError>
-    requires may { MayTry graphs.now pair values.now first }
-    ensures { (whole : List AnyPair) → IsShown graphs.now whole pair values.now pairs.items
-        → IfOk result (λ fewer. IsShown graphs.now whole pair values.now fewer.items) }
+    requires may { MayTry graphs.now tried.now.pair tried.now.values.now tried.now.first }
+    ensures { (whole : List AnyPair) → IsShown graphs.now whole tried.now.pair tried.now.values.now pairs.items
+        → IfOk result (λ fewer. IsShown graphs.now whole tried.now.pair tried.now.values.now fewer.items) }
 {
     let Some(place) = place_of(&pairs, other) else {
         return Ok(pairs);
     };
-    match without(alloc, graphs, &pairs, place, pair, values, first)? {
+    match without(alloc, graphs, &pairs, place, tried)? {
         Some(fewer) => Ok(fewer),
         None => Ok(pairs),
     }
@@ -201,20 +211,18 @@ fn without(
     graphs: &PairableGraphs<'_>,
     pairs: &[Pair],
     place: usize,
-    pair: Pair,
-    values: &[Tri],
-    first: Tri,
+    tried: &Tried<'_>,
 ) -> Result<Option<Vec<Pair>>, AllocError>
     requires place { place < length pairs.now }
-    requires may { MayTry graphs.now pair values.now first }
+    requires may { MayTry graphs.now tried.now.pair tried.now.values.now tried.now.first }
     ensures { IfOk result (λ found. IfSome found
-        (λ fewer. IsLeftOut graphs.now pair values.now pairs.now place fewer.items)) }
+        (λ fewer. IsLeftOut graphs.now tried.now.pair tried.now.values.now pairs.now place fewer.items)) }
 {
     if pairs[place].kind != PortKind::Input {
         return Ok(None);
     }
     let fewer = removed(alloc, pairs, place)?;
-    if is_wrong(alloc, graphs, &fewer, pair, values, first)? {
+    if is_wrong(alloc, graphs, &fewer, tried)? {
         return Ok(Some(fewer));
     }
     Ok(None)
@@ -235,14 +243,17 @@ pub(crate) fn is_wrong(
     alloc: Global,
     graphs: &PairableGraphs<'_>,
     pairs: &[Pair],
-    pair: Pair,
-    values: &[Tri],
-    first: Tri,
+    tried: &Tried<'_>,
 ) -> Result<bool, AllocError>
-    requires may { MayTry graphs.now pair values.now first }
-    ensures { IfOk result (λ wrong. IsTrue wrong ↔ IsWrong graphs.now pairs.now pair values.now) }
+    requires may { MayTry graphs.now tried.now.pair tried.now.values.now tried.now.first }
+    ensures { IfOk result (λ wrong. IsTrue wrong ↔ IsWrong graphs.now pairs.now tried.now.pair tried.now.values.now) }
 {
     let second = graphs.second();
+    let Tried {
+        pair,
+        values,
+        first,
+    } = *tried;
     let sent = values_sent(alloc, pairs, second.inputs(), values)?;
     let value = tri_output(alloc, second, &sent, pair.to)?;
     Ok((value != Tri::X) & (first != value.signed(pair.flip)))

@@ -1,26 +1,27 @@
 //! Pairs that fail on a vector, whatever the ports have that aren't in a pair yet.
 
-ghost use Rattle.std.specs.Prelude.{◌≡◌, AllPairs, Contains, IfOk, IfSome, OnOk};
+ghost use Rattle.std.specs.Prelude.{◌≡◌, ◌⊎◌, All, AllPairs, Contains, IfOk, IfSome, List, OnOk};
+ghost use Rattle.circuits.specs.declared.port.Pair.{Pair as AnyPair};
+ghost use Rattle.account_core.specs.Ports.{AreOrdered};
 ghost use Rattle.circuits.specs.declared.port.PortKind.TheVariants.{Output};
 ghost use Rattle.ban_book.specs.Covering.{Covers};
 ghost use Rattle.account_core.specs.Held.{AreApart, AreHeld, IsPart};
-ghost use Rattle.fact_bans.specs.Serving.{HoldsBans, MayHold};
+ghost use Rattle.fact_bans.specs.Asking.{AreSame, HoldsBy, MayHoldBy, loans};
 ghost use Rattle.match_guess.specs.Trials.{AreTrials, IsSuspect};
 ghost use Rattle.ban_book.specs.Rows.{HasOneOutput};
 ghost use Rattle.vector_bans.specs.Differences.{AreHeldInputs, AreShown};
 
-use crate::difference::{Shown, definite, is_wrong, leave_out};
+use crate::difference::{Shown, Tried, definite, is_wrong, leave_out};
 use crate::last_resort::hold_shown;
 use account_core::PairableGraphs;
 use ban_book::BanBook;
 use ban_book::needed::add;
 use circuits::{Pair, PortKind};
 use cnf_core::Stop;
-use fact_bans::Seen;
+use fact_bans::Asker;
 use items::Items;
 use match_guess::{Suspect, Trials};
 use oracle_core::Oracle;
-use query_core::Ledger;
 use std::alloc::{AllocError, Global};
 use word_sim::tri_output;
 
@@ -33,25 +34,23 @@ use word_sim::tri_output;
 ///
 /// `Spent` where a line had to be learned and the ledger's budget was spent. `Memory` when out of memory.
 pub fn foresee<O: Oracle>(
-    alloc: Global,
     graphs: &PairableGraphs<'_>,
-    oracle: &mut O,
+    asker: &mut Asker<'_, O>,
     held: &[Pair],
     trials: &Trials,
-    seen: &mut Seen,
     book: &mut BanBook,
-    ledger: &mut Ledger,
 ) -> Result<Option<u64>, Stop>
-    requires may { MayHold graphs.now (O.known oracle.old) ledger.old book.old }
+    requires may { MayHoldBy graphs.now (loans O.known asker.old) book.old }
     requires held { AreHeld graphs.now held.now }
     requires trials { AreTrials graphs.now.first trials.now }
-    ensures holds { HoldsBans graphs.now (O.known oracle.old) (O.known oracle.new) ledger.old ledger.new book.old book.new result }
+    ensures same { AreSame (loans O.known asker.old) (loans O.known asker.new) }
+    ensures holds { HoldsBy graphs.now (loans O.known asker.old) (loans O.known asker.new) book.old book.new result }
     ensures covers { IfOk result (λ found. IfSome found (Covers book.new held.now)) }
 {
-    let Some(shown) = suspected(alloc, graphs, held, trials)? else {
+    let Some(shown) = suspected(asker.alloc, graphs, held, trials)? else {
         return Ok(None);
     };
-    let number = hold_shown(alloc, graphs, oracle, shown, seen, book, ledger)?;
+    let number = hold_shown(graphs, asker, shown, book)?;
     Ok(Some(number))
 }
 
@@ -84,12 +83,18 @@ fn wrong_pairs(
     requires suspect { IsSuspect graphs.now held.now suspect.now }
     ensures { IfOk result (λ found. IfSome found (AreShown graphs.now held.now)) }
 {
+    // the gates of a graph are in order
     let _first = graphs.first();
     let pair = suspect.pair;
     let values = definite(alloc, &suspect.vector)?;
     let pairs = inputs_and(alloc, held, pair)?;
     let first = tri_output(alloc, graphs.first(), &values, pair.from)?;
-    if !is_wrong(alloc, graphs, &pairs, pair, &values, first)? {
+    let tried = Tried {
+        pair,
+        values: &values,
+        first,
+    };
+    if !is_wrong(alloc, graphs, &pairs, &tried)? {
         return Ok(None);
     }
     let pairs = leave_out(alloc, graphs, held, pairs, pair, &values)?;
@@ -111,20 +116,19 @@ fn inputs_and(alloc: Global, held: &[Pair], pair: Pair) -> Result<Vec<Pair>, All
 {
     let mut pairs = Vec::new(alloc);
     for other in held.iter() {
-        add_input(&mut pairs, held, *other)?;
+        add_input(&mut pairs, *other)?;
     }
     pairs.push(pair)?;
     Ok(pairs)
 }
 
-// Adds a held pair to those of inputs, if it is one.
-fn add_input(pairs: &mut Vec<Pair>, held: &[Pair], pair: Pair) -> Result<(), AllocError>
-    requires inputs { AreHeldInputs held.now pairs.old.items }
-    requires apart { AllPairs AreApart held.now }
-    requires held { Contains held.now pair }
-    ensures { OnOk result (AreHeldInputs held.now pairs.new.items) }
+// Adds a pair to those of inputs, if it is one.
+fn add_input(pairs: &mut Vec<Pair>, pair: Pair) -> Result<(), AllocError>
+    requires ordered { AreOrdered pairs.old.items }
+    requires apart { All (λ other. (other ≡ pair) ⊎ AreApart other pair) pairs.old.items }
+    ensures { (held : List AnyPair) → AreHeldInputs held pairs.old.items → Contains held pair
+        → OnOk result (AreHeldInputs held pairs.new.items) }
 {
-    let _ = held;
     if pair.kind != PortKind::Input {
         return Ok(());
     }

@@ -12,27 +12,24 @@ use Rattle.class_refine.proofs.TrailLemmas.{refines_held, refines_one, refines_t
 use Rattle.class_refine.proofs.settling.delete_by.Goals as goal
 
 pub returns-in-Some : goal.returns-in-Some
-returns-in-Some c =
-    let g = c.args.grounds.now in
+returns-in-Some c = λ g shown.
     record {
-      refines = refines_held g.graphs.now (decided g) _ c.args.book.now c.hold.new.self c.args.ban c.args.domains.now c.in_ok-number.ensures.held c.requires.shown;
+      refines = refines_held g.graphs.now (decided g) _ c.args.book.now c.hold.new.self c.args.ban c.args.domains.now c.in_ok-number.ensures.held shown;
       settled = tt;
       dead = subst (λ (l : List Pair). Covers c.hold.new.self l c.in-Some.dead) c.pairs.ensures.value c.in-Some.ensures.found;
     }
 
 pub returns-in_err-delete : goal.returns-in_err-delete
-returns-in_err-delete c =
-    let g = c.args.grounds.now in
+returns-in_err-delete c = λ g shown.
     let d = c.args.domains.now in
-    let held = refines_held g.graphs.now (decided g) _ c.args.book.now c.hold.new.self c.args.ban d c.in_ok-number.ensures.held c.requires.shown in
+    let held = refines_held g.graphs.now (decided g) _ c.args.book.now c.hold.new.self c.args.ban d c.in_ok-number.ensures.held shown in
     stops g c.args.book.now c.hold.new.self d c.delete.new.self _ _ c.from_residual-in_err-delete.ensures.0 (subst (λ (after : Domained). Refines g.graphs.now (decided g) c.args.book.now c.hold.new.self d after) (sym c.in_err-delete.ensures.refused) held)
 
 pub returns : goal.returns
-returns c =
-    let g = c.args.grounds.now in
+returns c = λ g shown.
     let d = c.args.domains.now in
     let why = reason.Ban c.in_ok-number.number in
-    let held = refines_held g.graphs.now (decided g) _ c.args.book.now c.hold.new.self c.args.ban d c.in_ok-number.ensures.held c.requires.shown in
-    let covers = covers_last c.args.book.now c.hold.new.self c.args.ban (c.args.way ∷ held_in d.entries) c.in_ok-number.number c.in_ok-number.ensures.held c.in_ok-number.ensures.number c.requires.shown.within in
+    let held = refines_held g.graphs.now (decided g) _ c.args.book.now c.hold.new.self c.args.ban d c.in_ok-number.ensures.held shown in
+    let covers = covers_last c.args.book.now c.hold.new.self c.args.ban (c.args.way ∷ held_in d.entries) c.in_ok-number.number c.in_ok-number.ensures.held c.in_ok-number.ensures.number shown.within in
     let gone = refines_one g.graphs.now (decided g) c.hold.new.self d c.delete.new.self c.args.way why c.in_ok-delete.ensures.deleted c.entries-lawful.ensures.lawful c.requires.known c.requires.open covers tt in
-    settles_banned g c.args.book.now c.hold.new.self d c.delete.new.self c.args.way c.args.ban why c.in_ok-number.ensures.held c.in_ok-delete.ensures.deleted (refines_then g.graphs.now (decided g) c.args.book.now c.hold.new.self c.hold.new.self d d c.delete.new.self held gone) c.requires.shown.within (subst (HaveNoBan c.hold.new.self) c.pairs.ensures.value c.in_default.ensures.none)
+    settles_banned g c.args.book.now c.hold.new.self d c.delete.new.self c.args.way c.args.ban why c.in_ok-number.ensures.held c.in_ok-delete.ensures.deleted (refines_then g.graphs.now (decided g) c.args.book.now c.hold.new.self c.hold.new.self d d c.delete.new.self held gone) shown.within (subst (HaveNoBan c.hold.new.self) c.pairs.ensures.value c.in_default.ensures.none)

@@ -6,11 +6,10 @@ pub returns-in_default : goal.returns-in_default
 returns-in_default c =
     settles_now c.args.grounds.now c.args.book.now c.args.domains.now c.args.way c.requires.may.no_ban (inr (rw c.in_default.is at c.in_ok-exclusion.ensures.none))
 
-pub delete-requires-clause-named : goal.delete-requires-clause-named
-delete-requires-clause-named c = (rw c.in-Known.is at (rw c.in-Some.is at c.in_ok-exclusion.ensures.found)).0
+pub returns-in-Known : goal.returns-in-Known
+returns-in-Known c =
+    let why = rw c.in-Known.is at (rw c.in-Some.is at c.in_ok-exclusion.ensures.found) in
+    c.delete.ensures c.args.grounds.now c.args.book.now c.requires.may.no_ban why.0 why.1
 
-pub delete-requires-clause-shown : goal.delete-requires-clause-shown
-delete-requires-clause-shown c = (rw c.in-Known.is at (rw c.in-Some.is at c.in_ok-exclusion.ensures.found)).1
-
-pub delete_by-requires-clause-shown : goal.delete_by-requires-clause-shown
-delete_by-requires-clause-shown c = rw c.in-Shown.is at (rw c.in-Some.is at c.in_ok-exclusion.ensures.found)
+pub returns-in-Shown : goal.returns-in-Shown
+returns-in-Shown c = c.delete_by.ensures c.args.grounds.now (rw c.in-Shown.is at (rw c.in-Some.is at c.in_ok-exclusion.ensures.found))

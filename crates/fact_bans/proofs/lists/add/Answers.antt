@@ -9,7 +9,7 @@ returns-in_default-clause-lists g c = λ added. lists_skip (shaped_by c.args.wan
 
 pub returns-clause-lists : goal.returns-clause-lists
 returns-clause-lists g c =
-    let old = g.O.Oracle.known c.args.oracle.now in
-    let new = g.O.Oracle.known c.add_fact.new.oracle in
+    let old = g.O.Oracle.known c.args.asker.now.oracle.now in
+    let new = g.O.Oracle.known c.add_fact.new.asker.oracle.now in
     let lists = wanted_grow old new c.args.wanted c.args.input c.args.numbers.now c.add_fact.ensures.serves.grows c.requires.may.lists in
     one_added new c.args.wanted c.args.input c.in-Some.value c.claim_of-claim.result c.args.numbers.now c.add_fact.new.numbers c.add_fact.result (search rules) c.claim_of-claim.ensures lists c.add_fact.ensures.adds

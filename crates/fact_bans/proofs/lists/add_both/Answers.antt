@@ -7,8 +7,8 @@ returns-clause-serves g c = serves_last _ _ _ _ _ _ _ (served_one _ _ _ _ _ c.in
 
 pub returns-clause-lists : goal.returns-clause-lists
 returns-clause-lists g c =
-    let mid = g.O.Oracle.known c.add_fact.new.oracle in
-    let new = g.O.Oracle.known c.add_fact-2.new.oracle in
+    let mid = g.O.Oracle.known c.add_fact.new.asker.oracle.now in
+    let new = g.O.Oracle.known c.add_fact-2.new.asker.oracle.now in
     let wanted = c.args.wanted in
     let input = c.args.input in
     let before = c.args.numbers.now in

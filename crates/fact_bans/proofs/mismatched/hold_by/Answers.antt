@@ -4,6 +4,7 @@ use Rattle.account_core.specs.Given.{decided_by, given_of}
 use Rattle.account_core.specs.Steps.{IsValidBan}
 use Rattle.net_core.specs.Sides.{Graphs}
 use Rattle.ban_book.specs.Mismatched.{mismatch_of}
+use Rattle.fact_bans.specs.Carrying.{Carry}
 use Rattle.fact_bans.proofs.ServeLemmas.{served_one}
 use Rattle.ban_book.specs.Vectors.{IsVector}
 use Rattle.ban_book.proofs.BookLemmas.{covers_own}
@@ -28,8 +29,9 @@ returns-in_err-number-clause-holds g c =
 
 pub returns-clause-holds : goal.returns-clause-holds
 returns-clause-holds g c =
-    let facts = map decided_by (g.O.Oracle.known c.unlike_by.new.oracle).facts in
-    let by = rw c.in-Some.is at c.in_ok-unlike.ensures.shown in
+    let facts = map decided_by (g.O.Oracle.known c.unlike_by.new.asker.oracle.now).facts in
+    let carry = subst (λ (gr : Graphs). Carry gr c.args.pairs.now c.args.carried) c.requires.may.graphs_are c.requires.carry in
+    let by = rw c.in-Some.is at c.in_ok-unlike.ensures.shown c.args.pairs.now carry in
     let valid = subst (λ (gr : Graphs). IsValidBan gr (given_of facts c.args.book.now) (mismatch_of c.args.pairs.now c.in-Some.unlike)) (sym c.requires.may.graphs_are) (by.valid c.args.book.now) in
     let here = subst (λ (b : Ban). IsValidBan c.args.graphs.now (given_of facts c.args.book.now) b) (sym c.in_ok-ban.ensures) valid in
     holds_ok _ _ _ _ _ _ _ _ _ refl (held_ban _ _ _ _ _ _ _ c.in_ok-ban.ban c.requires.may.valid (served_one _ _ _ _ _ c.in_ok-unlike.ensures.serves) c.in_ok-number.ensures.held here (λ vector. absurd (subst (λ (b : Ban). IsVector b.step) c.in_ok-ban.ensures vector)))

@@ -20,13 +20,12 @@ returns-clause-serves g c =
     serves_ok _ _ _ _ _ _ refl (served_then _ _ _ _ _ _ (served_one _ _ _ _ _ c.in_ok-one.ensures.serves) (served_one _ _ _ _ _ c.in_ok-other.ensures.serves))
 
 pub returns-clause-shown : goal.returns-clause-shown
-returns-clause-shown g c =
-    let pairs = c.args.pairs.now in
+returns-clause-shown g c = λ pairs carry.
     let claim = c.args.carried.claim in
     let image = c.args.carried.image in
-    let mid = g.O.Oracle.known c.decide.new.oracle in
-    let new = g.O.Oracle.known c.decide-2.new.oracle in
-    let graphs = (g.O.Oracle.known c.args.oracle.now).graphs in
+    let mid = g.O.Oracle.known c.decide.new.asker.oracle.now in
+    let new = g.O.Oracle.known c.decide-2.new.asker.oracle.now in
+    let graphs = (g.O.Oracle.known c.args.asker.now.oracle.now).graphs in
     let told = told_grows mid new claim c.in_ok-one.one.holds c.in_ok-one.one.number c.in_ok-other.ensures.serves.grows c.in_ok-one.ensures.told in
     subst (λ (unlike : Unlike). IsBanBy graphs (map decided_by new.facts) pairs (mismatch_of pairs unlike)) (sym c.unlike_of.ensures)
-    (mismatch_valid graphs (map decided_by new.facts) pairs claim image c.in_ok-one.one.holds c.in_ok-other.other.holds c.in_ok-one.one.number c.in_ok-other.other.number c.requires.carry.known c.requires.carry.ordered c.requires.carry.image told c.in_ok-other.ensures.told (unlike c.in_ok-one.one.holds c.in_ok-other.other.holds c.if-one-other.false))
+    (mismatch_valid graphs (map decided_by new.facts) pairs claim image c.in_ok-one.one.holds c.in_ok-other.other.holds c.in_ok-one.one.number c.in_ok-other.other.number carry.known carry.ordered carry.image told c.in_ok-other.ensures.told (unlike c.in_ok-one.one.holds c.in_ok-other.other.holds c.if-one-other.false))

@@ -1,10 +1,14 @@
-use Rattle.std.proofs.Common.{◌∷◌, [], subst}
-use Rattle.net_core.specs.Sides.{Graphs}
-use Rattle.fact_bans.specs.Carrying.{Carry}
 use Rattle.fact_bans.proofs.CarryLemmas.{carry_one}
 use Rattle.fact_bans.proofs.mismatches.tell_apart.Goals as goal
 
-pub unlike_by-requires-clause-carry : goal.unlike_by-requires-clause-carry
-unlike_by-requires-clause-carry g c =
-    subst (λ (gr : Graphs). Carry gr (c.args.input ∷ c.args.output ∷ []) c.carry-carried.result) c.requires.may.graphs_are
-    (carry_one _ _ _ _ _ c.requires.input c.requires.output c.carry-carried.ensures.claim c.carry-carried.ensures.image)
+pub unlike_by-requires-clause-claim : goal.unlike_by-requires-clause-claim
+unlike_by-requires-clause-claim g c =
+    (carry_one _ _ _ _ _ c.requires.input c.requires.output c.carry-carried.ensures.claim c.carry-carried.ensures.image).claim_placed
+
+pub unlike_by-requires-clause-image : goal.unlike_by-requires-clause-image
+unlike_by-requires-clause-image g c =
+    (carry_one _ _ _ _ _ c.requires.input c.requires.output c.carry-carried.ensures.claim c.carry-carried.ensures.image).image_placed
+
+pub returns-clause-shown : goal.returns-clause-shown
+returns-clause-shown g c =
+    c.unlike_by.ensures.shown _ (carry_one _ _ _ _ _ c.requires.input c.requires.output c.carry-carried.ensures.claim c.carry-carried.ensures.image)

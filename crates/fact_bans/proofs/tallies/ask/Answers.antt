@@ -24,8 +24,8 @@ returns-clause-serves g c =
 
 pub returns-clause-lists : goal.returns-clause-lists
 returns-clause-lists g c =
-    let mid = g.O.Oracle.known c.list.new.oracle in
-    let new = g.O.Oracle.known c.list-2.new.oracle in
+    let mid = g.O.Oracle.known c.list.new.asker.oracle.now in
+    let new = g.O.Oracle.known c.list-2.new.asker.oracle.now in
     let plan = c.args.plan.now in
     let bound = c.inputs-inputs.result in
     let bound_both = c.inputs-inputs-2.result in

@@ -33,7 +33,7 @@ returns-in_err-number-clause-holds g c =
 pub returns-clause-holds : goal.returns-clause-holds
 returns-clause-holds g c =
     let graphs = c.args.graphs.now in
-    let new = g.O.Oracle.known c.ask.new.oracle in
+    let new = g.O.Oracle.known c.ask.new.asker.oracle.now in
     let lists = c.in-Some.lists in
     let are = rw c.in-Some.is at c.in_ok-lists.ensures.lists in
     let one = subst (λ (l : List ℕ). 0 < length l) c.deref.ensures.value (c.are_many.ensures.some_one c.if-not-are_many.false) in

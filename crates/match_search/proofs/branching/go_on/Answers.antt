@@ -4,8 +4,8 @@ use Rattle.pair_search.specs.Justified.{IsJustifiedTrail}
 use Rattle.match_search.proofs.StepLemmas.{steps_ok, steps_stop, way_start, way_stays}
 use Rattle.match_search.proofs.branching.go_on.Goals as goal
 
-pub next_port-requires : goal.next_port-requires
-next_port-requires g c = record { fit = c.requires.may.trail.trail.fit }
+pub compare_held-requires-clause-whole : goal.compare_held-requires-clause-whole
+compare_held-requires-clause-whole g c = (rw c.in_default.is at c.in_ok-port.ensures.none) c.args.graphs.now c.requires.may.trail.trail.fit
 
 pub returns-in_err-port-clause-steps : goal.returns-in_err-port-clause-steps
 returns-in_err-port-clause-steps g c = steps_stop c.from_residual.ensures.1 (way_start c.requires.may)

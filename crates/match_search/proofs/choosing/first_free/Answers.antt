@@ -5,4 +5,4 @@ use Rattle.match_search.proofs.choosing.first_free.Goals as goal
 pub returns-clause-none : goal.returns-clause-none
 returns-clause-none c =
     let d = c.args.domains.now in
-    whole_if c.args.graphs.now d.inputs d.outputs (held_in d.entries) c.first_of-2.result c.requires.fit c.first_of-2.ensures.none (rw c.in_default.is at c.first_of.ensures.none)
+    whole_if d.inputs d.outputs (held_in d.entries) c.first_of-2.result c.first_of-2.ensures.none (rw c.in_default.is at c.first_of.ensures.none)

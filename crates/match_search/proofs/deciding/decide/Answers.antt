@@ -23,6 +23,11 @@ returns-in-Some g c =
     let held = held_asked (held_same _ _ _ _ (may_start c.requires.may c.facts-facts.ensures.lawful)) c.in_ok-matching.ensures.serves in
     record { searches = searches_ok held.served held.valid (rw c.in-Some.is at c.in_ok-matching.ensures.shown) }
 
+pub returns-in_err-seen : goal.returns-in_err-seen
+returns-in_err-seen g c =
+    let held = held_asked (held_same _ _ _ _ (may_start c.requires.may c.facts-facts.ensures.lawful)) c.in_ok-matching.ensures.serves in
+    record { searches = searches_stop c.from_residual-in_err-seen.ensures.1 held.served held.valid }
+
 pub returns-in_err-aids : goal.returns-in_err-aids
 returns-in_err-aids g c =
     let held = held_asked (held_same _ _ _ _ (may_start c.requires.may c.facts-facts.ensures.lawful)) c.in_ok-matching.ensures.serves in

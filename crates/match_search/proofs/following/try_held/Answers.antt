@@ -16,13 +16,13 @@ foresee-requires g c =
     }
 
 pub returns-in_err-ban-clause-steps : goal.returns-in_err-ban-clause-steps
-returns-in_err-ban-clause-steps g c = steps_fail c.from_residual.ensures.1 (way_start c.requires.may) (goes_by c.in_err-ban.ensures.holds refl)
+returns-in_err-ban-clause-steps g c = steps_fail c.from_residual.ensures.1 (way_start c.requires.may) (goes_by c.in_err-ban.ensures.same c.in_err-ban.ensures.holds refl)
 
 pub returns-in-Some : goal.returns-in-Some
 returns-in-Some g c = record {
-  steps = steps_ok (way_bans (way_start c.requires.may) (goes_by c.in_ok-ban.ensures.holds refl));
+  steps = steps_ok (way_bans (way_start c.requires.may) (goes_by c.in_ok-ban.ensures.same c.in_ok-ban.ensures.holds refl));
   impasse = subst (λ (held : List Pair). Covers c.foresee.new.book held c.in-Some.ban) c.pairs.ensures.value (rw c.in-Some.is at c.in_ok-ban.ensures.covers);
 }
 
 pub returns-in-None-clause-steps : goal.returns-in-None-clause-steps
-returns-in-None-clause-steps g c = steps_ok (way_bans (way_start c.requires.may) (goes_by c.in_ok-ban.ensures.holds refl))
+returns-in-None-clause-steps g c = steps_ok (way_bans (way_start c.requires.may) (goes_by c.in_ok-ban.ensures.same c.in_ok-ban.ensures.holds refl))

@@ -1,7 +1,12 @@
-use Rattle.std.proofs.Common.{map}
+use Rattle.std.proofs.Common.{map, sym, subst}
+use Rattle.net_core.specs.Sides.{Graphs}
 use Rattle.account_core.specs.Given.{decided_by}
-use Rattle.match_search.proofs.AskLemmas.{both_known, in_order_of, shown_of}
-use Rattle.match_search.proofs.StepLemmas.{goes_asked, goes_ok, gone_none}
+use Rattle.pair_domains.specs.declared.entry.Fate.TheVariants.{Deleted}
+use Rattle.pair_domains.specs.declared.entry.Reason.TheVariants.{Mismatch}
+use Rattle.pair_search.specs.Grounded.{IsGrounded}
+use Rattle.std.specs.Prelude.{IfOk, IfSome}
+use Rattle.match_search.proofs.AskLemmas.{both_pairs, in_order_of, shown_of}
+use Rattle.match_search.proofs.StepLemmas.{goes_ok, goes_told, gone_none}
 use Rattle.match_search.proofs.unlike.unlike_beside.Goals as goal
 
 pub returns-in_default-clause-goes_on : goal.returns-in_default-clause-goes_on
@@ -9,18 +14,17 @@ returns-in_default-clause-goes_on g c = goes_ok (gone_none c.requires.may)
 
 pub tell_apart-requires : goal.tell_apart-requires
 tell_apart-requires g c =
-    let both = rw c.in-Some.is at c.input_and_output.ensures in
-    let known = both_known both c.requires.known c.requires.way in
-    record {
-      may = record { graphs_are = c.requires.may.graphs_are; suits = c.requires.may.suits };
-      input = record { kind_is = both.input; known = known.0 };
-      output = record { kind_is = both.output; known = known.1 };
-    }
+    let both = both_pairs c.requires.may.graphs_are (rw c.in-Some.is at c.input_and_output.ensures) c.requires.known c.requires.way in
+    record { suits = c.requires.may.suits; input = both.0; output = both.1 }
 
 pub returns : goal.returns
 returns g c =
     let both = rw c.in-Some.is at c.input_and_output.ensures in
+    let facts = map decided_by (g.O.Oracle.known c.tell_apart.new.asker.oracle.now).facts in
+    let known = (g.O.Oracle.known c.args.session.now.asker.oracle.now).graphs in
     record {
-      goes_on = goes_asked c.requires.may c.tell_apart.ensures.serves;
-      shown = shown_of c.args.graphs.now (map decided_by (g.O.Oracle.known c.tell_apart.new.oracle).facts) c.args.pair c.args.way _ c.tell_apart.result (in_order_of both) c.tell_apart.ensures.shown;
+      goes_on = goes_told c.requires.may c.tell_apart.ensures.same c.tell_apart.ensures.serves;
+      shown =
+          subst (λ (gr : Graphs). IfOk c.tell_apart.result (λ found. IfSome found (λ unlike. IsGrounded gr facts c.args.way (Deleted (Mismatch c.args.pair unlike.fails unlike.holds))))) (sym c.requires.may.graphs_are)
+          (shown_of known facts c.args.pair c.args.way _ c.tell_apart.result (in_order_of both) c.tell_apart.ensures.shown);
     }

@@ -20,18 +20,18 @@ is_wrong-requires c =
     record {
       may = record {
         output = second_there c.args.graphs.now c.in_ok-pairs.pairs.items c.args.suspect.now.pair known c.in_ok-pairs.ensures.output;
-        places = ap length (c.deref-3.ensures.value ∙ c.in_ok-values.ensures) ∙ (length-map c.args.suspect.now.vector of_bit ∙ c.requires.suspect.places);
+        places = ap length (c.deref-2.ensures.value ∙ c.in_ok-values.ensures) ∙ (length-map c.args.suspect.now.vector of_bit ∙ c.requires.suspect.places);
         first_is =
             c.in_ok-first.ensures
             ∙ (ap (λ (net : Net). value_at (tri_outputs net c.deref.result.now) from) c.first.ensures.value
-            ∙ ap (λ (values : List Tri). value_at (tri_outputs c.args.graphs.now.first values) from) (c.deref.ensures.value ∙ sym c.deref-3.ensures.value));
+            ∙ ap (λ (values : List Tri). value_at (tri_outputs c.args.graphs.now.first values) from) (c.deref.ensures.value ∙ sym c.deref-2.ensures.value));
       };
     }
 
 pub leave_out-requires-clause-shown : goal.leave_out-requires-clause-shown
 leave_out-requires-clause-shown c =
-    let wrong = subst (λ (l : List Pair). IsWrong c.args.graphs.now l c.args.suspect.now.pair c.deref-3.result.now) c.deref-2.ensures.value (c.in_ok-is_wrong.ensures.0 c.if-not-branch.false) in
-    shown_held c.args.graphs.now c.args.held.now c.in_ok-pairs.pairs.items c.args.suspect.now.pair c.args.suspect.now.vector c.deref-4.result.now c.requires.held c.first-first.ensures.sound c.in_ok-pairs.ensures.part c.requires.suspect.held c.in_ok-pairs.ensures.output c.requires.suspect.places (c.deref-4.ensures.value ∙ c.in_ok-values.ensures) (subst (λ (v : List Tri). IsWrong c.args.graphs.now c.in_ok-pairs.pairs.items c.args.suspect.now.pair v) (c.deref-3.ensures.value ∙ sym c.deref-4.ensures.value) wrong)
+    let wrong = subst (λ (l : List Pair). IsWrong c.args.graphs.now l c.args.suspect.now.pair c.deref-2.result.now) c.deref-3.ensures.value (c.in_ok-is_wrong.ensures.0 c.if-not-branch.false) in
+    shown_held c.args.graphs.now c.args.held.now c.in_ok-pairs.pairs.items c.args.suspect.now.pair c.args.suspect.now.vector c.deref-4.result.now c.requires.held c.first-first.ensures.sound c.in_ok-pairs.ensures.part c.requires.suspect.held c.in_ok-pairs.ensures.output c.requires.suspect.places (c.deref-4.ensures.value ∙ c.in_ok-values.ensures) (subst (λ (v : List Tri). IsWrong c.args.graphs.now c.in_ok-pairs.pairs.items c.args.suspect.now.pair v) (c.deref-2.ensures.value ∙ sym c.deref-4.ensures.value) wrong)
 
 pub returns : goal.returns
 returns c =

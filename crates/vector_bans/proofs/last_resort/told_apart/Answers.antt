@@ -5,6 +5,7 @@ use Rattle.account_core.specs.Facts.{AreFacts}
 use Rattle.account_core.specs.Given.{decided_by}
 use Rattle.ban_book.specs.Rows.{IsRow}
 use Rattle.ban_book.specs.declared.told.InputTold.{InputTold}
+use Rattle.fact_bans.proofs.AskingLemmas.{same_then}
 use Rattle.fact_bans.proofs.ServeLemmas.{ask_later, served_one, served_then, serves_err, serves_memory, serves_ok}
 use Rattle.vector_bans.proofs.ResortLemmas.{both_rows, first_there, nothing_by_rows, second_there, shown_by_rows}
 use Rattle.vector_bans.proofs.last_resort.told_apart.Goals as goal
@@ -34,8 +35,8 @@ returns-in_err-ban_by_facts-clause-serves g c =
 
 pub returns : goal.returns
 returns g c =
-    let mid = g.O.Oracle.known c.claims_of.new.oracle in
-    let new = g.O.Oracle.known c.claims_of-2.new.oracle in
+    let mid = g.O.Oracle.known c.claims_of.new.asker.oracle.now in
+    let new = g.O.Oracle.known c.claims_of-2.new.asker.oracle.now in
     let one = subst (λ (row : List InputTold). IsRow (map decided_by mid.facts) First c.args.pair.from row) (sym c.deref.ensures.value) c.in_ok-first.ensures.row in
     let other = subst (λ (row : List InputTold). IsRow (map decided_by new.facts) Second c.args.pair.to row) (sym c.deref-2.ensures.value) c.in_ok-second.ensures.row in
     let rows = both_rows mid new c.args.pair c.deref.result.now c.deref-2.result.now c.in_ok-second.ensures.serves.grows one other in
@@ -44,6 +45,7 @@ returns g c =
     let graphs_are = c.requires.may.graphs_are ∙ (sym c.in_ok-first.ensures.serves.grows.graphs ∙ sym c.in_ok-second.ensures.serves.grows.graphs) in
     let lawful = subst (λ (gr : Graphs). AreFacts gr new.facts) (sym graphs_are) c.in_ok-second.ensures.serves.grows.lawful in
     record {
+      same = same_then c.in_ok-first.ensures.same c.in_ok-second.ensures.same;
       serves = serves_ok _ _ _ _ _ _ refl (served_then _ _ _ _ _ _ (served_one _ _ _ _ _ c.in_ok-first.ensures.serves) (served_one _ _ _ _ _ c.in_ok-second.ensures.serves));
       shown = shown_by_rows c.args.graphs.now (map decided_by new.facts) c.args.pairs.now c.args.pair c.deref.result.now c.deref-2.result.now c.in_ok-ban_by_facts.field-0 rows c.in_ok-ban_by_facts.ensures.shown;
       none = nothing_by_rows c.args.graphs.now new c.args.pairs.now c.args.pair c.deref.result.now c.deref-2.result.now c.in_ok-ban_by_facts.field-0 lawful first second rows c.in_ok-ban_by_facts.ensures.none;
