@@ -64,7 +64,7 @@ fn run_rounds<O: Oracle>(
         if session.aids.guide.is_full() {
             return Ok(None);
         }
-        start_over(&mut trail.domains, &mut trail.queue, session.book.bans());
+        start_over(&mut trail.domains, &mut trail.queue);
         session.aids.guide.begin_round(trail.domains.pairs().len());
     }
     Ok(None)
@@ -183,7 +183,7 @@ fn go_on<O: Oracle>(
         return compare_held(graphs, session, domains);
     };
     session.aids.guide.decide(port);
-    match branch(domains, session.book.bans(), port)? {
+    match branch(domains, port)? {
         None => Ok(Ahead::Deeper),
         Some(impasse) => Ok(Ahead::Impasse(impasse)),
     }

@@ -1,8 +1,11 @@
 //! Going back from conflicts.
 
-ghost use Rattle.std.specs.Prelude.{◌≡◌, ◌<◌, IfNone, IfOk, IfSome, OnOk};
+ghost use Rattle.std.specs.Prelude.{◌≡◌, ◌<◌, ◌∷◌, IfNone, IfOk, IfSome, List, OnOk, take};
+ghost use Rattle.account_core.specs.declared.step.Ban.{Ban as AnyBan};
 ghost use Rattle.account_core.specs.Shown.{IsEmptyBan};
-ghost use Rattle.pair_search.specs.Conflicts.{IsBack, IsLearned};
+ghost use Rattle.ban_book.specs.Covering.{Covers};
+ghost use Rattle.pair_domains.specs.Trails.{IsOpen, IsPairOf, held_in};
+ghost use Rattle.pair_search.specs.Conflicts.{IsChoiceAt, IsLearned};
 ghost use Rattle.pair_search.specs.Grounded.{LearnsMore, StayGrounded};
 ghost use Rattle.pair_search.specs.Justified.{IsJustifiedTrail};
 ghost use Rattle.pair_search.specs.Impasses.{IsImpasse};
@@ -11,7 +14,7 @@ ghost use Rattle.pair_search.specs.Progress.{IsTrail, StaysJustified, left, leve
 use crate::impasse::{Impasse, conflict_of};
 use crate::queue::Queue;
 use crate::{Back, LearnedBan, Mismatches, choice_between, resolve};
-use account_core::{Ban, PairableGraphs};
+use account_core::PairableGraphs;
 use ban_book::BanBook;
 use pair_domains::{Domains, Reason};
 use std::alloc::{AllocError, Global};
@@ -39,7 +42,7 @@ pub fn turn_back(
         LearnedBan::Refusal(ban) => Ok(Some(ban)),
         LearnedBan::Back(back) => {
             queue.add_learned(domains, book.bans(), back.ban)?;
-            go_back(domains, queue, book.bans(), back)?;
+            go_back(domains, queue, back)?;
             Ok(None)
         }
     }
@@ -47,12 +50,12 @@ pub fn turn_back(
 
 /// Starts over: what was held and deleted before the first choice stays, and all other pairs are open again. The bans stay, so
 /// that what was learned isn't lost.
-pub fn start_over(domains: &mut Domains, queue: &mut Queue, bans: &[Ban])
-    requires justified { IsJustifiedTrail bans.now domains.old }
+pub fn start_over(domains: &mut Domains, queue: &mut Queue)
     ensures entries { domains.new.entries ≡ level_zero domains.old.entries }
-    ensures stays { StaysJustified bans.now domains.old domains.new }
+    ensures stays { (bans : List AnyBan)
+        → IsJustifiedTrail bans domains.old
+        → StaysJustified bans domains.old domains.new }
 {
-    let _ = bans;
     let entries = domains.entries();
     if let Some(place) = choice_between(entries, 0, entries.len()) {
         domains.back_to(place);
@@ -81,18 +84,17 @@ fn learn(
 }
 
 // Goes back before a choice, and deletes there the pair that a ban has beside held ones.
-fn go_back(
-    domains: &mut Domains,
-    queue: &mut Queue,
-    bans: &[Ban],
-    back: Back,
-) -> Result<(), AllocError>
-    requires justified { IsJustifiedTrail bans.now domains.old }
-    requires back { IsBack bans.now domains.old back }
-    ensures stays { OnOk result (StaysJustified bans.now domains.old domains.new) }
+fn go_back(domains: &mut Domains, queue: &mut Queue, back: Back) -> Result<(), AllocError>
+    requires choice { IsChoiceAt domains.old.entries back.place }
+    requires known { IsPairOf domains.old.inputs domains.old.outputs back.pair }
+    requires open { IsOpen (take back.place domains.old.entries) back.pair }
+    ensures stays { (bans : List AnyBan)
+        → IsJustifiedTrail bans domains.old
+        → Covers bans (back.pair ∷ held_in (take back.place domains.old.entries)) back.ban
+        → OnOk result (StaysJustified bans domains.old domains.new) }
     ensures less { OnOk result (left domains.new < left domains.old) }
 {
-    let _ = bans;
+    // no pair has two entries
     let _lawful = domains.entries();
     domains.back_to(back.place);
     queue.head = queue.head.min(back.place);

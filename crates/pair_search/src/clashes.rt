@@ -1,7 +1,6 @@
 //! Pairs that share a port with a held one.
 
-ghost use Rattle.std.specs.Prelude.{◌≡◌, Contains, OnOk};
-ghost use Rattle.account_core.specs.Tallies.{port_on};
+ghost use Rattle.std.specs.Prelude.{◌≡◌, ◌⊎◌, Contains, OnOk};
 ghost use Rattle.pair_domains.specs.Trails.{IsPairOf, held_in};
 ghost use Rattle.pair_search.specs.Justified.{IsJustifiedTrail};
 ghost use Rattle.pair_search.specs.Progress.{Propagates};
@@ -34,28 +33,23 @@ pub(crate) fn delete_ways(
     };
     for number in 0..2 * count as u64 {
         let way = way_of(domains, port, number);
-        delete_way(domains, bans, pair, side, way)?;
+        delete_way(domains, bans, pair, way)?;
     }
     Ok(())
 }
 
 // Deletes a way that shares its port of a circuit with a held pair, if it is open.
-fn delete_way(
-    domains: &mut Domains,
-    bans: &[Ban],
-    pair: Pair,
-    side: Side,
-    way: Pair,
-) -> Result<(), AllocError>
+fn delete_way(domains: &mut Domains, bans: &[Ban], pair: Pair, way: Pair) -> Result<(), AllocError>
     requires justified { IsJustifiedTrail bans.now domains.old }
     requires known { IsPairOf domains.old.inputs domains.old.outputs way }
     requires held { Contains (held_in domains.old.entries) pair }
     requires kind { pair.kind ≡ way.kind }
-    requires share { port_on side pair ≡ port_on side way }
+    requires share { (pair.from ≡ way.from) ⊎ (pair.to ≡ way.to) }
     ensures { OnOk result (Propagates bans.now domains.old domains.new) }
 {
+    // in view of the bans the trail is justified, before and after
     let _ = bans;
-    let _ = side;
+    // no pair has two entries
     let _lawful = domains.entries();
     if let Some(_) = domains.place(way) {
         return Ok(());

@@ -13,13 +13,13 @@ ghost use Rattle.pair_search.specs.Resolutions.{LeadsIntoBan, left_out};
 use crate::gather::gather;
 use crate::mismatch::Mismatches;
 use crate::port::{Port, Resolved};
-use crate::refer::refer;
-use account_core::{Ban, PairableGraphs};
+use crate::refer::{NotedWays, refer};
+use crate::view::TrailView;
+use account_core::Ban;
 use ban_book::BanBook;
 use ban_book::block::{Block, block_of, ways_in};
 use ban_book::cover::{add_one, hold_cover};
 use circuits::Pair;
-use pair_domains::Domains;
 use std::alloc::{AllocError, Global};
 
 /// Held pairs, in the order that bans have, and the number of a ban that has no other pairs.
@@ -32,70 +32,57 @@ pub struct Conflict {
 /// Adds to pairs those that a port's ways need to be excluded, holds the ban that says so, and answers both. Each way of
 /// the port was deleted for a reason that names held pairs alone; or it is the one that is resolved on, which leads into
 /// a ban beside the given pairs.
-pub fn cover_port(
-    alloc: Global,
-    graphs: &PairableGraphs<'_>,
-    domains: &Domains,
-    held: &[Pair],
+pub(crate) fn cover_port(
+    view: &TrailView<'_>,
     port: Port,
     resolved: Option<Resolved>,
     pairs: Vec<Pair>,
     made: &mut Mismatches,
     book: &mut BanBook,
 ) -> Result<Conflict, AllocError>
-    requires fit { FitPorts graphs.now domains.now.inputs domains.now.outputs }
-    requires there { IsPortOf domains.now port }
-    requires held { AreHeld graphs.now held.now }
-    requires named { AreWaysNamed book.old domains.now port (left_out resolved) held.now }
-    requires part { IsPart held.now pairs.items }
+    requires fit { FitPorts view.now.graphs.now view.now.domains.now.inputs view.now.domains.now.outputs }
+    requires there { IsPortOf view.now.domains.now port }
+    requires held { AreHeld view.now.graphs.now view.now.held.now }
+    requires named { AreWaysNamed book.old view.now.domains.now port (left_out resolved) view.now.held.now }
+    requires part { IsPart view.now.held.now pairs.items }
     requires resolved { LeadsIntoBan book.old pairs.items resolved }
-    ensures more { LearnsMore graphs.now domains.now.entries book.old book.new }
-    ensures conflict { IfOk result (IsConflict book.new held.now) }
+    ensures more { LearnsMore view.now.graphs.now view.now.domains.now.entries book.old book.new }
+    ensures conflict { IfOk result (IsConflict book.new view.now.held.now) }
 {
-    let count = domains.ports(port.kind);
-    let block = block_of(alloc, port.side, port.kind, port.number, count)?;
-    cover_block(
-        alloc, graphs, domains, held, block, resolved, pairs, made, book,
-    )
+    let count = view.domains.ports(port.kind);
+    let block = block_of(view.alloc, port.side, port.kind, port.number, count)?;
+    cover_block(view, block, resolved, pairs, made, book)
 }
 
 /// Does so for a block: ports of both circuits that are more than either has.
-pub fn cover_block(
-    alloc: Global,
-    graphs: &PairableGraphs<'_>,
-    domains: &Domains,
-    held: &[Pair],
+pub(crate) fn cover_block(
+    view: &TrailView<'_>,
     block: Block,
     resolved: Option<Resolved>,
     pairs: Vec<Pair>,
     made: &mut Mismatches,
     book: &mut BanBook,
 ) -> Result<Conflict, AllocError>
-    requires fit { FitPorts graphs.now domains.now.inputs domains.now.outputs }
-    requires block { IsBlock (ports_of domains.now.inputs domains.now.outputs block.kind) block }
-    requires held { AreHeld graphs.now held.now }
-    requires named { AreAllNamed book.old domains.now.entries (ways_in block) (left_out resolved) held.now }
-    requires part { IsPart held.now pairs.items }
+    requires fit { FitPorts view.now.graphs.now view.now.domains.now.inputs view.now.domains.now.outputs }
+    requires block { IsBlock (ports_of view.now.domains.now.inputs view.now.domains.now.outputs block.kind) block }
+    requires held { AreHeld view.now.graphs.now view.now.held.now }
+    requires named { AreAllNamed book.old view.now.domains.now.entries (ways_in block) (left_out resolved)
+        view.now.held.now }
+    requires part { IsPart view.now.held.now pairs.items }
     requires resolved { LeadsIntoBan book.old pairs.items resolved }
-    ensures more { LearnsMore graphs.now domains.now.entries book.old book.new }
-    ensures conflict { IfOk result (IsConflict book.new held.now) }
+    ensures more { LearnsMore view.now.graphs.now view.now.domains.now.entries book.old book.new }
+    ensures conflict { IfOk result (IsConflict book.new view.now.held.now) }
 {
-    let ways = ways_in(alloc, &block)?;
+    let ways = ways_in(view.alloc, &block)?;
     let mut pairs = pairs;
-    let noted = gather(
-        alloc,
-        domains,
-        held,
-        book.bans(),
-        &ways,
-        way_of(resolved),
-        made,
-        &mut pairs,
-    )?;
-    let refs = refer(
-        alloc, graphs, domains, &ways, &noted, &pairs, resolved, made, book,
-    )?;
-    let ban = hold_cover(alloc, graphs, &pairs, block, refs, book)?;
+    let skipped = way_of(resolved);
+    let bans = gather(view, book.bans(), &ways, skipped, made, &mut pairs)?;
+    let noted = NotedWays {
+        ways: &ways,
+        bans: &bans,
+    };
+    let refs = refer(view, &noted, &pairs, resolved, made, book)?;
+    let ban = hold_cover(view.alloc, view.graphs, &pairs, block, refs, book)?;
     Ok(Conflict { pairs, ban })
 }
 

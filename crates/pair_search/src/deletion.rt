@@ -2,6 +2,8 @@
 
 ghost use Rattle.std.specs.Prelude.{◌≡◌, Contains, IfNone, IfOk, IfSome, List};
 ghost use Rattle.circuits.specs.declared.port.Pair.{Pair as AnyPair};
+ghost use Rattle.net_core.specs.Sides.{Graphs as AnyGraphs};
+ghost use Rattle.pair_domains.specs.declared.entry.Entry.{Entry as AnyEntry};
 ghost use Rattle.pair_domains.specs.Trails.{IsDeleted, IsPairOf};
 ghost use Rattle.pair_search.specs.Deletions.{IsDeletion, IsExcluded};
 ghost use Rattle.pair_search.specs.Grounded.{LearnsMore};
@@ -10,7 +12,7 @@ ghost use Rattle.pair_search.specs.Named.{AreNamed, deleted};
 
 use crate::mismatch::{Mismatches, hold_mismatch};
 use account_core::PairableGraphs;
-use ban_book::BanBook;
+use ban_book::{BanBook, Unlike};
 use circuits::Pair;
 use pair_domains::{Domains, Reason};
 use std::alloc::{AllocError, Global};
@@ -48,33 +50,31 @@ pub fn deletion_of(
     let Some(reason) = domains.reason(pair) else {
         return Ok(None);
     };
-    let deletion = deletion_by(alloc, graphs, domains, pair, reason, made, book)?;
+    let deletion = deletion_by(alloc, pair, reason, made, book)?;
     Ok(Some(deletion))
 }
 
 /// What excludes a pair that was deleted for a reason, beside the pairs that the reason names.
 pub(crate) fn deletion_by(
     alloc: Global,
-    graphs: &PairableGraphs<'_>,
-    domains: &Domains,
     pair: Pair,
     reason: Reason,
     made: &mut Mismatches,
     book: &mut BanBook,
 ) -> Result<Deletion, AllocError>
-    requires deleted { Contains domains.now.entries (deleted pair reason) }
-    ensures more { LearnsMore graphs.now domains.now.entries book.old book.new }
+    ensures more { (graphs : AnyGraphs) (entries : List AnyEntry)
+        → Contains entries (deleted pair reason)
+        → LearnsMore graphs entries book.old book.new }
     ensures excluded { IfOk result (λ deletion. (pairs : List AnyPair)
         → AreNamed book.old pairs pair reason
         → IsExcluded book.new pairs pair deletion) }
 {
-    let _ = graphs;
-    let _ = domains;
     match reason {
         Reason::Clash(with) => Ok(Deletion::Clash(with)),
         Reason::Ban(number) => Ok(Deletion::Ban(number)),
         Reason::Mismatch { with, fails, holds } => {
-            let number = hold_mismatch(alloc, pair, with, fails, holds, made, book)?;
+            let unlike = Unlike { fails, holds };
+            let number = hold_mismatch(alloc, pair, with, unlike, made, book)?;
             Ok(Deletion::Ban(number))
         }
     }

@@ -7,38 +7,37 @@ ghost use Rattle.pair_domains.specs.Trails.{IsPairOf};
 ghost use Rattle.pair_search.specs.Named.{AreAllGathered, AreAllNamed, AreNamed, IsGathered, IsLeftOutOr, IsNamedIn};
 
 use crate::mismatch::{Mismatches, made_beside};
+use crate::view::TrailView;
 use account_core::Ban;
 use ban_book::clash::clashing;
 use ban_book::cover::{add_one, add_others};
 use circuits::Pair;
-use pair_domains::{Domains, Reason};
-use std::alloc::{AllocError, Global};
+use pair_domains::Reason;
+use std::alloc::AllocError;
 
 /// Adds held pairs to those of a conflict, until all of some ways but one that is left out are impossible beside them, or
 /// were deleted for a reason that names none but them. The pairs come from those that are held, and each way was deleted
 /// for a reason that names held pairs alone. A way that is impossible beside the conflict's pairs needs none, nor does one
 /// that a ban of a mismatch excludes beside one of them: for each such way that ban's number is answered.
 pub(crate) fn gather(
-    alloc: Global,
-    domains: &Domains,
-    held: &[Pair],
+    view: &TrailView<'_>,
     bans: &[Ban],
     ways: &[Pair],
     skipped: Option<Pair>,
     made: &Mismatches,
     conflict: &mut Vec<Pair>,
 ) -> Result<Vec<Option<u64>>, AllocError>
-    requires known { All (IsPairOf domains.now.inputs domains.now.outputs) ways.now }
-    requires apart { AllPairs AreApart held.now }
-    requires named { AreAllNamed bans.now domains.now.entries ways.now skipped held.now }
-    requires part { IsPart held.now conflict.old.items }
-    ensures adds { OnOk result (AddsHeld held.now conflict.old.items conflict.new.items) }
+    requires known { All (IsPairOf view.now.domains.now.inputs view.now.domains.now.outputs) ways.now }
+    requires apart { AllPairs AreApart view.now.held.now }
+    requires named { AreAllNamed bans.now view.now.domains.now.entries ways.now skipped view.now.held.now }
+    requires part { IsPart view.now.held.now conflict.old.items }
+    ensures adds { OnOk result (AddsHeld view.now.held.now conflict.old.items conflict.new.items) }
     ensures gathered { IfOk result (λ noted.
-        AreAllGathered bans.now domains.now.entries ways.now skipped conflict.new.items noted.items) }
+        AreAllGathered bans.now view.now.domains.now.entries ways.now skipped conflict.new.items noted.items) }
 {
-    let mut noted = Vec::new(alloc);
+    let mut noted = Vec::new(view.alloc);
     for way in ways.iter() {
-        let number = gather_way(domains, held, bans, *way, skipped, made, conflict)?;
+        let number = gather_way(view, bans, *way, skipped, made, conflict)?;
         noted.push(number)?;
     }
     Ok(noted)
@@ -46,21 +45,20 @@ pub(crate) fn gather(
 
 // Adds the pairs that one way needs, if it isn't left out. Answers the number of a ban by which it needs none.
 fn gather_way(
-    domains: &Domains,
-    held: &[Pair],
+    view: &TrailView<'_>,
     bans: &[Ban],
     way: Pair,
     skipped: Option<Pair>,
     made: &Mismatches,
     conflict: &mut Vec<Pair>,
 ) -> Result<Option<u64>, AllocError>
-    requires known { IsPairOf domains.now.inputs domains.now.outputs way }
-    requires apart { AllPairs AreApart held.now }
-    requires named { IsLeftOutOr skipped way (IsNamedIn bans.now domains.now.entries held.now way) }
-    requires part { IsPart held.now conflict.old.items }
-    ensures adds { OnOk result (AddsHeld held.now conflict.old.items conflict.new.items) }
+    requires known { IsPairOf view.now.domains.now.inputs view.now.domains.now.outputs way }
+    requires apart { AllPairs AreApart view.now.held.now }
+    requires named { IsLeftOutOr skipped way (IsNamedIn bans.now view.now.domains.now.entries view.now.held.now way) }
+    requires part { IsPart view.now.held.now conflict.old.items }
+    ensures adds { OnOk result (AddsHeld view.now.held.now conflict.old.items conflict.new.items) }
     ensures gathered { IfOk result (λ number.
-        IsLeftOutOr skipped way (IsGathered bans.now domains.now.entries conflict.new.items way number)) }
+        IsLeftOutOr skipped way (IsGathered bans.now view.now.domains.now.entries conflict.new.items way number)) }
 {
     if is_left_out(skipped, way) {
         return Ok(None);
@@ -71,11 +69,12 @@ fn gather_way(
     if let Some(number) = made_beside(made, bans, way, conflict) {
         return Ok(Some(number));
     }
-    let _lawful = domains.entries();
-    let Some(reason) = domains.reason(way) else {
+    // no pair has two entries
+    let _lawful = view.domains.entries();
+    let Some(reason) = view.domains.reason(way) else {
         unreachable!()
     };
-    add_named(held, bans, way, reason, conflict)?;
+    add_named(view.held, bans, way, reason, conflict)?;
     Ok(None)
 }
 

@@ -7,7 +7,9 @@ ghost use Rattle.pair_search.specs.Grounded.{LearnsMore};
 ghost use Rattle.pair_search.specs.Justified.{IsTrail};
 ghost use Rattle.pair_search.specs.Impasses.{IsImpasse};
 
-use crate::{Conflict, Mismatches, Port, conflict_of_ban, cover_block, cover_port};
+use crate::conflict::{cover_block, cover_port};
+use crate::view::TrailView;
+use crate::{Conflict, Mismatches, Port, conflict_of_ban};
 use account_core::PairableGraphs;
 use ban_book::BanBook;
 use ban_book::block::Block;
@@ -53,16 +55,19 @@ pub fn conflict_of(
     ensures more { LearnsMore graphs.now domains.now.entries book.old book.new }
     ensures conflict { IfOk result (IsConflict book.new (held_in domains.now.entries)) }
 {
+    // the held pairs are of ports that exist, and share none
     let _lawful = domains.entries();
     let held = domains.pairs();
+    let view = TrailView {
+        alloc,
+        graphs,
+        domains,
+        held,
+    };
     let none = Vec::new(alloc);
     match impasse {
         Impasse::Ban(number) => conflict_of_ban(alloc, held, book.bans(), number),
-        Impasse::Port(port) => {
-            cover_port(alloc, graphs, domains, held, port, None, none, made, book)
-        }
-        Impasse::Block(block) => cover_block(
-            alloc, graphs, domains, held, block, None, none, made, book,
-        ),
+        Impasse::Port(port) => cover_port(&view, port, None, none, made, book),
+        Impasse::Block(block) => cover_block(&view, block, None, none, made, book),
     }
 }

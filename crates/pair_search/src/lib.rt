@@ -18,9 +18,10 @@ mod queue;
 mod refer;
 mod resolution;
 mod units;
+mod view;
 
 pub use back::{start_over, turn_back};
-pub use conflict::{Conflict, conflict_of_ban, cover_block, cover_port};
+pub use conflict::{Conflict, conflict_of_ban};
 pub use deletion::{Deletion, deletion_of};
 pub use impasse::{Impasse, conflict_of};
 pub use learned::{Back, LearnedBan};

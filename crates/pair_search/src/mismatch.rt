@@ -5,7 +5,7 @@ ghost use Rattle.ban_book.specs.Covering.{Covers};
 ghost use Rattle.pair_search.specs.Grounded.{MayAdd, in_order, mismatch_ban};
 
 use account_core::{Ban, Step};
-use ban_book::BanBook;
+use ban_book::{BanBook, Unlike};
 use circuits::{Pair, PortKind};
 use indexmap::IndexMap;
 use items::Few;
@@ -41,18 +41,17 @@ pub(crate) fn hold_mismatch(
     alloc: Global,
     way: Pair,
     with: Pair,
-    fails: u64,
-    holds: u64,
+    unlike: Unlike,
     made: &mut Mismatches,
     book: &mut BanBook,
 ) -> Result<u64, AllocError>
-    ensures adds { MayAdd book.old (mismatch_ban way with fails holds) book.new }
+    ensures adds { MayAdd book.old (mismatch_ban way with unlike.fails unlike.holds) book.new }
     ensures covers { IfOk result (Covers book.new (way ∷ with ∷ [])) }
 {
     if let Some(number) = made_before(made, book.bans(), way, with) {
         return Ok(number);
     }
-    let ban = ban_of(alloc, way, with, fails, holds)?;
+    let ban = ban_of(alloc, way, with, unlike)?;
     let number = book.hold(ban)?;
     made.keep(way, with, number)?;
     Ok(number)
@@ -112,9 +111,10 @@ fn is_of(pair: Pair, one: Pair, other: Pair) -> bool
 }
 
 // The ban of a deleted pair and a held one by two facts.
-fn ban_of(alloc: Global, way: Pair, with: Pair, fails: u64, holds: u64) -> Result<Ban, AllocError>
-    ensures { IfOk result (λ ban. ban ≡ mismatch_ban way with fails holds) }
+fn ban_of(alloc: Global, way: Pair, with: Pair, unlike: Unlike) -> Result<Ban, AllocError>
+    ensures { IfOk result (λ ban. ban ≡ mismatch_ban way with unlike.fails unlike.holds) }
 {
+    let Unlike { fails, holds } = unlike;
     let pairs = in_order(alloc, way, with)?;
     Ok(Ban {
         pairs,

@@ -1,6 +1,7 @@
 //! The ways that a port has left.
 
-ghost use Rattle.std.specs.Prelude.{◌≡◌, ◌<◌, ◌≤◌, ◌*◌, ◌^◌, ℕ, ◌⊎◌, Contains, IfNone, IfOk, IfSome, IsTrue, OnOk, false};
+ghost use Rattle.std.specs.Prelude.{◌≡◌, ◌<◌, ◌≤◌, ◌*◌, ◌^◌, ℕ, ◌⊎◌, Contains, IfNone, IfOk, IfSome, IsTrue, List, OnOk, false};
+ghost use Rattle.account_core.specs.declared.step.Ban.{Ban as AnyBan};
 ghost use Rattle.net_core.specs.declared.graphs.Side.TheVariants.{First, Second};
 ghost use Rattle.ban_book.specs.Ways.{nth_way};
 ghost use Rattle.account_core.specs.Tallies.{port_on};
@@ -30,7 +31,9 @@ pub(crate) fn apply_port(
     ensures propagates { OnOk result (Propagates bans.now domains.old domains.new) }
     ensures none { IfOk result (λ none. IsTrue none → HasNoWay domains.new port) }
 {
+    // in view of the bans the trail is justified, before and after
     let _ = bans;
+    // no pair has two entries, and ports are fewer than 2^32
     let _lawful = domains.entries();
     let _count = domains.ports(port.kind);
     let Some(number) = remaining(domains, port, 0) else {
@@ -48,20 +51,18 @@ pub(crate) fn apply_port(
 
 /// Decides a port of which no pair is held: holds the first of its ways that isn't deleted; or deletes it, if it shares
 /// its other port with a held pair. It answers an impasse where all are deleted.
-pub fn branch(
-    domains: &mut Domains,
-    bans: &[Ban],
-    port: Port,
-) -> Result<Option<Impasse>, AllocError>
+pub fn branch(domains: &mut Domains, port: Port) -> Result<Option<Impasse>, AllocError>
     requires there { IsPortOf domains.old port }
     requires free { IsFreePort domains.old.entries port.side port.kind port.number }
-    requires justified { IsJustifiedTrail bans.now domains.old }
-    ensures stays { OnOk result (StaysJustified bans.now domains.old domains.new) }
+    ensures stays { (bans : List AnyBan)
+        → IsJustifiedTrail bans domains.old
+        → OnOk result (StaysJustified bans domains.old domains.new) }
     ensures less { IfOk result (λ found. IfNone found (left domains.new < left domains.old)) }
     ensures stuck { IfOk result (λ found. IfSome found (λ impasse. domains.new ≡ domains.old)) }
-    ensures impasse { IfOk result (λ found. IfSome found (IsImpasse bans.now domains.new)) }
+    ensures impasse { IfOk result (λ found. IfSome found (λ impasse.
+        (bans : List AnyBan) → IsImpasse bans domains.new impasse)) }
 {
-    let _ = bans;
+    // no pair has two entries
     let _lawful = domains.entries();
     // No way is preferred to the first one: what tells ways apart was tried by guesses before, and where there is no match each way
     // has to be excluded, in any order. No other order was measured.
@@ -90,6 +91,7 @@ pub fn way_of(domains: &Domains, port: Port, number: u64) -> Pair
     ensures kind { result.kind ≡ port.kind }
     ensures port { port_on port.side result ≡ port.number }
 {
+    // ports are fewer than 2^32
     let _count = domains.ports(port.kind);
     nth_way(port.side, port.kind, port.number, number)
 }

@@ -13,39 +13,49 @@ use crate::deletion::{Deletion, deletion_by};
 use crate::gather::is_impossible;
 use crate::mismatch::Mismatches;
 use crate::port::Resolved;
-use account_core::PairableGraphs;
+use crate::view::TrailView;
 use ban_book::BanBook;
 use circuits::Pair;
 use items::Items;
-use pair_domains::Domains;
-use std::alloc::{AllocError, Global};
+use std::alloc::AllocError;
+
+/// Ways, and for each the number of a ban that was noted for it.
+#[derive(Clone, Copy)]
+pub(crate) struct NotedWays<'a> {
+    pub(crate) ways: &'a [Pair],
+    pub(crate) bans: &'a [Option<u64>],
+}
+
+/// One of them.
+#[derive(Clone, Copy)]
+pub(crate) struct NotedWay {
+    pub(crate) way: Pair,
+    pub(crate) ban: Option<u64>,
+}
 
 /// The references of some ways in a cover whose ban has a conflict's pairs. Each way is impossible beside them, or was
 /// deleted for a reason that names none but them, or was held and leads into a ban of them and it; or the ban that is noted for
 /// it leads there. The bans of ways that were deleted by mismatches are held now, if they weren't.
 pub(crate) fn refer(
-    alloc: Global,
-    graphs: &PairableGraphs<'_>,
-    domains: &Domains,
-    ways: &[Pair],
-    noted: &[Option<u64>],
+    view: &TrailView<'_>,
+    noted: &NotedWays<'_>,
     conflict: &[Pair],
     resolved: Option<Resolved>,
     made: &mut Mismatches,
     book: &mut BanBook,
 ) -> Result<Items<Option<u64>>, AllocError>
-    requires known { All (IsPairOf domains.now.inputs domains.now.outputs) ways.now }
+    requires known { All (IsPairOf view.now.domains.now.inputs view.now.domains.now.outputs) noted.now.ways.now }
     requires resolved { LeadsIntoBan book.old conflict.now resolved }
-    requires gathered { AreAllGathered book.old domains.now.entries ways.now (left_out resolved) conflict.now noted.now }
-    ensures more { LearnsMore graphs.now domains.now.entries book.old book.new }
-    ensures closed { IfOk result (AreClosed book.new conflict.now ways.now) }
+    requires gathered { AreAllGathered book.old view.now.domains.now.entries noted.now.ways.now (left_out resolved)
+        conflict.now noted.now.bans.now }
+    ensures more { LearnsMore view.now.graphs.now view.now.domains.now.entries book.old book.new }
+    ensures closed { IfOk result (AreClosed book.new conflict.now noted.now.ways.now) }
 {
-    let mut refs = Items::new(alloc);
-    for (place, way) in ways.iter().enumerate() {
-        let number = noted[place];
-        let reference = reference(
-            alloc, graphs, domains, *way, number, conflict, resolved, made, book,
-        )?;
+    let mut refs = Items::new(view.alloc);
+    for (place, way) in noted.ways.iter().enumerate() {
+        let ban = noted.bans[place];
+        let one = NotedWay { way: *way, ban };
+        let reference = reference(view, one, conflict, resolved, made, book)?;
         refs.push(reference)?;
     }
     Ok(refs)
@@ -53,33 +63,31 @@ pub(crate) fn refer(
 
 // What stands for a way.
 fn reference(
-    alloc: Global,
-    graphs: &PairableGraphs<'_>,
-    domains: &Domains,
-    way: Pair,
-    noted: Option<u64>,
+    view: &TrailView<'_>,
+    noted: NotedWay,
     conflict: &[Pair],
     resolved: Option<Resolved>,
     made: &mut Mismatches,
     book: &mut BanBook,
 ) -> Result<Option<u64>, AllocError>
-    requires known { IsPairOf domains.now.inputs domains.now.outputs way }
+    requires known { IsPairOf view.now.domains.now.inputs view.now.domains.now.outputs noted.way }
     requires resolved { LeadsIntoBan book.old conflict.now resolved }
-    requires gathered { IsLeftOutOr (left_out resolved) way
-        (IsGathered book.old domains.now.entries conflict.now way noted) }
-    ensures more { LearnsMore graphs.now domains.now.entries book.old book.new }
-    ensures closed { IfOk result (IsClosed book.new conflict.now way) }
+    requires gathered { IsLeftOutOr (left_out resolved) noted.way
+        (IsGathered book.old view.now.domains.now.entries conflict.now noted.way noted.ban) }
+    ensures more { LearnsMore view.now.graphs.now view.now.domains.now.entries book.old book.new }
+    ensures closed { IfOk result (IsClosed book.new conflict.now noted.way) }
 {
+    let NotedWay { way, ban } = noted;
     if is_impossible(conflict, way) {
         return Ok(None);
     }
     if let Some(ban) = ban_of_resolved(resolved, way) {
         return Ok(Some(ban));
     }
-    if let Some(number) = noted {
+    if let Some(number) = ban {
         return Ok(Some(number));
     }
-    let ban = ban_of_deleted(alloc, graphs, domains, way, conflict, made, book)?;
+    let ban = ban_of_deleted(view, way, conflict, made, book)?;
     Ok(Some(ban))
 }
 
@@ -97,26 +105,26 @@ fn ban_of_resolved(resolved: Option<Resolved>, way: Pair) -> Option<u64>
 
 // The ban by which a way was deleted, or that of the mismatch by which it was.
 fn ban_of_deleted(
-    alloc: Global,
-    graphs: &PairableGraphs<'_>,
-    domains: &Domains,
+    view: &TrailView<'_>,
     way: Pair,
     conflict: &[Pair],
     made: &mut Mismatches,
     book: &mut BanBook,
 ) -> Result<u64, AllocError>
-    requires known { IsPairOf domains.now.inputs domains.now.outputs way }
+    requires known { IsPairOf view.now.domains.now.inputs view.now.domains.now.outputs way }
     requires possible { IsImpossible conflict.now way → ⊥ }
-    requires named { IsNamedIn book.old domains.now.entries conflict.now way }
-    ensures more { LearnsMore graphs.now domains.now.entries book.old book.new }
+    requires named { IsNamedIn book.old view.now.domains.now.entries conflict.now way }
+    ensures more { LearnsMore view.now.graphs.now view.now.domains.now.entries book.old book.new }
     ensures covers { IfOk result (Covers book.new (way ∷ conflict.now)) }
 {
-    let _lawful = domains.entries();
+    // no pair has two entries
+    let _lawful = view.domains.entries();
+    // beside the conflict no clash is the reason
     let _ = conflict;
-    let Some(reason) = domains.reason(way) else {
+    let Some(reason) = view.domains.reason(way) else {
         unreachable!()
     };
-    match deletion_by(alloc, graphs, domains, way, reason, made, book)? {
+    match deletion_by(view.alloc, way, reason, made, book)? {
         Deletion::Ban(number) => Ok(number),
         Deletion::Clash(_) => unreachable!(),
     }

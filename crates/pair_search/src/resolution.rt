@@ -17,6 +17,7 @@ use crate::conflict::{Conflict, cover_port};
 use crate::learned::{Back, LearnedBan};
 use crate::mismatch::Mismatches;
 use crate::port::{Port, Resolved};
+use crate::view::TrailView;
 use account_core::{PairableGraphs, port_on};
 use ban_book::BanBook;
 use ban_book::needed::place_of;
@@ -31,6 +32,15 @@ pub(crate) enum Pivot {
     Choice(usize),
     /// The pair was forced by its port of this circuit.
     Forced(Side),
+}
+
+// A conflict whose latest pair was forced.
+struct ForcedPair {
+    /// The pair's place among the held ones.
+    place: usize,
+    /// The circuit whose port forced it.
+    side: Side,
+    conflict: Conflict,
 }
 
 /// Resolves a conflict on its latest pair, again and again, until a choice stands between that pair and the others: the
@@ -48,6 +58,7 @@ pub fn resolve(
     ensures more { LearnsMore graphs.now domains.now.entries book.old book.new }
     ensures learned { IfOk result (IsLearned book.new domains.now) }
 {
+    // no pair has two entries, and held pairs share no port
     let _lawful = domains.entries();
     let mut conflict = conflict;
     let mut limit = domains.pairs().len();
@@ -55,7 +66,12 @@ pub fn resolve(
         match pivot_at(domains, last, &conflict.pairs) {
             Pivot::Choice(place) => return Ok(back_to(domains, last, place, conflict.ban)),
             Pivot::Forced(side) => {
-                conflict = resolve_on(alloc, graphs, domains, last, side, conflict, made, book)?;
+                let forced = ForcedPair {
+                    place: last,
+                    side,
+                    conflict,
+                };
+                conflict = resolve_on(alloc, graphs, domains, forced, made, book)?;
                 limit = last;
             }
         }
@@ -133,6 +149,7 @@ fn entry_of(domains: &Domains, index: usize) -> usize
     ensures held { (d : AnyEntry) → is_held (slice_index_or domains.now.entries result d).fate ≡ true }
     ensures front { take index (held_in domains.now.entries) ≡ held_in (take result domains.now.entries) }
 {
+    // no pair has two entries, and held pairs share no port
     let _lawful = domains.entries();
     match domains.place(held_at(domains, index)) {
         Some(place) => place,
@@ -147,6 +164,7 @@ fn held_at(domains: &Domains, index: usize) -> Pair
     ensures held { Contains (held_in domains.now.entries) result }
     ensures known { IsPairOf domains.now.inputs domains.now.outputs result }
 {
+    // no pair has two entries, and held pairs share no port
     let _lawful = domains.entries();
     domains.pairs()[index]
 }
@@ -159,6 +177,7 @@ fn after_others(domains: &Domains, last: usize, pairs: &[Pair]) -> usize
     ensures others { (d : AnyPair) → All (Contains
         (slice_index_or (held_in domains.now.entries) last d ∷ held_in (take result domains.now.entries))) pairs.now }
 {
+    // no pair has two entries, and held pairs share no port
     let _lawful = domains.entries();
     match last_of(domains.pairs(), last, pairs) {
         Some(second) => entry_of(domains, second) + 1,
@@ -214,21 +233,28 @@ fn resolve_on(
     alloc: Global,
     graphs: &PairableGraphs<'_>,
     domains: &Domains,
-    place: usize,
-    side: Side,
-    conflict: Conflict,
+    forced: ForcedPair,
     made: &mut Mismatches,
     book: &mut BanBook,
 ) -> Result<Conflict, AllocError>
     requires trail { IsTrail graphs.now book.old domains.now }
-    requires within { place < length (held_in domains.now.entries) }
+    requires within { forced.place < length (held_in domains.now.entries) }
     requires forced { (d : AnyPair) → Contains domains.now.entries
-        (record { pair = slice_index_or (held_in domains.now.entries) place d; fate = Held (LastWay side) }) }
-    requires conflict { IsConflict book.old (take (place + 1) (held_in domains.now.entries)) conflict }
+        (record {
+          pair = slice_index_or (held_in domains.now.entries) forced.place d;
+          fate = Held (LastWay forced.side);
+        }) }
+    requires conflict { IsConflict book.old (take (forced.place + 1) (held_in domains.now.entries)) forced.conflict }
     ensures more { LearnsMore graphs.now domains.now.entries book.old book.new }
-    ensures conflict { IfOk result (IsConflict book.new (take place (held_in domains.now.entries))) }
+    ensures conflict { IfOk result (IsConflict book.new (take forced.place (held_in domains.now.entries))) }
 {
+    // the held pairs are of ports that exist, and share none
     let _lawful = domains.entries();
+    let ForcedPair {
+        place,
+        side,
+        conflict,
+    } = forced;
     let way = held_at(domains, place);
     let port = Port {
         side,
@@ -237,19 +263,14 @@ fn resolve_on(
     };
     let Conflict { pairs, ban } = conflict;
     let pairs = without(pairs, way);
-    let held = first_held(domains, place);
-    let resolved = Resolved { way, ban };
-    let conflict = cover_port(
+    let view = TrailView {
         alloc,
         graphs,
         domains,
-        held,
-        port,
-        Some(resolved),
-        pairs,
-        made,
-        book,
-    )?;
+        held: first_held(domains, place),
+    };
+    let resolved = Some(Resolved { way, ban });
+    let conflict = cover_port(&view, port, resolved, pairs, made, book)?;
     Ok(conflict)
 }
 

@@ -19,6 +19,7 @@ pub(crate) fn apply(domains: &mut Domains, bans: &[Ban], number: u64) -> Result<
     ensures propagates { OnOk result (Propagates bans.now domains.old domains.new) }
     ensures all { IfOk result (λ all. IsTrue all → Covers bans.now (held_in domains.new.entries) number) }
 {
+    // no pair has two entries, and held pairs share no port
     let _lawful = domains.entries();
     let pairs = &bans[number as usize].pairs;
     let Some(way) = unheld(domains, pairs) else {

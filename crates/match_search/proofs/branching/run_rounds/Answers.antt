@@ -1,4 +1,5 @@
 -- One round after the other, with the bans that are held.
+use Rattle.std.proofs.Common.{refl}
 use Rattle.match_search.proofs.StepLemmas.{may_go_on, steps_err, steps_ok, way_more, way_start, way_stays}
 use Rattle.match_search.proofs.branching.run_rounds.Goals as goal
 
@@ -18,7 +19,8 @@ pub returns-then-is_full-clause-steps : goal.returns-then-is_full-clause-steps
 returns-then-is_full-clause-steps g c = steps_ok (way_more c.loop-round.invariant c.in_ok-found.ensures.steps)
 
 pub loop-round-preserved : goal.loop-round-preserved
-loop-round-preserved g c = way_stays c.bans.ensures (way_more c.loop-round.invariant c.in_ok-found.ensures.steps) c.start_over.ensures.stays
+loop-round-preserved g c =
+    way_stays refl (way_more c.loop-round.invariant c.in_ok-found.ensures.steps) (c.start_over.ensures.stays _ c.in_ok-found.ensures.steps.trail.trail.justified)
 
 pub returns-clause-steps : goal.returns-clause-steps
 returns-clause-steps g c = steps_ok c.loop-round.invariant

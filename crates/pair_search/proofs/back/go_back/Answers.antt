@@ -9,11 +9,11 @@ returns-clause-less c =
     let d = c.args.domains.now in
     let back = c.args.back in
     let e : Entry = record { pair = back.pair; fate = Deleted (reason.Ban back.ban) } in
-    back_less d c.delete.new.self back.place back.pair (reason.Ban back.ban) (back_at d c.back_to.new.self c.delete.new.self back.place e c.back_to.ensures c.in_ok-delete.ensures.deleted) c.entries-lawful.ensures.lawful c.requires.back.choice
+    back_less d c.delete.new.self back.place back.pair (reason.Ban back.ban) (back_at d c.back_to.new.self c.delete.new.self back.place e c.back_to.ensures c.in_ok-delete.ensures.deleted) c.entries-lawful.ensures.lawful c.requires.choice
 
 pub returns-clause-stays : goal.returns-clause-stays
-returns-clause-stays c =
+returns-clause-stays c = λ bans justified covers.
     let d = c.args.domains.now in
     let back = c.args.back in
     let e : Entry = record { pair = back.pair; fate = Deleted (reason.Ban back.ban) } in
-    stays_back c.args.bans.now d c.delete.new.self back.place back.ban back.pair (back_at d c.back_to.new.self c.delete.new.self back.place e c.back_to.ensures c.in_ok-delete.ensures.deleted) c.requires.justified c.requires.back.choice.within c.requires.back.covers
+    stays_back bans d c.delete.new.self back.place back.ban back.pair (back_at d c.back_to.new.self c.delete.new.self back.place e c.back_to.ensures c.in_ok-delete.ensures.deleted) justified c.requires.choice.within covers

@@ -1,6 +1,6 @@
 use Rattle.std.proofs.Common.{◌∙◌, sym, arith}
 use Rattle.pair_domains.proofs.TableLemmas.{in_range}
-use Rattle.pair_search.proofs.StepLemmas.{ports_after, propagates_none, propagates_two, stays_held}
+use Rattle.pair_search.proofs.StepLemmas.{ports_after, propagates_none, propagates_two, share_of, stays_held}
 use Rattle.pair_search.proofs.clashes.delete_ways.Goals as goal
 
 pub loop-number-init : goal.loop-number-init
@@ -25,7 +25,7 @@ pub delete_way-requires-clause-kind : goal.delete_way-requires-clause-kind
 delete_way-requires-clause-kind c = sym c.way_of-way.ensures.kind
 
 pub delete_way-requires-clause-share : goal.delete_way-requires-clause-share
-delete_way-requires-clause-share c = sym c.port_on.ensures ∙ sym c.way_of-way.ensures.port
+delete_way-requires-clause-share c = share_of c.args.side c.args.pair c.way_of-way.result (sym c.port_on.ensures ∙ sym c.way_of-way.ensures.port)
 
 pub loop-number-preserved : goal.loop-number-preserved
 loop-number-preserved c = propagates_two c.args.bans.now c.args.domains.now c.loop-number.domains c.delete_way.new.domains c.loop-number.invariant c.in_ok-delete_way.ensures

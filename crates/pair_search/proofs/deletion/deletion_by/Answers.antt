@@ -6,16 +6,14 @@ use Rattle.pair_search.proofs.GroundedLemmas.{covers_two, learns_mismatch}
 use Rattle.pair_search.proofs.deletion.deletion_by.Goals as goal
 
 pub returns-in_err-number-in-Mismatch-clause-more : goal.returns-in_err-number-in-Mismatch-clause-more
-returns-in_err-number-in-Mismatch-clause-more c =
+returns-in_err-number-in-Mismatch-clause-more c = λ graphs entries there.
     let it = c.in-Mismatch in
-    let es = c.args.domains.now.entries in
-    learns_mismatch c.args.graphs.now es c.args.book.now c.hold_mismatch.new.book c.args.pair it.with it.fails it.holds (subst (λ (why : Reason). Contains es (deleted c.args.pair why)) it.is c.requires.deleted) c.hold_mismatch.ensures.adds
+    learns_mismatch graphs entries c.args.book.now c.hold_mismatch.new.book c.args.pair it.with it.fails it.holds (subst (λ (why : Reason). Contains entries (deleted c.args.pair why)) it.is there) c.hold_mismatch.ensures.adds
 
 pub returns-in_ok-number-in-Mismatch-clause-more : goal.returns-in_ok-number-in-Mismatch-clause-more
-returns-in_ok-number-in-Mismatch-clause-more c =
+returns-in_ok-number-in-Mismatch-clause-more c = λ graphs entries there.
     let it = c.in-Mismatch in
-    let es = c.args.domains.now.entries in
-    learns_mismatch c.args.graphs.now es c.args.book.now c.hold_mismatch.new.book c.args.pair it.with it.fails it.holds (subst (λ (why : Reason). Contains es (deleted c.args.pair why)) it.is c.requires.deleted) c.hold_mismatch.ensures.adds
+    learns_mismatch graphs entries c.args.book.now c.hold_mismatch.new.book c.args.pair it.with it.fails it.holds (subst (λ (why : Reason). Contains entries (deleted c.args.pair why)) it.is there) c.hold_mismatch.ensures.adds
 
 pub returns-in_ok-number-in-Mismatch-clause-excluded : goal.returns-in_ok-number-in-Mismatch-clause-excluded
 returns-in_ok-number-in-Mismatch-clause-excluded c = λ pairs named.

@@ -21,3 +21,9 @@ returns-clause-found c =
       there = λ e. get_or_default es there.0 e gone there.1 ∙ there.2;
       excluded = c.in_ok-deletion.ensures.excluded before named;
     }
+
+pub returns-in_err-deletion-clause-more : goal.returns-in_err-deletion-clause-more
+returns-in_err-deletion-clause-more c = c.in_err-deletion.ensures.more c.args.graphs.now c.args.domains.now.entries c.in-Some.ensures.found
+
+pub returns-clause-more : goal.returns-clause-more
+returns-clause-more c = c.in_ok-deletion.ensures.more c.args.graphs.now c.args.domains.now.entries c.in-Some.ensures.found

@@ -39,20 +39,20 @@ returns-in_ok-delete-in-Some-holder-clause-less c =
     less_one d c.delete.new.self e (one_more_of d c.delete.new.self e c.in_ok-delete-in-Some-holder.ensures.deleted) c.entries-lawful.ensures.lawful c.way_of-way.ensures.known is refl
 
 pub returns-in_default-clause-stays : goal.returns-in_default-clause-stays
-returns-in_default-clause-stays c = stays_none c.args.bans.now c.args.domains.now c.requires.justified
+returns-in_default-clause-stays c = λ bans justified. stays_none bans c.args.domains.now justified
 
 pub returns-in_ok-hold-in-None-clause-stays : goal.returns-in_ok-hold-in-None-clause-stays
-returns-in_ok-hold-in-None-clause-stays c =
+returns-in_ok-hold-in-None-clause-stays c = λ bans justified.
     let d = c.args.domains.now in
     let e : Entry = record { pair = c.way_of-way.result; fate = Held Choice } in
-    stays_one c.args.bans.now d c.hold.new.self e (one_more_of d c.hold.new.self e c.in_ok-hold-in-None.ensures.held) c.requires.justified tt (λ graphs facts. tt)
+    stays_one bans d c.hold.new.self e (one_more_of d c.hold.new.self e c.in_ok-hold-in-None.ensures.held) justified tt (λ graphs facts. tt)
 
 pub returns-in_ok-delete-in-Some-holder-clause-stays : goal.returns-in_ok-delete-in-Some-holder-clause-stays
-returns-in_ok-delete-in-Some-holder-clause-stays c =
+returns-in_ok-delete-in-Some-holder-clause-stays c = λ bans justified.
     let d = c.args.domains.now in
     let port = c.args.port in
     let way = c.way_of-way.result in
     let held = c.in-Some-holder.held in
     let e : Entry = record { pair = way; fate = Deleted (reason.Clash held) } in
     let is = open_of_free d.entries port.side port.kind port.number way c.requires.free c.way_of-way.ensures.kind c.way_of-way.ensures.port (λ gone. c.in-Some.ensures.is (subst (IsDeleted d.entries) c.way_of-way.ensures.value gone)) in
-    stays_one c.args.bans.now d c.delete.new.self e (one_more_of d c.delete.new.self e c.in_ok-delete-in-Some-holder.ensures.deleted) c.requires.justified (c.in-Some-holder.ensures.held, clash_of d.entries held way c.in-Some-holder.ensures.held is c.in-Some-holder.ensures.kind c.in-Some-holder.ensures.share) (λ graphs facts. tt)
+    stays_one bans d c.delete.new.self e (one_more_of d c.delete.new.self e c.in_ok-delete-in-Some-holder.ensures.deleted) justified (c.in-Some-holder.ensures.held, clash_of d.entries held way c.in-Some-holder.ensures.held is c.in-Some-holder.ensures.kind c.in-Some-holder.ensures.share) (λ graphs facts. tt)

@@ -9,31 +9,31 @@ use Rattle.pair_search.proofs.ReferLemmas.{closed_by_covers, closed_by_noted, na
 use Rattle.pair_search.proofs.refer.reference.Goals as goal
 
 pub returns-then-is_impossible-clause-more : goal.returns-then-is_impossible-clause-more
-returns-then-is_impossible-clause-more c = learns_none c.args.graphs.now c.args.domains.now.entries c.args.book.now
+returns-then-is_impossible-clause-more c = learns_none c.args.view.now.graphs.now c.args.view.now.domains.now.entries c.args.book.now
 
 pub returns-then-is_impossible-clause-closed : goal.returns-then-is_impossible-clause-closed
-returns-then-is_impossible-clause-closed c = closed_by_clash c.args.book.now c.args.conflict.now c.args.way (c.is_impossible.ensures.0 c.if-is_impossible.true)
+returns-then-is_impossible-clause-closed c = closed_by_clash c.args.book.now c.args.conflict.now c.args.noted.way (c.is_impossible.ensures.0 c.if-is_impossible.true)
 
 pub returns-in-Some-clause-more : goal.returns-in-Some-clause-more
-returns-in-Some-clause-more c = learns_none c.args.graphs.now c.args.domains.now.entries c.args.book.now
+returns-in-Some-clause-more c = learns_none c.args.view.now.graphs.now c.args.view.now.domains.now.entries c.args.book.now
 
 pub returns-in-Some-clause-closed : goal.returns-in-Some-clause-closed
 returns-in-Some-clause-closed c =
-    closed_by_covers c.args.book.now c.args.conflict.now c.args.way c.in-Some.ban (λ imp. false≢true (sym c.if-is_impossible.false ∙ c.is_impossible.ensures.1 imp)) (rw c.in-Some.ensures.found at c.requires.resolved)
+    closed_by_covers c.args.book.now c.args.conflict.now c.args.noted.way c.in-Some.ban (λ imp. false≢true (sym c.if-is_impossible.false ∙ c.is_impossible.ensures.1 imp)) (rw c.in-Some.ensures.found at c.requires.resolved)
 
-pub returns-in-Some-noted-clause-closed : goal.returns-in-Some-noted-clause-closed
-returns-in-Some-noted-clause-closed c =
-    let es = c.args.domains.now.entries in
-    closed_by_noted c.args.book.now es c.args.conflict.now c.args.way c.args.noted c.in-Some-noted.number c.in-Some-noted.is (λ imp. false≢true (sym c.if-is_impossible.false ∙ c.is_impossible.ensures.1 imp)) (not_left_out (left_out c.args.resolved) c.args.way (IsGathered c.args.book.now es c.args.conflict.now c.args.way c.args.noted) (not_resolved c.args.resolved c.args.way c.in_default.ensures.none) c.requires.gathered)
+pub returns-in-Some-ban-clause-closed : goal.returns-in-Some-ban-clause-closed
+returns-in-Some-ban-clause-closed c =
+    let es = c.args.view.now.domains.now.entries in
+    closed_by_noted c.args.book.now es c.args.conflict.now c.args.noted.way c.args.noted.ban c.in-Some-ban.number c.in-Some-ban.is (λ imp. false≢true (sym c.if-is_impossible.false ∙ c.is_impossible.ensures.1 imp)) (not_left_out (left_out c.args.resolved) c.args.noted.way (IsGathered c.args.book.now es c.args.conflict.now c.args.noted.way c.args.noted.ban) (not_resolved c.args.resolved c.args.noted.way c.in_default.ensures.none) c.requires.gathered)
 
 pub ban_of_deleted-requires-clause-possible : goal.ban_of_deleted-requires-clause-possible
 ban_of_deleted-requires-clause-possible c = λ imp. false≢true (sym c.if-is_impossible.false ∙ c.is_impossible.ensures.1 imp)
 
 pub ban_of_deleted-requires-clause-named : goal.ban_of_deleted-requires-clause-named
 ban_of_deleted-requires-clause-named c =
-    let es = c.args.domains.now.entries in
-    named_of_gathered c.args.book.now es c.args.conflict.now c.args.way c.args.noted c.in_default-noted.is (λ imp. false≢true (sym c.if-is_impossible.false ∙ c.is_impossible.ensures.1 imp)) (not_left_out (left_out c.args.resolved) c.args.way (IsGathered c.args.book.now es c.args.conflict.now c.args.way c.args.noted) (not_resolved c.args.resolved c.args.way c.in_default.ensures.none) c.requires.gathered)
+    let es = c.args.view.now.domains.now.entries in
+    named_of_gathered c.args.book.now es c.args.conflict.now c.args.noted.way c.args.noted.ban c.in_default-ban.is (λ imp. false≢true (sym c.if-is_impossible.false ∙ c.is_impossible.ensures.1 imp)) (not_left_out (left_out c.args.resolved) c.args.noted.way (IsGathered c.args.book.now es c.args.conflict.now c.args.noted.way c.args.noted.ban) (not_resolved c.args.resolved c.args.noted.way c.in_default.ensures.none) c.requires.gathered)
 
 pub returns-clause-closed : goal.returns-clause-closed
 returns-clause-closed c =
-    closed_by_covers c.ban_of_deleted.new.book c.args.conflict.now c.args.way c.in_ok-ban.ban (λ imp. false≢true (sym c.if-is_impossible.false ∙ c.is_impossible.ensures.1 imp)) c.in_ok-ban.ensures.covers
+    closed_by_covers c.ban_of_deleted.new.book c.args.conflict.now c.args.noted.way c.in_ok-ban.ban (λ imp. false≢true (sym c.if-is_impossible.false ∙ c.is_impossible.ensures.1 imp)) c.in_ok-ban.ensures.covers

@@ -1,0 +1,16 @@
+//! The trail as a conflict is resolved on it.
+
+use account_core::PairableGraphs;
+use circuits::Pair;
+use pair_domains::Domains;
+use std::alloc::Global;
+
+/// The trail as a conflict is resolved on it: both circuits, their pairs, and the first held ones, which alone a new ban
+/// may have.
+#[derive(Clone, Copy)]
+pub(crate) struct TrailView<'a> {
+    pub(crate) alloc: Global,
+    pub(crate) graphs: &'a PairableGraphs<'a>,
+    pub(crate) domains: &'a Domains,
+    pub(crate) held: &'a [Pair],
+}
