@@ -1,7 +1,7 @@
 //! What a plain copy is asked: bench/plain_copy.sh has the words. Files are in the ASCII form of AIGER, in order, as
 //! `bench/match_beside_abc.sh --write` writes them.
 
-use crate::account_core::{Ban, Step};
+use crate::account_core::{Ban, PairableGraphs, Step};
 use crate::ask_core::{self, Answer as Answered};
 use crate::ban_book::BanBook;
 use crate::circuits::{Gate, Lit};
@@ -9,12 +9,12 @@ use crate::cnf_core::Stop;
 use crate::fact_tests::FactBook;
 use crate::match_search::{Found, decide, search};
 use crate::net_core::{Graph, Graphs, Matching, Side};
-use crate::net_supports::Supports;
+use crate::sim_signature::Supports;
 use crate::oracle_core::{Compared, Oracle};
-use crate::port_sides::PairableGraphs;
+
 use crate::prelude::{Global, Items, Vec};
 use crate::query_core::{Claim, Ledger, Shape, of_claim, of_match};
-use crate::table_guess::{Effort, Guesser};
+use crate::match_guess::{Effort, Guesser, Hints};
 use std::error::Error;
 use std::io;
 
@@ -35,7 +35,7 @@ pub fn main() -> Answer {
         }),
         ["decide", first, second, seed] => on_pair(first, second, seed, |graphs, seed| {
             look(graphs, seed, |book, bans, ledger| {
-                decide(Global, graphs, book, bans, seed, ledger)
+                decide(Global, graphs, book, bans, &Hints { seed, candidates: &[] }, ledger)
             })
         }),
         ["ask", first, second, output, value, budget] => on_pair(first, second, "0", |graphs, _| {
