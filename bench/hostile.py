@@ -41,6 +41,12 @@ def chain(count, gate, inputs=None):
     return blif(names("i", inputs), ["o"], lines)
 
 
+def turned(text):
+    """A BLIF netlist with its inputs and its outputs in the opposite order, under the names that they had."""
+    lines = text.split("\n")
+    return "\n".join(" ".join([it.split(" ")[0], *it.split(" ")[:0:-1]]) if it.startswith((".inputs", ".outputs")) else it for it in lines)
+
+
 OR, AND, XOR = "1- 1\n-1 1\n", "11 1\n", "10 1\n01 1\n"
 
 
@@ -91,6 +97,8 @@ def rows():
     yield "ANDs against as many with one XOR (match)", (256, 512), lambda n: (ands(n), ands(n, XOR), ""), ("match", *both), "no matching"
     yield "ANDs with themselves (match)", (256, 512), lambda n: (ands(n), ands(n), ""), ("match", *both), "matched"
     yield "XOR of all inputs with itself (match)", (512, 1024), lambda n: (chain(n, XOR),) * 2 + ("",), ("match", *both), "matched"
+    yield "names of ANDs in the opposite order (match)", (256, 512), lambda n: (ands(n), turned(ands(n)), ""), ("match", *both), "matched"
+    yield "names of an XOR in the opposite order (match)", (512, 1024), lambda n: (chain(n, XOR), turned(chain(n, XOR)), ""), ("match", *both), "matched"
     yield "rows of one cover with themselves (match)", (250_000, 500_000), lambda n: (rows_netlist(n),) * 2 + ("",), ("match", *both), "matched"
     yield "OR of all inputs (info)", (128, 256), lambda n: (chain(n, OR),), ("info", "first"), "inputs"
     yield "XOR of all inputs (info)", (64, 128), lambda n: (chain(n, XOR),), ("info", "first"), "inputs"

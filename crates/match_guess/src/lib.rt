@@ -5,8 +5,10 @@ mod choice;
 mod choice_point;
 mod circuit;
 mod guesser;
+mod guesses;
 mod kept;
 mod leaf;
+mod likely;
 mod matching;
 mod patience;
 mod signs;
@@ -14,4 +16,5 @@ mod trials;
 mod vectors;
 
 pub use guesser::{Effort, Guesser};
+pub use guesses::{Guesses, Hints};
 pub use trials::{Suspect, Trials};

@@ -13,7 +13,7 @@ use ban_book::BanBook;
 use circuits::PortKind;
 use cnf_core::Stop;
 use fact_bans::{Asker, Seen};
-use match_guess::{Effort, Guesser};
+use match_guess::{Effort, Guesses, Hints};
 use oracle_core::Oracle;
 use query_core::Ledger;
 use std::alloc::Global;
@@ -51,27 +51,27 @@ pub fn decide<O: Oracle>(
     graphs: &PairableGraphs<'_>,
     oracle: &mut O,
     book: &mut BanBook,
-    seed: u64,
+    hints: &Hints<'_>,
     ledger: &mut Ledger,
 ) -> Result<Found, Stop>
     requires may { MayBegin graphs.now (O.known oracle.old) ledger.old book.old }
     ensures searches { Searches graphs.now (O.known oracle.old) (O.known oracle.new) ledger.old ledger.new book.new result }
 {
     let _facts = oracle.facts();
-    let mut guesser = Guesser::new(alloc, graphs, seed)?;
+    let mut guesses = Guesses::new(alloc, graphs, hints)?;
     let effort = first_effort(graphs);
     if let Some((matching, logs)) = compare_guesses(
         alloc,
         graphs,
         oracle,
-        &mut guesser,
+        &mut guesses,
         effort,
         ledger,
     )? {
         return Ok(Found::Match(matching, logs));
     }
-    let mut seen = Seen::new(alloc, graphs, seed)?;
-    let mut aids = Aids::new(alloc, graphs, seed)?;
+    let mut seen = Seen::new(alloc, graphs, hints.seed)?;
+    let mut aids = Aids::new(alloc, graphs, hints.seed)?;
     let mut session = Session {
         asker: Asker {
             alloc,
@@ -83,7 +83,7 @@ pub fn decide<O: Oracle>(
         book,
     };
     match effort {
-        Effort::Little => refuse_or_find(graphs, &mut session, &mut guesser),
+        Effort::Little => refuse_or_find(graphs, &mut session, &mut guesses),
         Effort::Whole => refuse_or_explore(graphs, &mut session),
     }
 }
@@ -102,10 +102,10 @@ fn first_effort(graphs: &PairableGraphs<'_>) -> Effort {
 
 // Decides where little effort found no match: by counts, by a short search, which refuses what a few conflicts show, by more
 // guesses, and then by searching with the bans that are held.
-fn refuse_or_find<O: Oracle>(
-    graphs: &PairableGraphs<'_>,
+fn refuse_or_find<'a, O: Oracle>(
+    graphs: &PairableGraphs<'a>,
     session: &mut Session<'_, O>,
-    guesser: &mut Guesser<'_>,
+    guesses: &mut Guesses<'a>,
 ) -> Result<Found, Stop>
     requires may { MaySearch graphs.now (lent O.known session.old) }
     ensures searches { SearchesBy graphs.now (lent O.known session.old) (lent O.known session.new) result }
@@ -122,7 +122,7 @@ fn refuse_or_find<O: Oracle>(
         asker.alloc,
         graphs,
         asker.oracle,
-        guesser,
+        guesses,
         Effort::Whole,
         asker.ledger,
     )? {

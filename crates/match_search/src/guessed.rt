@@ -10,7 +10,7 @@ use crate::candidate::compare_all;
 use account_core::PairableGraphs;
 use cnf_core::{Log, Stop};
 use items::Items;
-use match_guess::{Effort, Guesser};
+use match_guess::{Effort, Guesses};
 use net_core::Matching;
 use oracle_core::Oracle;
 use query_core::Ledger;
@@ -34,11 +34,11 @@ pub(crate) enum Guessed {
 
 /// Compares matchings that are guessed with so much effort, a bounded number of them, and answers one that is a match, with its
 /// logs. None says nothing of whether there is a match.
-pub(crate) fn compare_guesses<O: Oracle>(
+pub(crate) fn compare_guesses<'a, O: Oracle>(
     alloc: Global,
-    graphs: &PairableGraphs<'_>,
+    graphs: &PairableGraphs<'a>,
     oracle: &mut O,
-    guesser: &mut Guesser<'_>,
+    guesses: &mut Guesses<'a>,
     effort: Effort,
     ledger: &mut Ledger,
 ) -> Result<Option<(Matching, Items<Log>)>, Stop>
@@ -46,9 +46,9 @@ pub(crate) fn compare_guesses<O: Oracle>(
     ensures serves { Serves (O.known oracle.old) (O.known oracle.new) ledger.old ledger.new result }
     ensures shown { IfOk result (λ found. IfSome found (λ shown. IsShownMatch graphs.now shown.0 shown.1)) }
 {
-    for guesses in 0..MOST_GUESSES {
-        oracle.at(Stage::Guessing { guesses });
-        match compare_guess(alloc, graphs, oracle, guesser, effort, ledger)? {
+    for count in 0..MOST_GUESSES {
+        oracle.at(Stage::Guessing { guesses: count });
+        match compare_guess(alloc, graphs, oracle, guesses, effort, ledger)? {
             Guessed::Match(matching, logs) => return Ok(Some((matching, logs))),
             Guessed::Fails => {}
             Guessed::Nothing => return Ok(None),
@@ -59,11 +59,11 @@ pub(crate) fn compare_guesses<O: Oracle>(
 
 // Compares a matching that is guessed. Where it is no match, the vector that shows it is kept, so that the next guess
 // agrees on it.
-fn compare_guess<O: Oracle>(
+fn compare_guess<'a, O: Oracle>(
     alloc: Global,
-    graphs: &PairableGraphs<'_>,
+    graphs: &PairableGraphs<'a>,
     oracle: &mut O,
-    guesser: &mut Guesser<'_>,
+    guesses: &mut Guesses<'a>,
     effort: Effort,
     ledger: &mut Ledger,
 ) -> Result<Guessed, Stop>
@@ -73,14 +73,14 @@ fn compare_guess<O: Oracle>(
 {
     let _first = graphs.first();
     let _second = graphs.second();
-    let Some(matching) = guesser.guess(alloc, graphs, effort)? else {
+    let Some(matching) = guesses.next(alloc, graphs, effort)? else {
         return Ok(Guessed::Nothing);
     };
     let mut logs = Items::new(alloc);
     match compare_all(alloc, graphs, oracle, &matching, ledger, &mut logs)? {
         None => Ok(Guessed::Match(matching, logs)),
         Some(found) => {
-            guesser.keep(&found.vector);
+            guesses.keep(&found.vector)?;
             Ok(Guessed::Fails)
         }
     }

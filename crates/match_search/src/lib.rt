@@ -29,4 +29,5 @@ pub use choosing::next_port;
 pub use deciding::decide;
 pub use found::Found;
 pub use guide::Guide;
+pub use match_guess::Hints;
 pub use searching::search;

@@ -5,6 +5,7 @@
 
 mod info;
 mod matching;
+mod naming;
 pub mod outcome;
 pub mod run;
 mod trying;

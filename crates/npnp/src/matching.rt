@@ -15,6 +15,7 @@ ghost use Rattle.account_write.specs.Records.{account_of, records_of};
 ghost use Rattle.run_steps.specs.Steps.{Decides, Finds, IsAnswered, IsNew};
 ghost use Rattle.run_steps.specs.Commands.{asked_match};
 
+use crate::naming::paired_by_names;
 use account_core::{Ban, Fact, PairableGraphs};
 use account_trim::{Core, trim};
 use account_write::Account;
@@ -23,7 +24,7 @@ use check_steps::{Ending, Match, Outcome, Which, read_netlist, report_named};
 use cnf_core::{Log, Stop};
 use fact_tests::FactBook;
 use items::Items;
-use match_search::{Found, decide};
+use match_search::{Found, Hints, decide};
 use net_core::{Graphs, Matching};
 use net_file::Named;
 use query_core::Ledger;
@@ -69,7 +70,8 @@ fn find_of<S: Shelf, W: Watch>(
         (S.state shelf.old) (S.state shelf.new) result }
 {
     let graphs = Graphs::new(&first.graph, &second.graph);
-    let solved = solve(alloc, asked, &graphs, watch)?;
+    let candidates = paired_by_names(alloc, first, second)?;
+    let solved = solve(alloc, asked, &graphs, &candidates, watch)?;
     let report = report_named(alloc, first, second, &solved.outcome)?;
     let Solved { outcome, account } = solved;
     conclude(
@@ -81,17 +83,23 @@ fn find_of<S: Shelf, W: Watch>(
     )
 }
 
-/// Looks for a match of two graphs. Where they have other numbers of ports there is nothing to search.
+/// Looks for a match of two graphs, for which some matchings are candidates. Where they have other numbers of ports there is
+/// nothing to search.
 fn solve<W: Watch>(
     alloc: Global,
     asked: &Match<'_>,
     graphs: &Graphs<'_>,
+    candidates: &[Matching],
     watch: &W,
 ) -> Result<Solved, Outcome>
     ensures { Solves graphs.now asked.now.budget result }
 {
+    let hints = Hints {
+        seed: asked.seed,
+        candidates,
+    };
     match PairableGraphs::new(graphs) {
-        Some(pairable) => solve_by_search(alloc, &pairable, asked.seed, asked.budget, watch),
+        Some(pairable) => solve_by_search(alloc, &pairable, &hints, asked.budget, watch),
         None => Ok(other_ports(alloc, graphs)?),
     }
 }
@@ -100,14 +108,14 @@ fn solve<W: Watch>(
 pub(crate) fn solve_by_search<W: Watch>(
     alloc: Global,
     graphs: &PairableGraphs<'_>,
-    seed: u64,
+    hints: &Hints<'_>,
     budget: u64,
     watch: &W,
 ) -> Result<Solved, Outcome>
     ensures { Solves graphs.now budget result }
 {
     let mut ledger = Ledger::new(alloc, budget);
-    match search_in(alloc, graphs, seed, &mut ledger, watch) {
+    match search_in(alloc, graphs, hints, &mut ledger, watch) {
         Ok(solved) => Ok(solved),
         Err(Stop::Spent(_)) => Err(Outcome::Spent(ledger)),
         Err(Stop::Memory) => Err(Outcome::Memory),
@@ -118,7 +126,7 @@ pub(crate) fn solve_by_search<W: Watch>(
 fn search_in<'a, W: Watch>(
     alloc: Global,
     graphs: &'a PairableGraphs<'a>,
-    seed: u64,
+    hints: &Hints<'_>,
     ledger: &mut Ledger,
     watch: &'a W,
 ) -> Result<Solved, Stop>
@@ -127,9 +135,9 @@ fn search_in<'a, W: Watch>(
     ensures spent { (learned : ℕ) → result ≡ Err (Spent learned)
         → IsSpentOf graphs.now ledger.old.budget ledger.new }
 {
-    let mut book = FactBook::watched(alloc, graphs.graphs(), seed, watch)?;
+    let mut book = FactBook::watched(alloc, graphs.graphs(), hints.seed, watch)?;
     let mut bans = BanBook::new(alloc);
-    let found = decide(alloc, graphs, &mut book, &mut bans, seed, ledger)?;
+    let found = decide(alloc, graphs, &mut book, &mut bans, hints, ledger)?;
     Ok(answered(alloc, graphs, found, book.into_facts(), bans.into_bans())?)
 }
 

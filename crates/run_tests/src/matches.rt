@@ -43,7 +43,44 @@ const TWO_OF_FOUR: &[u8] =
 const ODD_OF_FOUR: &[u8] =
     b".inputs a b c d\n.outputs y\n.names a b c d y\n1000 1\n0100 1\n0010 1\n0001 1\n1110 1\n1101 1\n1011 1\n0111 1\n";
 
-static SOUGHT: [Sought; 9] = [
+/// An AND of four inputs, and the same names, the inputs in another order.
+const FOUR_NAMES: &[u8] = b".inputs a b c d\n.outputs y\n.names a b c d y\n1111 1\n";
+
+const FOUR_NAMES_TURNED: &[u8] = b".inputs d c b a\n.outputs y\n.names d c b a y\n1111 1\n";
+
+/// Two outputs, and two that are the same ones where each name stands for another input.
+const THREE_NAMES: &[u8] =
+    b".inputs a b c\n.outputs y z\n.names a b c y\n11- 1\n1-1 1\n.names b c z\n10 1\n";
+
+const THREE_NAMES_LIE: &[u8] =
+    b".inputs a b c\n.outputs y z\n.names c a b y\n11- 1\n1-1 1\n.names a b z\n10 1\n";
+
+/// One input is missing in the second output.
+const THREE_NAMES_MISS: &[u8] =
+    b".inputs a b c\n.outputs y z\n.names a b c y\n11- 1\n1-1 1\n.names b z\n1 1\n";
+
+static SOUGHT: [Sought; 12] = [
+    // by names, though places and the order of the gates say otherwise
+    Sought {
+        files: [FOUR_NAMES, FOUR_NAMES_TURNED],
+        words: MATCH,
+        table: Some(
+            b"\ninput 0 a = input 3 a\ninput 1 b = input 2 b\ninput 2 c = input 1 c\ninput 3 d = input 0 d\noutput 0 y = output 0 y",
+        ),
+    },
+    // names that lie
+    Sought {
+        files: [THREE_NAMES, THREE_NAMES_LIE],
+        words: MATCH,
+        table: Some(
+            b"\ninput 0 a = input 2 c\ninput 1 b = input 0 a\ninput 2 c = input 1 b\noutput 0 y = output 0 y\noutput 1 z = output 1 z",
+        ),
+    },
+    Sought {
+        files: [THREE_NAMES, THREE_NAMES_MISS],
+        words: MATCH,
+        table: None,
+    },
     Sought {
         files: [A, B],
         words: MATCH,
@@ -194,5 +231,33 @@ fn pairs_many_inputs(rt: HostRuntime) -> Result<(), Fail> {
     let account = ended.account.as_deref();
     let checked = run_on(rt.alloc(), CHECK, [INPUTS, INPUTS], account)?;
     assert_eq!(rt; (ended.status, checked.status), (0, 0));
+    Ok(())
+}
+
+/// The inputs of a netlist of 30 inputs in two orders, and what is the same: a chain of covers, each of which reads three inputs more.
+const THIRTY: &[u8] =
+    b".inputs x0 x1 x2 x3 x4 x5 x6 x7 x8 x9 x10 x11 x12 x13 x14 x15 x16 x17 x18 x19 x20 x21 x22 x23 x24 x25 x26 x27 x28 x29";
+
+const THIRTY_TURNED: &[u8] =
+    b".inputs x4 x26 x13 x2 x10 x9 x29 x24 x12 x17 x28 x6 x15 x18 x21 x3 x5 x1 x7 x14 x0 x16 x20 x27 x22 x25 x11 x23 x8 x19";
+
+const CHAIN: &[u8] =
+    b"\n.outputs y\n.names x5 x24 x25 s0\n1-1 1\n-10 1\n.names s0 x2 x4 x19 s1\n11-- 1\n0-01 1\n.names s1 x28 x14 x27 s2\n11-- 1\n0-01 1\n.names s2 x21 x0 x23 s3\n11-- 1\n0-01 1\n.names s3 x6 x17 x29 s4\n11-- 1\n0-01 1\n.names s4 x13 x26 x20 s5\n11-- 1\n0-01 1\n.names s5 x15 x3 x8 s6\n11-- 1\n0-01 1\n.names s6 x10 x22 x11 s7\n11-- 1\n0-01 1\n.names s7 x1 x9 x7 s8\n11-- 1\n0-01 1\n.names s8 x18 x16 x12 y\n11-- 1\n0-01 1\n";
+
+/// The names pair the inputs, so that one learned line for each value of the output is enough.
+#[test]
+fn pairs_equal_names_at_once(rt: HostRuntime) -> Result<(), Fail> {
+    let first = line(rt.alloc(), THIRTY, CHAIN)?;
+    let second = line(rt.alloc(), THIRTY_TURNED, CHAIN)?;
+    let ended = run_on(
+        rt.alloc(),
+        &["match", "A", "B", "t", "2"],
+        [&first, &second],
+        None,
+    )?;
+    let named = ended
+        .report
+        .strip_prefix(b"matched\ninput 0 x0 = input 20 x0\n".as_slice());
+    assert!(rt; (ended.status == 0) & named.is_some());
     Ok(())
 }

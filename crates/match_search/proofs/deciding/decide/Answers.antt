@@ -5,8 +5,8 @@ use Rattle.match_search.proofs.SearchLemmas.{may_ask, may_start, searches_err, s
 use Rattle.match_search.proofs.StepLemmas.{held_asked}
 use Rattle.match_search.proofs.deciding.decide.Goals as goal
 
-pub returns-in_err-guesser : goal.returns-in_err-guesser
-returns-in_err-guesser g c =
+pub returns-in_err-guesses : goal.returns-in_err-guesses
+returns-in_err-guesses g c =
     let may = may_start c.requires.may c.facts-facts.ensures.lawful in
     record { searches = searches_stop c.from_residual.ensures.1 (held_same _ _ _ _ may).served may.valid }
 

@@ -1,5 +1,5 @@
 use Rattle.match_search.specs.States.{HasServed}
 use Rattle.match_search.proofs.guessed.compare_guesses.Given as goal
 
-abbrev pub invariant-loop-guesses : goal.invariant-loop-guesses
-invariant-loop-guesses g l = HasServed (g.O.Oracle.known l.fn.oracle) (g.O.Oracle.known l.oracle) l.fn.ledger l.ledger
+abbrev pub invariant-loop-count : goal.invariant-loop-count
+invariant-loop-count g l = HasServed (g.O.Oracle.known l.fn.oracle) (g.O.Oracle.known l.oracle) l.fn.ledger l.ledger

@@ -8,10 +8,14 @@ use Rattle.run_steps.proofs.FindLemmas.{not_solved, solved, match_of_answer}
 use Rattle.npnp.proofs.ResultLemmas.{err_is}
 use Rattle.npnp.proofs.matching.find_of.Goals as goal
 
+pub returns-in_err-candidates : goal.returns-in_err-candidates
+returns-in_err-candidates g c =
+    not_solved _ _ _ _ _ _ Memory _ (err_is _ c.from_residual.ensures.1) (inr refl)
+
 pub returns-in_err-solved : goal.returns-in_err-solved
 returns-in_err-solved g c =
     let o = c.in_err-solved.field-0.0 in
-    not_solved _ c.args.first.now c.args.second.now _ c.args.asked.now.budget _ o _ (err_is _ c.from_residual.ensures.1)
+    not_solved _ c.args.first.now c.args.second.now _ c.args.asked.now.budget _ o _ (err_is _ c.from_residual-in_err-solved.ensures.1)
     (subst (λ graphs. IsStopWithin graphs c.args.asked.now.budget o) c.new-graphs.ensures c.in_err-solved.ensures.stopped)
 
 pub report_named-requires : goal.report_named-requires
