@@ -1,5 +1,5 @@
-//! Vectors of both circuits that may correspond: where all open signs are taken as if a vector of the first circuit went to
-//! one of the second, one guess decides them all.
+//! Vectors of both circuits that may correspond: where all open signs are taken as if a vector of the first circuit
+//! went to one of the second, one guess decides them all.
 
 use crate::climbing::climbed;
 use crate::lane_counts::LaneCounts;
@@ -10,35 +10,39 @@ use port_cells::{Draws, FlipSim, Lanes, bit_of, literal_of, port_at};
 use std::alloc::{AllocError, Global};
 use word_sim::mix;
 
-/// The most blocks of 256 vectors that are drawn in each circuit. Of circuits with 26 inputs one pair of vectors is expected to
-/// correspond among 8,192 of both (8,192^2 is 2^26), and more where inputs may be exchanged. With four times as many 29 pairs
-/// take 7 s instead of 5.
+/// The most blocks of 256 vectors that are drawn in each circuit. Of circuits with 26 inputs one pair of vectors is
+/// expected to correspond among 8,192 of both (8,192^2 is 2^26), and more where inputs may be exchanged. With four
+/// times as many 29 pairs take 7 s instead of 5.
 const MOST_BLOCKS: usize = 32;
 
 /// The fewest, where one block alone takes too many counts. It wasn't tuned.
 const LEAST_BLOCKS: usize = 2;
 
-/// How many counts may be made, one for each input, output and block: fewer blocks are drawn of circuits with more than 1,024
-/// pairs of an input and an output. With a fourth of them the minimum and maximum of 16 bits takes 0.45 s instead of 0.17.
+/// How many counts may be made, one for each input, output and block: fewer blocks are drawn of circuits with more than
+/// 1,024 pairs of an input and an output. With a fourth of them the minimum and maximum of 16 bits takes 0.45 s instead
+/// of 0.17.
 const MOST_COUNTS: usize = 1 << 15;
 
-/// How many pairs of vectors are taken, those with rare profiles first: each costs a search. With a fourth of them the rotation
-/// of 32 bits takes 0.4 s longer, and the cubic graph of 24 vertices, joined by exclusive or, is guessed on one seed of six in
-/// place of three; with four times as many the minimum and maximum of 16 bits takes a second longer.
+/// How many pairs of vectors are taken, those with rare profiles first: each costs a search. With a fourth of them the
+/// rotation of 32 bits takes 0.4 s longer, and the cubic graph of 24 vertices, joined by exclusive or, is guessed on
+/// one seed of six in place of three; with four times as many the minimum and maximum of 16 bits takes a second longer.
 const MOST_ANCHORS: usize = 24;
 
-/// How many of them have one profile, so that three profiles are tried at least. A profile that many vectors have tells little.
+/// How many of them have one profile, so that three profiles are tried at least. A profile that many vectors have tells
+/// little.
 const MOST_ALIKE: usize = 8;
 
-/// What the inputs of a circuit have on drawn vectors, and a hash of each vector's profile: of how many outputs change with
-/// each input, and how many inputs change each output, by the ports' cells. Corresponding vectors have one profile.
+/// What the inputs of a circuit have on drawn vectors, and a hash of each vector's profile: of how many outputs change
+/// with each input, and how many inputs change each output, by the ports' cells. Corresponding vectors have one
+/// profile.
 struct Profiles {
     blocks: Items<Items<Lanes>>,
     /// By the profiles, ascending.
     places: Vec<Place>,
 }
 
-// By hand, and so one call wherever a value ends: a derived drop is expanded there, field by field, and makes proofs long.
+// By hand, and so one call wherever a value ends: a derived drop is expanded there, field by field, and makes proofs
+// long.
 impl Drop for Profiles {
     fn drop(self) {
         let Profiles {

@@ -7,11 +7,11 @@ use net_core::Side;
 use port_cells::{Cells, Counts, Draws, FlipSim, Lanes, Tally, all_lanes, port_at};
 use std::alloc::{AllocError, Global};
 
-/// Up to how many free inputs have all values: the 256 lanes of a block hold all of eight.
+/// Up to how many free inputs have all values: the 256 lanes of a block have all of eight.
 const FREE_IN_BLOCK: usize = 8;
 
-/// An assignment that is constant on cells whose signs are known, so that it is known in both circuits. The free inputs have all
-/// values, or drawn ones: those whose signs are open, or, where none is, those that share a cell.
+/// An assignment that is constant on cells whose signs are known, so that it is known in both circuits. The free inputs
+/// have all values, or drawn ones: those whose signs are open, or, where none is, those that share a cell.
 #[derive(Drop)]
 pub struct Assignment {
     patterns: Patterns,
@@ -33,8 +33,8 @@ impl Assignment {
         Assignment::of(alloc, inputs, patterns, blocks)
     }
 
-    /// The inputs of the first circuit whose signs are known have one bit: 0 or 1 on all is what few drawn assignments come
-    /// near to, and what tells the bits of two numbers that are compared.
+    /// The inputs of the first circuit whose signs are known have one bit: 0 or 1 on all is what few drawn assignments
+    /// come near to, and what tells the bits of two numbers that are compared.
     pub fn constant(
         alloc: Global,
         inputs: &Cells,
@@ -77,8 +77,8 @@ impl Assignment {
         self.is_all
     }
 
-    /// What is counted of a circuit. Where outputs are alone in their cells, inputs that are too are left out: nothing is
-    /// to be learned of them.
+    /// What is counted of a circuit. Where outputs are alone in their cells, inputs that are too are left out: nothing
+    /// is to be learned of them.
     pub fn count(
         &self,
         alloc: Global,

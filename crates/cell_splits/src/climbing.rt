@@ -8,33 +8,33 @@ use std::alloc::{AllocError, Global};
 /// The most generations. With half as many adders of 128 bits aren't guessed, and twice as many gain nothing.
 const MOST_GENERATIONS: u64 = 300;
 
-/// How many words of gates may be computed for them, a fifth of a second's (with half of that adders of 128 bits get too few
-/// generations), and how many generations there are at least, where two or 32 do as well for ten wide circuits.
+/// How many words of gates may be computed for them, a fifth of a second's (with half of that adders of 128 bits get
+/// too few generations), and how many generations there are at least, where two or 32 do as well for ten wide circuits.
 const MOST_WORDS: u64 = 1 << 28;
 
 const FEWEST_GENERATIONS: u64 = 8;
 
-/// How many generations an input adds, since each sets few right, and how many there are beside these: without the latter
-/// `content_match8x8` takes 0.7 s instead of 0.2.
+/// How many generations an input adds, since each sets few right, and how many there are beside these: without the
+/// latter `content_match8x8` takes 0.7 s instead of 0.2.
 const GENERATIONS_EACH: u64 = 2;
 
 const FIRST_GENERATIONS: u64 = 40;
 
-/// How many of 256 vectors have descendants. They stay too, as the first ones: one of the four words, so that the other three
-/// are made of it a word at a time.
+/// How many of 256 vectors have descendants. They stay too, as the first ones: one of the four words, so that the other
+/// three are made of it a word at a time.
 pub const BEST: usize = 64;
 
-/// From how many blocks the climb starts beside drawn vectors, which keep one of the four words. Without any equalities of 32
-/// and of 128 bits aren't guessed in three seconds; one block does as well.
+/// From how many blocks the climb starts beside drawn vectors, which keep one of the four words. Without any equalities
+/// of 32 and of 128 bits aren't guessed in three seconds; one block does as well.
 const MOST_STARTS: usize = 3;
 
-/// From which vector on a descendant has two inputs inverted and not one: half of those after the best have. Where all have,
-/// comparators of 64 bits take 1.5 s longer; where none has, none of 29 pairs changes.
+/// From which vector on a descendant has two inputs inverted and not one: half of those after the best have. Where all
+/// have, comparators of 64 bits take 1.5 s longer; where none has, none of 29 pairs changes.
 const FIRST_OF_TWO: usize = 160;
 
-/// 256 vectors of a circuit on which many outputs change with many inputs, far more than on drawn ones: there wide gates tell
-/// their inputs. A column for each input. The first `BEST` are the best so far, the others are made of them. The climb starts
-/// from drawn vectors and from others, which may be none, blocks of 256 with a column for each input.
+/// 256 vectors of a circuit on which many outputs change with many inputs, far more than on drawn ones: there wide
+/// gates tell their inputs. A column for each input. The first `BEST` are the best so far, the others are made of them.
+/// The climb starts from drawn vectors and from others, which may be none, blocks of 256 with a column for each input.
 ///
 /// # Errors
 ///
@@ -66,7 +66,8 @@ fn first_generation(
     Ok(vectors)
 }
 
-// What an input has on the vectors from which the climb starts: 64 of each of the first blocks, up to three, and else drawn ones.
+// What an input has on the vectors from which the climb starts: 64 of each of the first blocks, up to three, and else
+// drawn ones.
 fn start_of(input: usize, starts: &[Items<Lanes>], drawn: Lanes) -> Lanes {
     let mut words = drawn.to_array();
     for (place, block) in starts.iter().take(MOST_STARTS).enumerate() {

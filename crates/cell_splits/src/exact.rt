@@ -13,7 +13,8 @@ pub struct Keys {
     pub outputs: Vec<u64>,
 }
 
-// By hand, and so one call wherever a value ends: a derived drop is expanded there, field by field, and makes proofs long.
+// By hand, and so one call wherever a value ends: a derived drop is expanded there, field by field, and makes proofs
+// long.
 impl Drop for Keys {
     fn drop(self) {
         let Keys {
@@ -24,8 +25,9 @@ impl Drop for Keys {
 }
 
 impl Keys {
-    /// An output's literal goes by its bits, and by those that it has where an input of a cell is inverted; an input's by
-    /// the bits that the outputs of a cell have where it is inverted. Inputs that are alone in their cells tell nothing.
+    /// An output's literal goes by its bits, and by those that it has where an input of a cell is inverted; an input's
+    /// by the bits that the outputs of a cell have where it is inverted. Inputs that are alone in their cells tell
+    /// nothing.
     pub fn new(
         alloc: Global,
         state: &State,

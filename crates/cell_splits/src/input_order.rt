@@ -3,9 +3,9 @@
 use net_core::Graph;
 use std::alloc::{AllocError, Global};
 
-/// The place of each input in the order in which a search by depth meets it that begins at the first output and goes to the
-/// deeper operand first. Inputs that stand near each other there are joined by gates near the inputs, as the leaves of a tree
-/// or the bits of a chain of carries. Those that are never met come last.
+/// The place of each input in the order in which a search by depth meets it that begins at the first output and goes to
+/// the deeper operand first. Inputs that stand near each other there are joined by gates near the inputs, as the leaves
+/// of a tree or the bits of a chain of carries. Those that are never met come last.
 pub(crate) fn places_of(alloc: Global, graph: &Graph) -> Result<Vec<usize>, AllocError> {
     let mut walk = Walk::new(alloc, graph)?;
     walk.meet_all()?;
@@ -25,7 +25,8 @@ struct Walk<'a> {
     met: usize,
 }
 
-// By hand, and so one call wherever a value ends: a derived drop is expanded there, field by field, and makes proofs long.
+// By hand, and so one call wherever a value ends: a derived drop is expanded there, field by field, and makes proofs
+// long.
 impl Drop for Walk<'_> {
     fn drop(self) {
         let Walk {

@@ -4,12 +4,12 @@ use port_cells::{Lanes, bit_of, ones_in, replicated};
 use std::alloc::{AllocError, Global};
 use std::cmp::Reverse;
 
-/// How many digits a count has: more than 2^16 outputs that change with an input are counted from 0 again, which only makes
-/// a choice worse.
+/// How many digits a count has: more than 2^16 outputs that change with an input are counted from 0 again, which only
+/// makes a choice worse.
 const DIGITS: usize = 16;
 
-/// How often something was seen on each of 256 vectors, as binary counters by side: a digit of all of them is one value, so
-/// that one addition counts on all vectors.
+/// How often something was seen on each of 256 vectors, as binary counters by side: a digit of all of them is one
+/// value, so that one addition counts on all vectors.
 #[derive(Drop)]
 pub(crate) struct LaneCounts {
     digits: Vec<Lanes>,

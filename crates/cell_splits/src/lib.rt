@@ -1,4 +1,4 @@
-//! Ways to split the cells of literals that may correspond. What other values of constants do was measured as `table_guess` says.
+//! Ways to split the cells of literals that may correspond.
 #![tactic(auto)]
 
 mod anchors;

@@ -1,6 +1,6 @@
-//! How alike inputs of two circuits are by the gates that they reach. Where outputs don't tell inputs apart, as those of a
-//! parity or of a sorter, each of them may go to any other one; but that the matching is a match is shown with few clauses only
-//! where gates of both circuits have the same function by it.
+//! How alike inputs of two circuits are by the gates that they reach. Where outputs don't tell inputs apart, as those
+//! of a parity or of a sorter, each of them may go to any other one; but that the matching is a match is shown with few
+//! clauses only where gates of both circuits have the same function by it.
 
 use crate::exact::{is_shared, own_class};
 use crate::input_order::places_of;
@@ -15,11 +15,13 @@ use word_sim::mix;
 /// From how many pairs of inputs on a feature tells nothing: nearly all inputs of circuits with fewer than 64 have it.
 const MOST_PAIRS: usize = 1 << 12;
 
-/// What one feature weighs where one input has it. Where it is four times as frequent it weighs half of that. Of the greatest
-/// number of features that are compared, 2^24, the weights come to 2^40, which leaves room for `WHOLE` in 64 bits.
+/// What one feature weighs where one input has it. Where it is four times as frequent it weighs half of that. Of the
+/// greatest number of features that are compared, 2^24, the weights come to 2^40, which leaves room for `WHOLE` in 64
+/// bits.
 const WEIGHT: u64 = 1 << 16;
 
-/// How many pairs of inputs take about as long as a response: of parities of 256 inputs 12 to 14 ns each, beside 150 to 250.
+/// How many pairs of inputs take about as long as a response: of parities of 256 inputs 12 to 14 ns each, beside 150 to
+/// 250.
 const PAIRS_OF_RESPONSE: u64 = 16;
 
 /// The likeness of inputs that share each feature.
@@ -33,8 +35,8 @@ struct Response {
     hash: u64,
 }
 
-/// A hash of a gate's class and of its response to an input. Inputs that go to each other share those of the gates that both
-/// circuits have.
+/// A hash of a gate's class and of its response to an input. Inputs that go to each other share those of the gates that
+/// both circuits have.
 #[derive(Clone, Copy, Drop, PartialEq, Eq, PartialOrd, Ord)]
 struct Feature {
     hash: u64,
@@ -47,12 +49,13 @@ struct Responses {
     /// A number for each gate, equal for gates of both circuits that have one function: a hash of its bits and of its
     /// responses to all inputs by their cells. A gate and its complement have the same.
     classes: Vec<u64>,
-    /// Whether signs are open. Then it isn't known what inputs of the other circuit have on a vector, and gates go by the
-    /// inputs that reach them alone.
+    /// Whether signs are open. Then it isn't known what inputs of the other circuit have on a vector, and gates go by
+    /// the inputs that reach them alone.
     is_open: bool,
 }
 
-// By hand, and so one call wherever a value ends: a derived drop is expanded there, field by field, and makes proofs long.
+// By hand, and so one call wherever a value ends: a derived drop is expanded there, field by field, and makes proofs
+// long.
 impl Drop for Responses {
     fn drop(self) {
         let Responses {
@@ -87,8 +90,8 @@ impl Responses {
         Ok(found)
     }
 
-    // Adds the responses to an input. Going by the words of the bits that tell which gates it reaches gained nothing on counts and
-    // parities of 128 and 256 inputs.
+    // Adds the responses to an input. Going by the words of the bits that tell which gates it reaches gained nothing on
+    // counts and parities of 128 and 256 inputs.
     fn add_input(
         &mut self,
         cells: &[usize],
@@ -199,11 +202,13 @@ pub struct Likeness {
     first_places: Vec<usize>,
     /// Of the second circuit.
     second_places: Vec<usize>,
-    /// How many responses of gates to inputs were compared, with a sixteenth of the pairs of inputs, which take about as long.
+    /// How many responses of gates to inputs were compared, with a sixteenth of the pairs of inputs, which take about
+    /// as long.
     responses: u64,
 }
 
-// By hand, and so one call wherever a value ends: a derived drop is expanded there, field by field, and makes proofs long.
+// By hand, and so one call wherever a value ends: a derived drop is expanded there, field by field, and makes proofs
+// long.
 impl Drop for Likeness {
     fn drop(self) {
         let Likeness {
@@ -219,7 +224,8 @@ impl Drop for Likeness {
 }
 
 impl Likeness {
-    /// Compares the inputs that aren't alone in their cells, by what gates do on drawn vectors that are constant on cells.
+    /// Compares the inputs that aren't alone in their cells, by what gates do on drawn vectors that are constant on
+    /// cells.
     ///
     /// # Errors
     ///
@@ -294,8 +300,8 @@ impl Likeness {
         self.responses
     }
 
-    /// How alike an input of the first circuit and one of the second are: which part the features that they share have of those
-    /// that they could share. Of pairs that are alike in that those come first whose places are nearest.
+    /// How alike an input of the first circuit and one of the second are: which part the features that they share have
+    /// of those that they could share. Of pairs that are alike in that those come first whose places are nearest.
     pub fn of(&self, mine: usize, its: usize) -> (u64, Reverse<usize>) {
         let row = mine.saturating_mul(self.inputs);
         let shared = at(&self.shared, row.saturating_add(its));
@@ -331,8 +337,8 @@ fn alike(features: &[Feature], from: usize, hash: u64) -> &[Feature] {
     }
 }
 
-// What a feature weighs that this many inputs of both circuits have: about as much as the inverse of the number's square root, and
-// not less than 1.
+// What a feature weighs that this many inputs of both circuits have: about as much as the inverse of the number's
+// square root, and not less than 1.
 fn weight_of(inputs: usize) -> u64 {
     let digits = 64u32.saturating_sub((inputs as u64).leading_zeros());
     WEIGHT >> (digits / 2).min(16)

@@ -20,8 +20,9 @@ pub struct Link<'a> {
 }
 
 impl<'a> Link<'a> {
-    /// Splits outputs by the cells of inputs, and inputs by those of outputs, until nothing splits. None where a cell has other
-    /// numbers of literals on both sides then. Outputs come first, since how often they are true tells them apart by itself.
+    /// Splits outputs by the cells of inputs, and inputs by those of outputs, until nothing splits. None where a cell
+    /// has other numbers of literals on both sides then. Outputs come first, since how often they are true tells them
+    /// apart by itself.
     pub fn split(self, alloc: Global, state: State) -> Result<Option<State>, AllocError> {
         let mut state = state;
         // each turn but the last splits a cell

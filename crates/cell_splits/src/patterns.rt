@@ -1,4 +1,5 @@
-//! Vectors that are constant on cells of inputs, so that it is known which vectors of the other circuit they correspond to.
+//! Vectors that are constant on cells of inputs, so that it is known which vectors of the other circuit they correspond
+//! to.
 
 use net_core::Side;
 use port_cells::{Cells, Draws, FlipSim, Lanes, bit_of, replicated};
@@ -14,8 +15,9 @@ pub struct Patterns {
 }
 
 impl Patterns {
-    /// Drawn vectors, 64 of each kind: even ones, mostly 0, mostly 1, and all but a port or two of one value. Wide gates tell
-    /// their inputs only by the last three. Mostly is seven of eight; three of four or 15 of 16 change none of 29 pairs.
+    /// Drawn vectors, 64 of each kind: even ones, mostly 0, mostly 1, and all but a port or two of one value. Wide
+    /// gates tell their inputs only by the last three. Mostly is seven of eight; three of four or 15 of 16 change none
+    /// of 29 pairs.
     pub fn draw(alloc: Global, inputs: &Cells, draws: &mut Draws) -> Result<Patterns, AllocError> {
         let mut patterns = Patterns {
             cells: vec![in alloc; replicated(false); inputs.count()]?,
@@ -33,7 +35,8 @@ impl Patterns {
         Ok(patterns)
     }
 
-    /// Vectors by what each input of the first circuit has. Where a cell has more than one of them, the last one decides.
+    /// Vectors by what each input of the first circuit has. Where a cell has more than one of them, the last one
+    /// decides.
     pub fn of_inputs(
         alloc: Global,
         inputs: &Cells,
@@ -64,8 +67,8 @@ impl Patterns {
         Ok(patterns)
     }
 
-    /// All inputs of the first circuit have one bit. Where cells have a literal and another one's complement the last one
-    /// decides.
+    /// All inputs of the first circuit have one bit. Where cells have a literal and another one's complement the last
+    /// one decides.
     pub fn constant(alloc: Global, inputs: &Cells, bit: bool) -> Result<Patterns, AllocError> {
         let mut patterns = Patterns {
             cells: vec![in alloc; replicated(false); inputs.count()]?,
@@ -76,8 +79,8 @@ impl Patterns {
         Ok(patterns)
     }
 
-    /// One bit for each cell: the one that most of its literals have on a vector of the first circuit, which is a lane of its
-    /// inputs' bits.
+    /// One bit for each cell: the one that most of its literals have on a vector of the first circuit, which is a lane
+    /// of its inputs' bits.
     pub fn by_majority(
         alloc: Global,
         inputs: &Cells,

@@ -8,29 +8,30 @@ use std::alloc::{AllocError, Global};
 /// On how many blocks of 256 drawn vectors gates are looked at first. A fourth of them does as well for 29 pairs.
 const DRAWN_BLOCKS: u32 = 16;
 
-/// A value is rare that a gate has on fewer vectors, of these 4,096. The inputs of an AND are faint where it is 1 on less than
-/// one vector of 2,048, since on twice as many it changes with an input: four times as many allow for chance. A fourth or four
-/// times as many change none of 29 pairs.
+/// A value is rare that a gate has on fewer vectors, of these 4,096. The inputs of an AND are faint where it is 1 on
+/// less than one vector of 2,048, since on twice as many it changes with an input: four times as many allow for chance.
+/// A fourth or four times as many change none of 29 pairs.
 const FEW_VECTORS: u32 = 8;
 
-/// From how many gates walks begin at most, which bounds their words by those that counting all vectors may take. Where a wide
-/// gate near the outputs has its rare value those below it have theirs too, mostly; two walks do as well for 29 pairs.
+/// From how many gates walks begin at most, which bounds their words by those that counting all vectors may take. Where
+/// a wide gate near the outputs has its rare value those below it have theirs too, mostly; two walks do as well for 29
+/// pairs.
 const MOST_WALKS: usize = 8;
 
-/// How many steps an input adds to a walk, and how many there are beside these. A drawn vector has half of the inputs of an AND
-/// wrong, and a step sets one right, so that this is four times what that takes; what is beside it is for few inputs, and
-/// wasn't tuned.
+/// How many steps an input adds to a walk, and how many there are beside these. A drawn vector has half of the inputs
+/// of an AND wrong, and a step sets one right, so that this is four times what that takes; what is beside it is for few
+/// inputs, and wasn't tuned.
 const STEPS_EACH: u64 = 2;
 
 const FIRST_STEPS: u64 = 40;
 
-/// How many words of gates a walk may compute, about a thirtieth of a second's: all walks then take no more than counting all
-/// vectors may. One of 3,054 gates and 256 inputs (`drawn256`) may have all its steps; half and twice change neither `equal128`
-/// nor `adder128`.
+/// How many words of gates a walk may compute, about a thirtieth of a second's: all walks then take no more than
+/// counting all vectors may. One of 3,054 gates and 256 inputs (`drawn256`) may have all its steps; half and twice
+/// change neither `equal128` nor `adder128`.
 const MOST_WORDS: u64 = 1 << 24;
 
-/// Blocks of 256 vectors, a column for each input, on most of which a gate has a value that it has on hardly any of some thousand
-/// drawn vectors. Few gates that have such a value are tried, those nearest to the outputs first.
+/// Blocks of 256 vectors, a column for each input, on most of which a gate has a value that it has on hardly any of
+/// some thousand drawn vectors. Few gates that have such a value are tried, those nearest to the outputs first.
 ///
 /// # Errors
 ///
@@ -125,9 +126,9 @@ fn rare_value(gate: usize, seen: &[Seen]) -> Option<bool> {
     Some(values.ones < values.zeros)
 }
 
-// Inverts one input after another on each vector until a gate has a value on all of them, a bounded number. Each input is where
-// a path ends that begins at the gate and goes from wrong values on to those of operands by which they are wrong, as in
-// WalkSAT (Selman, Kautz and Cohen, 1994), and as values are justified where tests are made.
+// Inverts one input after another on each vector until a gate has a value on all of them, a bounded number. Each input
+// is where a path ends that begins at the gate and goes from wrong values on to those of operands by which they are
+// wrong, as in WalkSAT (Selman, Kautz and Cohen, 1994), and as values are justified where tests are made.
 fn walk(
     gate: usize,
     bit: bool,
@@ -171,8 +172,8 @@ fn lead_on(gate: usize, simulator: &FlipSim<'_>, paths: &mut [Lanes], draws: &mu
     }
 }
 
-// The vectors on which the path goes through a gate go on to one of its operands: to the one that is 0 where the other one is 1,
-// else to a drawn one.
+// The vectors on which the path goes through a gate go on to one of its operands: to the one that is 0 where the other
+// one is 1, else to a drawn one.
 fn descend(gate: usize, simulator: &FlipSim<'_>, paths: &mut [Lanes], draws: &mut Draws) {
     let on = take_path(gate_signal(gate, simulator), paths);
     if ones_in(on) == 0 {

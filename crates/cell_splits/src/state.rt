@@ -11,7 +11,8 @@ pub struct State {
     pub outputs: Cells,
 }
 
-// By hand, and so one call wherever a value ends: a derived drop is expanded there, field by field, and makes proofs long.
+// By hand, and so one call wherever a value ends: a derived drop is expanded there, field by field, and makes proofs
+// long.
 impl Drop for State {
     fn drop(self) {
         let State {

@@ -17,7 +17,7 @@ pub record IsShownTrail (graphs : Graphs) (known : Known) (bans : List Ban) (dom
   pub trail : IsTrail graphs bans domains
   pub shown : AreGrounded graphs (map decided_by known.facts) domains.entries
 
--- Entries came at the end, none of which holds a pair, and no more is left than before.
+-- Entries came at the end, none of which assigns a pair, and no more is left than before.
 pub record OnlyDeletes (before after : Domained) : Type 0 where
   pub inputs : after.inputs ≡ before.inputs
   pub outputs : after.outputs ≡ before.outputs
@@ -26,14 +26,14 @@ pub record OnlyDeletes (before after : Domained) : Type 0 where
   pub held : held_in after.entries ≡ held_in before.entries
   pub less : left after ≤ left before
 
--- Bans came after those that were held, none by a vector. Where those before were valid in view of these facts, all are.
+-- Bans came after those that were kept, none by a vector. Where those before were valid in view of these facts, all are.
 pub record AddsShown (graphs : Graphs) (facts : List Decided) (before after : List Ban) : Type 0 where
   pub added : List Ban
   pub more : after ≡ before ++ added
   pub no_vector : AddsNoVector added
   pub valid : AreValidBans graphs facts before → AreValidBans graphs facts after
 
--- Pairs are deleted, each by what follows, and bans are held that facts and other bans show.
+-- Pairs are deleted, each by what follows, and bans are made that facts and other bans show.
 pub record Refines (graphs : Graphs) (facts : List Decided) (bans more : List Ban) (before after : Domained) : Type 0 where
   pub adds : AddsShown graphs facts bans more
   pub deletes : OnlyDeletes before after

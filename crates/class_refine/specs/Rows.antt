@@ -48,7 +48,7 @@ pub record AreInputs (graphs : Graphs) (pairs : List Pair) : Type 0 where
   pub ordered : AreOrdered pairs
   pub inputs : All (λ pair. pair.kind ≡ Input) pairs
 
--- The held pairs of inputs, in order.
+-- The assigned pairs of inputs, in order.
 pub record AreInputsOf (held pairs : List Pair) : Type 0 where
   pub part : IsPart held pairs
   pub inputs : All (λ pair. pair.kind ≡ Input) pairs

@@ -1,4 +1,4 @@
--- Pairs that are settled one after the other: each is deleted, or nothing excludes it beside the held ones.
+-- Pairs that are settled one after the other: each is deleted, or nothing excludes it beside the assigned ones.
 use Rattle.std.specs.Prelude.{◌⊎◌, ℕ, List, ◌∷◌, Option, Result, IfNone, IfOk, IfSome}
 use Rattle.circuits.specs.declared.port.Pair.{Pair}
 use Rattle.account_core.specs.Covers.{IsImpossible}
@@ -17,7 +17,7 @@ use Rattle.class_refine.specs.Rows.{AreGrounds, AreInputsOf, ShowNothingAt, deci
 use Rattle.class_refine.specs.Stable.{AreClean, HaveNoBan, HaveNoSwapMismatch}
 use Rattle.class_refine.specs.Refining.{Refines}
 
--- The grounds show nothing of the held pairs, of which they have the inputs'; nor is a ban within them.
+-- The grounds show nothing of the assigned pairs, of which they have the inputs'; nor is a ban within them.
 pub record MaySettle (grounds : Grounds) (bans : List Ban) (domains : Domained) : Type 0 where
   pub are : AreGrounds grounds
   pub inputs_are : AreInputsOf (held_in domains.entries) grounds.inputs.now
@@ -26,12 +26,12 @@ pub record MaySettle (grounds : Grounds) (bans : List Ban) (domains : Domained) 
   pub no_ban : HaveNoBan bans (held_in domains.entries)
   pub trail : IsTrail grounds.graphs.now bans domains
 
--- A pair clashes with no held one, and nothing excludes it beside them.
+-- A pair clashes with no assigned one, and nothing excludes it beside them.
 pub record IsClear (grounds : Grounds) (bans : List Ban) (held : List Pair) (pair : Pair) : Type 0 where
   pub possible : IsImpossible held pair → ⊥
   pub clean : AreClean grounds.graphs.now (decided grounds) bans (pair ∷ held)
 
--- a reason that stands excludes a pair beside the held ones, or a ban that facts show
+-- a reason that stands excludes a pair beside the assigned ones, or a ban that facts show
 abbrev pub Excludes : Grounds → List Ban → List Pair → Pair → Exclusion → Type 0
 Excludes grounds bans held pair (exclusion.Known why) =
     AreNamed bans held pair why × IsGrounded grounds.graphs.now (decided grounds) pair (Deleted why)
@@ -41,13 +41,13 @@ Excludes grounds bans held pair (exclusion.Shown ban) = IsShownBan grounds.graph
 abbrev pub IsSettled : Grounds → List Ban → Domained → Pair → Type 0
 IsSettled grounds bans domains pair = IsDeleted domains.entries pair ⊎ IsClear grounds bans (held_in domains.entries) pair
 
--- No ban is within the held pairs, what was settled is, and so are these pairs.
+-- No ban is within the assigned pairs, what was settled is, and so are these pairs.
 pub record Settled (grounds : Grounds) (bans more : List Ban) (before after : Domained) (these : Pair → Type 0) : Type 0 where
   pub no_ban : HaveNoBan more (held_in after.entries)
   pub kept : (pair : Pair) → IsSettled grounds bans before pair → IsSettled grounds more after pair
   pub settled : (pair : Pair) → these pair → IsSettled grounds more after pair
 
--- What settling pairs does: they are settled, unless a ban is answered that is within the held pairs.
+-- What settling pairs does: they are settled, unless a ban is answered that is within the assigned pairs.
 pub record Settles {E : Type 0} (grounds : Grounds) (bans more : List Ban) (before after : Domained) (these : Pair → Type 0)
     (result : Result (Option ℕ) E) : Type 0 where
   pub refines : Refines grounds.graphs.now (decided grounds) bans more before after

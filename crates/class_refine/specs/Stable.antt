@@ -1,5 +1,5 @@
--- What refining comes to: nothing that is held or told excludes any pair that remains (arc consistency: Mackworth, Artif. Intell.
--- 1977; functional properties of ports: Katebi and Markov, DATE 2010).
+-- What refining comes to: no ban and no fact excludes any pair that remains (arc consistency: Mackworth, Artif. Intell. 1977; functional properties of ports:
+-- Katebi and Markov, DATE 2010).
 use Rattle.std.specs.Prelude.{ℕ, ◌<◌, ⊤, List, [], ◌∷◌, length, All}
 use Rattle.circuits.specs.declared.port.Pair.{Pair}
 use Rattle.circuits.specs.declared.port.PortKind.{PortKind}
@@ -53,7 +53,7 @@ pub record AreClean (graphs : Graphs) (facts : List Decided) (bans : List Ban) (
   pub no_facts : HaveNoFacts graphs facts pairs
   pub no_swap : HaveNoSwapMismatch graphs facts pairs
 
--- A pair isn't deleted: it is open, or held.
+-- A pair isn't deleted: it is open, or assigned.
 pub record Remains (domains : Domained) (pair : Pair) : Type 0 where
   pub known : IsPairOf domains.inputs domains.outputs pair
   pub left : IsDeleted domains.entries pair → ⊥
@@ -64,8 +64,8 @@ pub record HasLeft (domains : Domained) (side : Side) (kind : PortKind) (port : 
   pub of_port : IsOf side kind port pair
   pub remains : Remains domains pair
 
--- The claims of one input are decided, and nothing excludes the held pairs. Each pair that isn't deleted clashes with no held one,
--- and nothing excludes it beside them. Each port has one.
+-- The claims of one input are decided, and nothing excludes the assigned pairs. Each pair that isn't deleted clashes with no assigned one, and nothing excludes
+-- it beside them. Each port has one.
 pub record IsStable (graphs : Graphs) (facts : List Decided) (bans : List Ban) (domains : Domained) : Type 0 where
   pub decided : AreOutputsDecided graphs facts
   pub alone : AreClean graphs facts bans (held_in domains.entries)
@@ -75,7 +75,7 @@ pub record IsStable (graphs : Graphs) (facts : List Decided) (bans : List Ban) (
       → port < ports_of domains.inputs domains.outputs kind
       → HasLeft domains side kind port
 
--- it is stable, or a ban is within the held pairs
+-- it is stable, or a ban is within the assigned pairs
 abbrev pub IsRefined : Graphs → List Decided → List Ban → Domained → Refined → Type 0
 IsRefined graphs facts bans domains refined.Stable = IsStable graphs facts bans domains
 IsRefined graphs facts bans domains (refined.Dead number) = Covers bans (held_in domains.entries) number

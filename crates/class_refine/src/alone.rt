@@ -1,4 +1,4 @@
-//! Bans that are within the held pairs alone.
+//! Bans that are within the assigned pairs alone.
 
 ghost use Rattle.std.specs.Prelude.{◌≡◌, IfNone, IfOk, IfSome};
 ghost use Rattle.ban_book.specs.Covering.{Covers};
@@ -14,7 +14,8 @@ use ban_book::BanBook;
 use circuits::Pair;
 use std::alloc::{AllocError, Global};
 
-/// The number of a ban within the held pairs: one that was held, or that decided claims show of them, which is held now.
+/// The number of a ban within the assigned pairs: one of the book, or one that decided claims show of them, which is
+/// made here.
 pub(crate) fn exclude_held(
     alloc: Global,
     grounds: &Grounds<'_>,
@@ -29,7 +30,8 @@ pub(crate) fn exclude_held(
     ensures no_ban { IfOk result (λ dead. IfNone dead (HaveNoBan book.new held.now)) }
     ensures no_facts { IfOk result (λ dead. IfNone dead
         (ShowNothingAt grounds.now.graphs.now (decided grounds.now) grounds.now.inputs.now held.now)) }
-    ensures no_swap { IfOk result (λ dead. IfNone dead (HaveNoSwapMismatch grounds.now.graphs.now (decided grounds.now) held.now)) }
+    ensures no_swap { IfOk result
+        (λ dead. IfNone dead (HaveNoSwapMismatch grounds.now.graphs.now (decided grounds.now) held.now)) }
 {
     if let Some(number) = book.covering(held) {
         return Ok(Some(number));
@@ -40,7 +42,8 @@ pub(crate) fn exclude_held(
     }
 }
 
-// That of one that decided claims of two inputs show of them, which is held now. Where there is none, bans stay.
+// The number of a ban within the assigned pairs that decided claims of two inputs show, which is made here. Where they
+// show none, the bans stay as they are.
 fn exclude_by_swaps(
     alloc: Global,
     grounds: &Grounds<'_>,
@@ -52,7 +55,8 @@ fn exclude_by_swaps(
     ensures adds { AddsShown grounds.now.graphs.now (decided grounds.now) book.old book.new }
     ensures found { IfOk result (λ dead. IfSome dead (Covers book.new held.now)) }
     ensures same { IfOk result (λ dead. IfNone dead (book.new ≡ book.old)) }
-    ensures no_swap { IfOk result (λ dead. IfNone dead (HaveNoSwapMismatch grounds.now.graphs.now (decided grounds.now) held.now)) }
+    ensures no_swap { IfOk result
+        (λ dead. IfNone dead (HaveNoSwapMismatch grounds.now.graphs.now (decided grounds.now) held.now)) }
 {
     let Some(ban) = swap_ban(alloc, grounds, held)? else {
         return Ok(None);

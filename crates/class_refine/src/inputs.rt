@@ -1,4 +1,4 @@
-//! The held pairs of inputs.
+//! The assigned pairs of inputs.
 
 ghost use Rattle.std.specs.Prelude.{◌≡◌, All, AllPairs, Contains, IfOk, OnOk};
 ghost use Rattle.circuits.specs.declared.port.PortKind.TheVariants.{Input as InputKind};
@@ -9,7 +9,7 @@ use ban_book::cover::add_one;
 use circuits::{Pair, PortKind};
 use std::alloc::{AllocError, Global};
 
-/// The held pairs of inputs, in the order that bans have.
+/// The assigned pairs of inputs, in the order that bans have.
 pub(crate) fn inputs_of(alloc: Global, held: &[Pair]) -> Result<Vec<Pair>, AllocError>
     requires apart { AllPairs AreApart held.now }
     ensures { IfOk result (λ inputs. AreInputsOf held.now inputs.items) }
@@ -21,7 +21,7 @@ pub(crate) fn inputs_of(alloc: Global, held: &[Pair]) -> Result<Vec<Pair>, Alloc
     Ok(inputs)
 }
 
-// Adds a held pair to those of inputs, if it is one.
+// Adds an assigned pair to those of inputs, if it is one.
 fn add_input(inputs: &mut Vec<Pair>, held: &[Pair], pair: Pair) -> Result<(), AllocError>
     requires part { IsPart held.now inputs.old.items }
     requires inputs { All (λ other. other.kind ≡ InputKind) inputs.old.items }

@@ -1,4 +1,4 @@
-//! The signed pairs of two circuits, each open, held or deleted, and refining them until nothing that is held or told
+//! The signed pairs of two circuits, each open, assigned or deleted, and refining them until no ban and no fact
 //! excludes one that isn't deleted.
 #![tactic(auto)]
 

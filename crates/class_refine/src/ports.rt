@@ -19,7 +19,8 @@ use pair_domains::Domains;
 use pair_search::{Impasse, Mismatches, Port, conflict_of, way_of};
 use std::alloc::{AllocError, Global};
 
-/// Holds the ban that says that a port has no way left beside the held pairs, if there is such a port, and answers its number.
+/// Makes the ban that says that a port has no way left beside the assigned pairs, if there is such a port, and answers
+/// its number.
 pub(crate) fn cover_empty(
     alloc: Global,
     graphs: &PairableGraphs<'_>,
@@ -40,7 +41,7 @@ pub(crate) fn cover_empty(
     }
 }
 
-// Holds the ban for a port of which all ways are deleted, and answers its number.
+// Makes the ban for a port of which all ways are deleted, and answers its number.
 fn cover(
     alloc: Global,
     graphs: &PairableGraphs<'_>,
@@ -73,7 +74,7 @@ fn empty_port(domains: &Domains) -> Option<Port>
     }
 }
 
-// That of a circuit.
+// The first port of a circuit of which all ways are deleted.
 fn empty_port_on(domains: &Domains, side: Side) -> Option<Port>
     ensures found { IfSome result (HasNoWay domains.now) }
     ensures none { IfNone result ((kind : AnyKind) (port : ℕ)
@@ -86,7 +87,7 @@ fn empty_port_on(domains: &Domains, side: Side) -> Option<Port>
     }
 }
 
-// That of a circuit and a kind.
+// The first port of a kind in a circuit of which all ways are deleted.
 fn empty_port_of(domains: &Domains, side: Side, kind: PortKind) -> Option<Port>
     ensures found { IfSome result (HasNoWay domains.now) }
     ensures none { IfNone result ((port : ℕ)

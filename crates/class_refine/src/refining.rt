@@ -28,16 +28,17 @@ use oracle_core::Oracle;
 use pair_domains::Domains;
 use std::alloc::{AllocError, Global};
 
-/// Deletes, of two circuits' pairs, each that can't stand beside the held ones, until nothing excludes one that isn't
-/// deleted: it clashes with no held pair, no ban of the book is within them and it, and no mismatch and no tally is valid
-/// for them and it. The claims of one input of all outputs are decided first; of claims of two inputs only those count
-/// that are decided already. Each deletion has a reason, of which `deletion_of` finds or makes the ban, and no pair is
-/// held, so that one pass is enough.
+/// Deletes each pair of two circuits that can't stand beside the assigned ones, until nothing excludes one that isn't
+/// deleted: it clashes with no assigned pair, no ban of the book is within them and it, and no mismatch and no tally is
+/// valid for them and it. The claims of one input of all outputs are decided first; of claims of two inputs only those
+/// count that are decided already. Each deletion has a reason, of which `deletion_of` finds or makes the ban. No pair
+/// is assigned meanwhile, so that one pass is enough.
 ///
-/// Where a ban is within the held pairs alone, or a port has no way left, its ban is answered, and the pass ends there.
+/// Where a ban is within the assigned pairs alone, or a port has no way left, its ban is answered, and the pass ends
+/// there.
 ///
-/// It is complete, and expensive for it: each way is tried against all bans, all held pairs, and all facts of two inputs.
-/// The search propagates more cheaply, and refines whole matchings alone, of which no way is left to try.
+/// It is complete, and expensive for it: each way is tried against all bans, all assigned pairs, and all facts of two
+/// inputs. The search propagates more cheaply, and refines whole matchings alone, of which no way is left to try.
 ///
 /// # Errors
 ///
@@ -100,8 +101,8 @@ fn refine_by<'a>(
     }
 }
 
-// The number of a ban within the held pairs, where there is one that is in the book, that facts show, or that is found as pairs
-// are settled.
+// The number of a ban within the assigned pairs, where there is one that is in the book, that facts show, or that is
+// found as pairs are settled.
 fn exclude(
     alloc: Global,
     grounds: &Grounds<'_>,
@@ -117,7 +118,7 @@ fn exclude(
     ensures stable { IfOk result (λ dead. IfNone dead
         (IsStable grounds.now.graphs.now (decided grounds.now) book.new domains.new)) }
 {
-    // held pairs are of ports that exist, and share none
+    // assigned pairs are of ports that exist, and share none
     let _lawful = domains.entries();
     match exclude_held(alloc, grounds, domains.pairs(), book)? {
         Some(ban) => Ok(Some(ban)),
@@ -125,7 +126,8 @@ fn exclude(
     }
 }
 
-// That of one that is found as pairs are settled, or of a port that then has no way left.
+// Settles all pairs, and then looks for a port that has no way left. Answers the number of a ban within the assigned
+// pairs, where one is found.
 fn exclude_beside(
     alloc: Global,
     grounds: &Grounds<'_>,
@@ -139,7 +141,7 @@ fn exclude_beside(
     ensures stable { IfOk result (λ dead. IfNone dead
         (IsStable grounds.now.graphs.now (decided grounds.now) book.new domains.new)) }
 {
-    // held pairs are of ports that exist, and share none
+    // assigned pairs are of ports that exist, and share none
     let _lawful = domains.entries();
     match settle_all(alloc, grounds, domains, book)? {
         Some(ban) => Ok(Some(ban)),

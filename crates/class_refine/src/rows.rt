@@ -25,7 +25,8 @@ pub(crate) struct Rows {
     pub(crate) swaps: IndexMap<Claim, u64>,
 }
 
-// By hand, and so one call wherever a value ends: a derived drop is expanded there, field by field, and makes proofs long.
+// By hand, and so one call wherever a value ends: a derived drop is expanded there, field by field, and makes proofs
+// long.
 impl Drop for Rows {
     fn drop(self) {
         let Rows {
@@ -36,8 +37,8 @@ impl Drop for Rows {
     }
 }
 
-/// Has the claims of one input of all outputs decided. Each output has to go to one of the other circuit, so that none of them is
-/// decided in vain.
+/// Has the claims of one input of all outputs decided. Each output has to go to one of the other circuit, so that none
+/// of them is decided in vain.
 pub(crate) fn rows_of<O: Oracle>(
     graphs: &PairableGraphs<'_>,
     asker: &mut Asker<'_, O>,
@@ -59,7 +60,7 @@ pub(crate) fn rows_of<O: Oracle>(
     })
 }
 
-// Has those of one circuit decided.
+// Has the claims of one input of all outputs of one circuit decided.
 fn side_rows<O: Oracle>(
     graphs: &PairableGraphs<'_>,
     asker: &mut Asker<'_, O>,

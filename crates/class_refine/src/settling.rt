@@ -1,4 +1,4 @@
-//! Settling pairs: each is deleted, or nothing excludes it beside the held ones.
+//! Settling pairs: each is deleted, or nothing excludes it beside the assigned ones.
 
 ghost use Rattle.std.specs.Prelude.{◌≡◌, ◌<◌, ◌∷◌, IfNone, IfOk, IfSome, List};
 ghost use Rattle.account_core.specs.declared.step.Ban.{Ban as AnyBan};
@@ -25,17 +25,17 @@ use pair_domains::{Domains, Reason};
 use pair_search::{Port, way_of};
 use std::alloc::{AllocError, Global};
 
-/// What excludes a pair beside the held ones.
+/// What excludes a pair beside the assigned ones.
 #[derive(Debug, Drop)]
 pub(crate) enum Exclusion {
-    /// A held pair that it clashes with, or a ban that is held.
+    /// An assigned pair that it clashes with, or a ban of the book.
     Known(Reason),
-    /// A ban that decided claims show, which isn't held yet.
+    /// A ban that decided claims show, which isn't in the book yet.
     Shown(Ban),
 }
 
-/// Settles all pairs, unless a ban within the held ones is found. It answers that one's number. Which kind comes first is free: no pair
-/// is held meanwhile, so that one that is deleted excludes no other.
+/// Settles all pairs, unless a ban within the assigned ones is found, whose number is answered then. Which kind comes
+/// first is free: no pair is assigned meanwhile, so that a pair that is deleted excludes no other.
 pub(crate) fn settle_all(
     alloc: Global,
     grounds: &Grounds<'_>,
@@ -84,7 +84,8 @@ fn settle_port(
     requires may { MaySettle grounds.now book.old domains.old }
     requires from { from < ports_of domains.old.inputs domains.old.outputs kind }
     ensures { Settles grounds.now book.old book.new domains.old domains.new
-        (λ pair. (pair.kind ≡ kind) × (pair.from ≡ from) × IsPairOf domains.old.inputs domains.old.outputs pair) result }
+        (λ pair. (pair.kind ≡ kind) × (pair.from ≡ from)
+        × IsPairOf domains.old.inputs domains.old.outputs pair) result }
 {
     let port = Port {
         side: Side::First,
@@ -101,7 +102,7 @@ fn settle_port(
     Ok(None)
 }
 
-// Settles a pair. One that is held or deleted is settled.
+// Settles a pair. One that is assigned or deleted is settled.
 fn settle(
     alloc: Global,
     grounds: &Grounds<'_>,
@@ -114,7 +115,7 @@ fn settle(
     ensures { Settles grounds.now book.old book.new domains.old domains.new
         (λ pair. pair ≡ way) result }
 {
-    // held pairs are of ports that exist, and share none
+    // assigned pairs are of ports that exist, and share none
     let _lawful = domains.entries();
     match domains.fate(way) {
         Some(_) => Ok(None),
@@ -145,8 +146,8 @@ fn settle_open(
     }
 }
 
-// What excludes a pair beside the held ones: one that it clashes with, a held ban, or a ban that decided claims show, of one
-// input first. So what needs no new ban is found first, and then the bans of the fewest pairs.
+// What excludes a pair beside the assigned ones: one that it clashes with, a ban of the book, or a ban that decided
+// claims show, of one input first. So what needs no new ban is found first, and then the bans of the fewest pairs.
 fn exclusion_of(
     alloc: Global,
     grounds: &Grounds<'_>,
@@ -161,7 +162,7 @@ fn exclusion_of(
     ensures none { IfOk result (λ found. IfNone found
         (IsClear grounds.now book.now (held_in domains.now.entries) way)) }
 {
-    // held pairs are of ports that exist, and share none
+    // assigned pairs are of ports that exist, and share none
     let _lawful = domains.entries();
     let held = domains.pairs();
     if let Some(with) = clashing(held, way) {
@@ -180,8 +181,8 @@ fn exclusion_of(
     }
 }
 
-// Holds a ban that facts show, and deletes the pair that it excludes beside the held ones. A ban that is within these alone is
-// answered.
+// Makes a ban that facts show, and deletes the pair that it excludes beside the assigned ones. A ban that is within
+// these alone is answered.
 fn delete_by(
     domains: &mut Domains,
     way: Pair,
@@ -204,7 +205,7 @@ fn delete_by(
     Ok(None)
 }
 
-// Deletes a pair that clashes with a held one, or that a held ban excludes beside them.
+// Deletes a pair that clashes with an assigned one, or that a ban of the book excludes beside them.
 fn delete(domains: &mut Domains, way: Pair, reason: Reason) -> Result<Option<u64>, AllocError>
     requires known { IsPairOf domains.old.inputs domains.old.outputs way }
     requires open { IsOpen domains.old.entries way }

@@ -1,4 +1,4 @@
-//! Bans of held pairs that decided claims show.
+//! Bans of assigned pairs that decided claims show.
 
 ghost use Rattle.std.specs.Prelude.{◌≡◌, [], ◌∷◌, ◌++◌, All, IfNone, IfOk, IfSome};
 ghost use Rattle.circuits.specs.declared.port.PortKind.TheVariants as AnyKind;
@@ -15,8 +15,8 @@ use ban_book::ban_by_facts;
 use circuits::{Pair, PortKind};
 use std::alloc::{AllocError, Global};
 
-/// The ban that decided claims show of a way beside the held pairs, of which they show none: of an input's with each held
-/// output's, of an output's with all held inputs'.
+/// The ban that decided claims show of a way beside the assigned pairs, of which they show none: of an input's with
+/// each assigned output's, of an output's with all assigned inputs'.
 pub(crate) fn way_ban(
     alloc: Global,
     grounds: &Grounds<'_>,
@@ -28,8 +28,10 @@ pub(crate) fn way_ban(
     requires inputs { AreInputsOf held.now grounds.now.inputs.now }
     requires alone { ShowNothingAt grounds.now.graphs.now (decided grounds.now) grounds.now.inputs.now held.now }
     requires known { IsKnown grounds.now.graphs.now way }
-    ensures shown { IfOk result (λ found. IfSome found (IsShownBan grounds.now.graphs.now (decided grounds.now) (way ∷ held.now))) }
-    ensures none { IfOk result (λ found. IfNone found (HaveNoFacts grounds.now.graphs.now (decided grounds.now) (way ∷ held.now))) }
+    ensures shown { IfOk result
+        (λ found. IfSome found (IsShownBan grounds.now.graphs.now (decided grounds.now) (way ∷ held.now))) }
+    ensures none { IfOk result
+        (λ found. IfNone found (HaveNoFacts grounds.now.graphs.now (decided grounds.now) (way ∷ held.now))) }
 {
     match way.kind {
         PortKind::Input => held_ban(alloc, grounds, held, &[way]),
@@ -60,7 +62,7 @@ pub(crate) fn held_ban(
     Ok(None)
 }
 
-// That of pairs of inputs and another pair, if it is of an output.
+// The ban that decided claims show of pairs of inputs and another pair, if that is of an output.
 fn pair_ban(
     alloc: Global,
     grounds: &Grounds<'_>,
@@ -73,7 +75,8 @@ fn pair_ban(
     ensures shown { IfOk result (λ found. IfSome found
         (IsShownBan grounds.now.graphs.now (decided grounds.now) (inputs.now ++ pair ∷ []))) }
     ensures none { IfOk result (λ found. IfNone found
-        (pair.kind ≡ AnyKind.Output → HaveNoFacts grounds.now.graphs.now (decided grounds.now) (inputs.now ++ pair ∷ []))) }
+        (pair.kind ≡ AnyKind.Output → HaveNoFacts grounds.now.graphs.now (decided grounds.now)
+        (inputs.now ++ pair ∷ []))) }
 {
     match pair.kind {
         PortKind::Input => Ok(None),
@@ -81,7 +84,7 @@ fn pair_ban(
     }
 }
 
-// That of pairs of inputs and an output's.
+// The ban that decided claims show of pairs of inputs and an output's.
 fn output_ban(
     alloc: Global,
     grounds: &Grounds<'_>,

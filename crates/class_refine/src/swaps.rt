@@ -31,9 +31,9 @@ pub(crate) struct Exchange {
     pub(crate) b: bool,
 }
 
-/// The ban of the pairs of an output and two inputs, by a claim of these that is decided otherwise than the one which the pairs
-/// carry it to. It looks at all facts, for each open way anew, which is good enough because the search refines whole matchings
-/// alone: no way is open there, and each fact is looked at once.
+/// The ban of the pairs of an output and two inputs, by a claim of these that is decided otherwise than the one which
+/// the pairs carry it to. It looks at all facts, for each open way anew, which is good enough because the search
+/// refines whole matchings alone: no way is open there, and each fact is looked at once.
 pub(crate) fn swap_ban(
     alloc: Global,
     grounds: &Grounds<'_>,
@@ -41,8 +41,10 @@ pub(crate) fn swap_ban(
 ) -> Result<Option<Ban>, AllocError>
     requires grounds { AreGrounds grounds.now }
     requires known { All (IsKnown grounds.now.graphs.now) pairs.now }
-    ensures shown { IfOk result (λ found. IfSome found (IsShownBan grounds.now.graphs.now (decided grounds.now) pairs.now)) }
-    ensures none { IfOk result (λ found. IfNone found (HaveNoSwapMismatch grounds.now.graphs.now (decided grounds.now) pairs.now)) }
+    ensures shown { IfOk result
+        (λ found. IfSome found (IsShownBan grounds.now.graphs.now (decided grounds.now) pairs.now)) }
+    ensures none { IfOk result
+        (λ found. IfNone found (HaveNoSwapMismatch grounds.now.graphs.now (decided grounds.now) pairs.now)) }
 {
     for number in 0..grounds.facts.len() {
         if let Some(ban) = ban_at(alloc, grounds, pairs, number)? {
@@ -52,7 +54,7 @@ pub(crate) fn swap_ban(
     Ok(None)
 }
 
-// That by the claim of a fact.
+// The ban by the claim of a fact.
 fn ban_at(
     alloc: Global,
     grounds: &Grounds<'_>,
@@ -62,7 +64,8 @@ fn ban_at(
     requires grounds { AreGrounds grounds.now }
     requires known { All (IsKnown grounds.now.graphs.now) pairs.now }
     requires below { number < length grounds.now.facts.now }
-    ensures shown { IfOk result (λ found. IfSome found (IsShownBan grounds.now.graphs.now (decided grounds.now) pairs.now)) }
+    ensures shown { IfOk result
+        (λ found. IfSome found (IsShownBan grounds.now.graphs.now (decided grounds.now) pairs.now)) }
     ensures none { IfOk result (λ found. IfNone found (AgreesAt (decided grounds.now) pairs.now number)) }
 {
     let facts = grounds.facts;
@@ -153,7 +156,8 @@ fn otherwise(
     Some(told)
 }
 
-// The pairs of a claim of two inputs of the first circuit. It is None where the claim is another one, or pairs carry it to none.
+// The pairs of a claim of two inputs of the first circuit. It is None where the claim is another one, or pairs carry it
+// to none.
 fn exchange_of(pairs: &[Pair], claim: Claim) -> Option<Exchange>
     ensures found { IfSome result (IsExchange pairs.now claim) }
     ensures none { IfNone result ((image : AnyClaim) → HasTwoInputs claim.shape → IsImage pairs.now claim image → ⊥) }

@@ -9,7 +9,7 @@ use Rattle.oracle_core.specs.Oracles.{Known, Serves}
 use Rattle.fact_bans.specs.Serving.{HoldsBans, MayAsk, MayHold}
 use Rattle.fact_bans.specs.declared.asker.Asker.{Asker}
 
--- What an asker is lent, as far as facts hang on it, and the names of the loans.
+-- What an asker is lent, as far as facts depend on it, and the names of the loans.
 pub record Loans : Type 0 where
   pub known : Known
   pub ledger : Ledgered
@@ -36,7 +36,7 @@ pub record AreSame (old new : Loans) : Type 0 where
 abbrev pub MayAskBy : Graphs → Loans → Type 0
 MayAskBy graphs lent = MayAsk graphs lent.known lent.ledger
 
--- and bans held
+-- and bans assigned
 abbrev pub MayHoldBy : Graphs → Loans → List Ban → Type 0
 MayHoldBy graphs lent bans = MayHold graphs lent.known lent.ledger bans
 
@@ -44,6 +44,6 @@ MayHoldBy graphs lent bans = MayHold graphs lent.known lent.ledger bans
 abbrev pub ServesBy : {X : Type 0} → Loans → Loans → Result X Stop → Type 0
 ServesBy old new result = Serves old.known new.known old.ledger new.ledger result
 
--- and holds bans by their facts
+-- and makes bans by their facts
 abbrev pub HoldsBy : {X : Type 0} → Graphs → Loans → Loans → List Ban → List Ban → Result X Stop → Type 0
 HoldsBy graphs old new bans more result = HoldsBans graphs old.known new.known old.ledger new.ledger bans more result

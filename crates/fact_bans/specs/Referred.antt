@@ -5,7 +5,7 @@ use Rattle.circuits.specs.declared.port.Pair.{Pair}
 use Rattle.account_core.specs.declared.step.Ban.{Ban}
 use Rattle.ban_book.specs.Covering.{Covers}
 
--- A ban is held of which a way alone is enough.
+-- A ban is kept of which a way alone is enough.
 pub record IsReferred (bans : List Ban) (pair : Pair) (ref : Option ℕ) : Type 0 where
   pub number : ℕ
   pub ref_is : ref ≡ Some number

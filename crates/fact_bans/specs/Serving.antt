@@ -1,4 +1,4 @@
--- What stays as an oracle decides claims and bans are held by its facts.
+-- What stays as an oracle decides claims and bans are made by its facts.
 use Rattle.std.specs.Prelude.{◌≡◌, List, ◌++◌, map, Result}
 use Rattle.cnf_core.specs.declared.stop.Stop.{Stop}
 use Rattle.net_core.specs.Sides.{Graphs}
@@ -18,7 +18,7 @@ pub record AreValid (graphs : Graphs) (known : Known) (bans : List Ban) : Type 0
   pub each : AreValidBans graphs (map decided_by known.facts) bans
   pub last_resorts : AreLastResorts graphs (map decided_by known.facts) bans
 
--- The bans that were held stay, and others came after them.
+-- The bans that were kept stay, and others came after them.
 pub record OnlyAdds (before after : List Ban) : Type 0 where
   pub added : List Ban
   pub more : after ≡ before ++ added
@@ -28,14 +28,14 @@ pub record MayAsk (graphs : Graphs) (known : Known) (ledger : Ledgered) : Type 0
   pub graphs_are : graphs ≡ known.graphs
   pub suits : Suits known ledger
 
--- Claims may be asked, and bans held: the oracle is of these circuits, the ledger suits it, and the bans are valid.
+-- Claims may be asked, and bans made: the oracle is of these circuits, the ledger suits it, and the bans are valid.
 pub record MayHold (graphs : Graphs) (known : Known) (ledger : Ledgered) (bans : List Ban) : Type 0 where
   pub graphs_are : graphs ≡ known.graphs
   pub lawful : AreFacts graphs known.facts
   pub suits : Suits known ledger
   pub valid : AreValid graphs known bans
 
--- What a call does that has claims decided and holds bans by their facts, whatever it answers.
+-- What a call does that has claims decided and makes bans by their facts, whatever it answers.
 pub record HoldsBans {X : Type 0} (graphs : Graphs) (old new : Known) (before after : Ledgered) (bans more : List Ban)
     (result : Result X Stop) : Type 0 where
   pub serves : Serves old new before after result

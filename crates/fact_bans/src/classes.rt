@@ -5,8 +5,8 @@ use account_core::Tallied;
 use net_core::Side;
 use std::alloc::{AllocError, Global};
 
-/// The most ways, plain ones, of which bans are held: a tally of wide circuits takes kilobytes, and each ban is looked up
-/// among those before it.
+/// The most ways, plain ones, of which bans are made: a tally of wide circuits takes kilobytes, and each ban is looked
+/// up among those before it.
 const MOST_WAYS: usize = 4_096;
 
 /// How many inputs an output depends on, and in how many it is binate, as far as is seen.
@@ -23,7 +23,8 @@ pub(crate) struct Classes {
     pub(crate) to: Vec<bool>,
 }
 
-// By hand, and so one call wherever a value ends: a derived drop is expanded there, field by field, and makes proofs long.
+// By hand, and so one call wherever a value ends: a derived drop is expanded there, field by field, and makes proofs
+// long.
 impl Drop for Classes {
     fn drop(self) {
         let Classes {
@@ -34,8 +35,9 @@ impl Drop for Classes {
 }
 
 impl Classes {
-    /// Those outputs of two circuits with n outputs that have one key, and those that don't, where the other circuit has fewer of
-    /// the key: of all such keys the one with the fewest ways. None where each key is as frequent in both circuits.
+    /// Those outputs of two circuits with n outputs that have one key, and those that don't, where the other circuit
+    /// has fewer of the key: of all such keys the one with the fewest ways. None where each key is as frequent in both
+    /// circuits.
     pub(crate) fn new(
         alloc: Global,
         outputs: u32,
@@ -65,8 +67,8 @@ fn keys(alloc: Global, side: Side, outputs: u32, seen: &Seen) -> Result<Vec<Key>
     Ok(keys)
 }
 
-// The key that one circuit has more often, with the fewest ways to pair its outputs with those of other keys. It counts anew for
-// each output, which is good enough because this is done once a try, and tries are few.
+// The key that one circuit has more often, with the fewest ways to pair its outputs with those of other keys. It counts
+// anew for each output, which is good enough because this is done once a try, and tries are few.
 fn rarest(first: &[Key], second: &[Key]) -> Option<Key> {
     let mut found = None;
     let mut fewest = MOST_WAYS + 1;
@@ -80,8 +82,8 @@ fn rarest(first: &[Key], second: &[Key]) -> Option<Key> {
     found
 }
 
-// How many ways there are to pair the outputs of a key of the circuit that has more of them with other ones; a great number
-// where both have as many.
+// How many ways there are to pair the outputs of a key of the circuit that has more of them with other ones; a great
+// number where both have as many.
 fn ways_of(first: &[Key], second: &[Key], key: Key) -> usize {
     let one = frequency(first, key);
     let other = frequency(second, key);

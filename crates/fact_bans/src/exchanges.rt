@@ -27,10 +27,11 @@ pub struct SwapPairs {
     pub output: Pair,
 }
 
-/// Holds a ban of the pairs of two inputs and an output where a claim of both inputs of the one circuit fails that holds for the
-/// other one, as where two inputs may be exchanged and their partners may not. Answers its number; None where none was shown, or
-/// the inputs' pairs share a port. Only claims are asked of which vectors break one and not the other; none that holds since the
-/// output is unate in both inputs, where a claim of one input tells the circuits apart.
+/// Makes a ban of the pairs of two inputs and an output where a claim of both inputs of the one circuit fails that
+/// holds for the other one, as where two inputs may be exchanged and their partners may not. Answers its number; None
+/// where none was shown, or the inputs' pairs share a port. Only claims are asked of which vectors break one and not
+/// the other; none that holds since the output is unate in both inputs, where a claim of one input tells the circuits
+/// apart.
 ///
 /// # Errors
 ///
@@ -62,7 +63,7 @@ pub fn swap_mismatch<O: Oracle>(
     by_values(graphs, asker, exchanged, book)
 }
 
-// Holds a ban of the pairs, of which the first input's comes first, by the claim of values that is worth to be asked.
+// Makes a ban of the pairs, of which the first input's comes first, by the claim of values that is worth asking.
 fn by_values<O: Oracle>(
     graphs: &PairableGraphs<'_>,
     asker: &mut Asker<'_, O>,
@@ -89,7 +90,8 @@ fn by_values<O: Oracle>(
 /// All values of two inputs.
 static VALUES: [(bool, bool); 4] = [(false, true), (true, false), (false, false), (true, true)];
 
-// The values whose claim vectors break for one circuit and not for the other one, for which it isn't unateness that keeps it.
+// The values whose claim vectors break for one circuit and not for the other one, for which it isn't unateness that
+// keeps it.
 fn values_to_ask(pairs: SwapPairs, seen: &Seen) -> Option<(bool, bool)> {
     for values in VALUES.iter() {
         if is_worth(carried(pairs, *values), seen) {

@@ -17,8 +17,8 @@ use net_core::Side;
 use oracle_core::Oracle;
 use query_core::Claim;
 
-/// An output of a circuit, and which facts are wanted of it: that claims hold, or that they fail, both of each input that is asked
-/// of, or one.
+/// An output of a circuit, and which facts are wanted of it: that claims hold, or that they fail, both of each input
+/// that is asked of, or one.
 #[derive(Clone, Copy, Debug, Drop)]
 pub(crate) struct Wanted {
     pub(crate) side: Side,
@@ -27,8 +27,9 @@ pub(crate) struct Wanted {
     pub(crate) both: bool,
 }
 
-/// The numbers of the facts of claims of one input each, in the order of the inputs: for each input with a wish both claims, that
-/// it goes up, and that it goes down, or the one of the wished value. None where one of them doesn't say what it should.
+/// The numbers of the facts of claims of one input each, in the order of the inputs: for each input with a wish both
+/// claims, that it goes up, and that it goes down, or the one of the wished value. None where one of them doesn't say
+/// what it should.
 pub(crate) fn list<O: Oracle>(
     asker: &mut Asker<'_, O>,
     wanted: Wanted,

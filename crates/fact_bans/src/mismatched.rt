@@ -19,8 +19,8 @@ use circuits::Pair;
 use cnf_core::Stop;
 use oracle_core::Oracle;
 
-/// Has both claims decided, and holds the ban of the pairs where one fails and the other one holds. Answers its number; None
-/// where both fail, or both hold.
+/// Has both claims decided, and makes the ban of the pairs where one fails and the other one holds. Answers its number;
+/// None where both fail, or both hold.
 pub(crate) fn hold_by<O: Oracle>(
     graphs: &PairableGraphs<'_>,
     asker: &mut Asker<'_, O>,
@@ -42,7 +42,8 @@ pub(crate) fn hold_by<O: Oracle>(
     Ok(Some(number))
 }
 
-/// Has both claims decided. Answers the facts where one fails and the other one holds, and None where both fail, or both hold.
+/// Has both claims decided. Answers the facts where one fails and the other one holds, and None where both fail, or
+/// both hold.
 pub(crate) fn unlike_by<O: Oracle>(
     asker: &mut Asker<'_, O>,
     carried: Carried,

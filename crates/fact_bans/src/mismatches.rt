@@ -19,8 +19,9 @@ use cnf_core::Stop;
 use net_core::Side;
 use oracle_core::Oracle;
 
-/// Holds a ban of the pairs of an input and an output where a claim of the one circuit fails that holds for the other one, and
-/// answers its number; None where none was shown. Only claims are asked of which vectors break one and not the other.
+/// Makes a ban of the pairs of an input and an output where a claim of the one circuit fails that holds for the other
+/// one, and answers its number; None where none was shown. Only claims are asked of which vectors break one and not the
+/// other.
 ///
 /// # Errors
 ///
@@ -46,8 +47,9 @@ pub fn mismatch<O: Oracle>(
     hold_by(graphs, asker, &[input, output], carried, book)
 }
 
-/// The facts by which the pairs of an input and an output have a ban, where a claim of the one circuit fails that holds for the
-/// other one; None where none was shown. Only claims are asked of which vectors break one and not the other. No ban is held.
+/// The facts by which the pairs of an input and an output have a ban, where a claim of the one circuit fails that holds
+/// for the other one; None where none was shown. Only claims are asked of which vectors break one and not the other. No
+/// ban is made.
 ///
 /// # Errors
 ///

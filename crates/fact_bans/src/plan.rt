@@ -7,8 +7,8 @@ use circuits::Pair;
 use net_core::Side;
 use std::alloc::{AllocError, Global};
 
-/// Which claims a tally asks: of one output, that of a side, one claim of each of some inputs, which should hold, or fail;
-/// of the other output both claims of each of some inputs, which should do the opposite.
+/// Which claims a tally asks: of one output, that of a side, one claim of each of some inputs, which should hold, or
+/// fail; of the other output both claims of each of some inputs, which should do the opposite.
 pub(crate) struct Plan {
     pub(crate) side: Side,
     pub(crate) holds: bool,
@@ -18,7 +18,8 @@ pub(crate) struct Plan {
     pub(crate) both: Vec<Option<bool>>,
 }
 
-// By hand, and so one call wherever a value ends: a derived drop is expanded there, field by field, and makes proofs long.
+// By hand, and so one call wherever a value ends: a derived drop is expanded there, field by field, and makes proofs
+// long.
 impl Drop for Plan {
     fn drop(self) {
         let Plan {
@@ -31,7 +32,7 @@ impl Drop for Plan {
 }
 
 impl Plan {
-    /// What is worth to be asked of a pair of outputs of n inputs: None where vectors don't show that one of them depends on
+    /// What is worth asking of a pair of outputs of n inputs: None where vectors don't show that one of them depends on
     /// more inputs, or is binate in more.
     pub(crate) fn new(
         alloc: Global,
@@ -64,8 +65,8 @@ fn more_on(pair: Pair, kind: Tallied, seen: &Seen) -> Option<Side> {
     }
 }
 
-// Of the output that is of a kind in more inputs, each is asked that vectors show, by the claims that they break. Of the other one
-// as many inputs are asked as it then may not lack.
+// Of the output that is of a kind in more inputs, each is asked that vectors show, by the claims that they break. Of
+// the other one as many inputs are asked as it then may not lack.
 fn by_kind(
     alloc: Global,
     pair: Pair,
@@ -107,8 +108,8 @@ fn broken_value(flips: Flips, kind: Tallied) -> Option<bool> {
     }
 }
 
-// For that many inputs that aren't known to be of a kind the value of a claim that no vector breaks: first for those that don't
-// reach the output, whose claims hold by structure; then for others, whose claims are asked.
+// For that many inputs that aren't known to be of a kind the value of a claim that no vector breaks: first for those
+// that don't reach the output, whose claims hold by structure; then for others, whose claims are asked.
 fn without(
     alloc: Global,
     row: &[Flips],
@@ -121,8 +122,8 @@ fn without(
     Ok(values)
 }
 
-// Does so for those that reach the output, or for those that don't, until none is wanted.
-// Answers how many are wanted still.
+// Chooses such claims of inputs that reach the output, or of those that don't, until none is wanted. Answers how many
+// are still wanted.
 fn mark_some(
     row: &[Flips],
     values: &mut [Option<bool>],

@@ -23,14 +23,14 @@ use items::Items;
 use oracle_core::Oracle;
 use std::alloc::{AllocError, Global};
 
-/// Where one of two circuits with as many ports has more outputs that depend on this many inputs and are binate in this many:
-/// holds a ban without pairs, and answers its number. None where none was shown.
+/// Where one of two circuits with as many ports has more outputs that depend on this many inputs and are binate in this
+/// many: makes a ban without pairs, and answers its number. None where none was shown.
 ///
-/// Outputs of the one circuit that are alike in this would have to go to as many of the other one, so that one of them goes to
-/// an output that isn't. Each of these ways has a tally, and one cover refers to them.
+/// Outputs of the one circuit that are alike in this would have to go to as many of the other one, so that one of them
+/// goes to an output that isn't. Each of these ways has a tally, and one cover refers to them.
 ///
-/// It is tried n times at most. A try fails only where a claim is decided otherwise than vectors let expect, which is noted, so that
-/// the next one goes by other counts.
+/// It is tried n times at most. A try fails only where a claim is decided otherwise than vectors let expect, which is
+/// noted, so that the next one goes by other counts.
 ///
 /// # Errors
 ///
@@ -58,7 +58,7 @@ pub fn refuse<O: Oracle>(
     Ok(None)
 }
 
-// Holds the ban that classes of outputs are for.
+// Makes the ban that classes of outputs are for.
 fn refuse_by<O: Oracle>(
     graphs: &PairableGraphs<'_>,
     asker: &mut Asker<'_, O>,
@@ -82,7 +82,8 @@ fn block_of(
     graphs: &PairableGraphs<'_>,
     classes: &Classes,
 ) -> Result<Option<Block>, AllocError>
-    ensures block { IfOk result (λ found. IfSome found (λ block. IsBlock (ports_in graphs.now.second block.kind) block)) }
+    ensures block { IfOk result
+        (λ found. IfSome found (λ block. IsBlock (ports_in graphs.now.second block.kind) block)) }
     ensures outputs { IfOk result (λ found. IfSome found (λ block. All (IsPairOf graphs.now Output) (ways_in block))) }
 {
     let kind = PortKind::Output;
@@ -95,7 +96,7 @@ fn block_of(
     Ok(Some(Block { kind, from, to }))
 }
 
-// Holds the ban that a block of outputs is for.
+// Makes the ban that a block of outputs is for.
 fn refuse_block<O: Oracle>(
     graphs: &PairableGraphs<'_>,
     asker: &mut Asker<'_, O>,
@@ -156,7 +157,7 @@ fn bans_of<O: Oracle>(
     Ok(Some(refs))
 }
 
-// A ban of one way, held already, as by an earlier try, or by a tally.
+// A ban of one way, made already, as by an earlier try, or by a tally.
 fn ban_of<O: Oracle>(
     graphs: &PairableGraphs<'_>,
     asker: &mut Asker<'_, O>,

@@ -17,9 +17,9 @@ use net_core::Side;
 use oracle_core::Oracle;
 use query_core::{Claim, Shape};
 
-/// Has both claims of each input of an output decided: that it never falls where the input goes up, and that it never falls
-/// where the input goes down. Answers what is told of them, in the order of the inputs. A claim whose number is noted is not
-/// asked again.
+/// Has both claims of each input of an output decided: that it never falls where the input goes up, and that it never
+/// falls where the input goes down. Answers what is told of them, in the order of the inputs. A claim whose number is
+/// noted is not asked again.
 ///
 /// # Errors
 ///

@@ -5,8 +5,8 @@ use net_core::Graph;
 use port_cells::{Counts, Draws, FlipSim, Influence, Lanes, Tally, all_lanes, blocks_of_all};
 use std::alloc::{AllocError, Global};
 
-/// How many words of gates may be computed of a circuit: about a tenth of a second. On half and on twice as many five near misses
-/// are refused by as many bans of each kind.
+/// How many words of gates may be computed of a circuit: about a tenth of a second. On half and on twice as many five
+/// near misses are refused by as many bans of each kind.
 const MOST_WORDS: u64 = 1 << 25;
 
 /// The most blocks of 256 vectors. On 16,384 vectors an input that matters on one of a thousand is nearly always seen.
@@ -30,7 +30,8 @@ impl Flips {
         self.reaches
     }
 
-    /// Whether a vector breaks the claim of the input with a value.
+    /// Whether a vector breaks the claim of the input that has this value at first: it goes up from false, and down
+    /// from true.
     pub(crate) fn is_broken(self, value: bool) -> bool {
         if value {
             self.breaks_down
@@ -156,8 +157,8 @@ fn drawn(draws: &mut Draws) -> Lanes {
     Lanes::from_array([draws.word(), draws.word(), sparse, dense])
 }
 
-// Marks the claims that vectors break: where the output differs from an input and follows it, it falls as the input goes up;
-// where it agrees, as the input goes down.
+// Marks the claims that vectors break: where the output differs from an input and follows it, it falls as the input
+// goes up; where it agrees, as the input goes down.
 fn mark_broken(row: &mut [Flips], influences: &[Influence]) {
     for influence in influences.iter() {
         mark_claims(row, *influence);

@@ -10,22 +10,23 @@ use std::alloc::{AllocError, Global};
 /// No number was noted.
 const NOT_NOTED: u32 = u32::MAX;
 
-/// What vectors showed of two circuits: which claims of one input they break, and once these are looked for, which of two.
-/// Nothing rests on it: it says which claims are worth to be decided.
+/// What vectors showed of two circuits: which claims of one input they break, and once these are looked for, which of
+/// two. Nothing rests on it: it says which claims are worth deciding.
 #[derive(Debug)]
 pub struct Seen {
     first: Vec<Vec<Flips>>,
     second: Vec<Vec<Flips>>,
     swaps: Option<TwoSwaps>,
     seed: u64,
-    /// The numbers of the facts of claims of one input, by circuit, output, input and value: an array, since the same two are compared
-    /// again and again.
+    /// The numbers of the facts of claims of one input, by circuit, output, input and value: an array, since the same
+    /// two are compared again and again.
     numbers: Vec<u32>,
     inputs: usize,
     outputs: usize,
 }
 
-// By hand, and so one call wherever a value ends: a derived drop is expanded there, field by field, and makes proofs long.
+// By hand, and so one call wherever a value ends: a derived drop is expanded there, field by field, and makes proofs
+// long.
 impl Drop for Seen {
     fn drop(self) {
         let Seen {
@@ -47,7 +48,8 @@ struct TwoSwaps {
     second: Swaps,
 }
 
-// By hand, and so one call wherever a value ends: a derived drop is expanded there, field by field, and makes proofs long.
+// By hand, and so one call wherever a value ends: a derived drop is expanded there, field by field, and makes proofs
+// long.
 impl Drop for TwoSwaps {
     fn drop(self) {
         let TwoSwaps {
@@ -102,8 +104,8 @@ impl Seen {
         }
     }
 
-    /// What vectors show of an input and an output of a circuit: bit 0 says that one breaks the claim that the output never falls
-    /// where the input goes up, bit 1 that one breaks the claim of the input going down.
+    /// What vectors show of an input and an output of a circuit: bit 0 says that one breaks the claim that the output
+    /// never falls where the input goes up, bit 1 that one breaks the claim of the input going down.
     pub fn broken(&self, side: Side, output: u32, input: u32) -> u8 {
         match self.row(side, output).get(input as usize) {
             Some(flips) => flips.broken(),
@@ -129,8 +131,8 @@ impl Seen {
         side.is_broken(claim.output, claim.shape)
     }
 
-    /// Whether a claim of two inputs holds as far as is seen since the output is unate in both: it doesn't fall where the one
-    /// changes, nor where the other one does.
+    /// Whether a claim of two inputs holds as far as is seen since the output is unate in both: it doesn't fall where
+    /// the one changes, nor where the other one does.
     pub(crate) fn is_by_unateness(&self, claim: Claim) -> bool {
         let Shape::Swap { i, j, a, b } = claim.shape else {
             return false;

@@ -6,8 +6,9 @@ use port_cells::{Draws, FlipSim, Lanes, blocks_of_all, ones_in};
 use query_core::Shape;
 use std::alloc::{AllocError, Global};
 
-/// How many words of gates may be computed of a circuit: about half a second. Nothing is seen of a circuit for which that isn't
-/// enough for one block of 256 vectors. On half and on twice as many five near misses are refused by as many bans.
+/// How many words of gates may be computed of a circuit: about half a second. Nothing is seen of a circuit for which
+/// that isn't enough for one block of 256 vectors. On half and on twice as many five near misses are refused by as many
+/// bans.
 const MOST_WORDS: u64 = 1 << 28;
 
 /// The most blocks. Claims of two inputs break more often than those of one.
@@ -26,7 +27,7 @@ struct Broken {
 }
 
 impl Broken {
-    // None is.
+    // No claim is broken.
     fn at_none() -> Broken {
         Broken {
             both_rise: false,
@@ -62,7 +63,7 @@ impl Broken {
         }
     }
 
-    // Those of both.
+    // The claims that either one breaks.
     fn or(self, other: Broken) -> Broken {
         Broken {
             both_rise: self.both_rise | other.both_rise,
@@ -82,7 +83,7 @@ impl Broken {
     }
 }
 
-// Whether there is a 1.
+// Whether the bit is 1 on some vector.
 fn is_any(lanes: Lanes) -> bool {
     ones_in(lanes) > 0
 }
@@ -97,7 +98,8 @@ struct Row {
     pairs: Vec<Vec<Broken>>,
 }
 
-// By hand, and so one call wherever a value ends: a derived drop is expanded there, field by field, and makes proofs long.
+// By hand, and so one call wherever a value ends: a derived drop is expanded there, field by field, and makes proofs
+// long.
 impl Drop for Row {
     fn drop(self) {
         let Row {
@@ -171,7 +173,8 @@ pub(crate) struct Swaps {
     rows: Vec<Row>,
 }
 
-// By hand, and so one call wherever a value ends: a derived drop is expanded there, field by field, and makes proofs long.
+// By hand, and so one call wherever a value ends: a derived drop is expanded there, field by field, and makes proofs
+// long.
 impl Drop for Swaps {
     fn drop(self) {
         let Swaps { rows: _rows } = self;
@@ -216,7 +219,8 @@ impl Swaps {
         Ok(Swaps { rows })
     }
 
-    // Notes what a block of vectors shows, which a simulator has; the other one is for the vectors with inputs inverted.
+    // Notes what a block of vectors shows, which a simulator has; the other one is for the vectors with inputs
+    // inverted.
     fn add(&mut self, block: &FlipSim<'_>, other: &mut FlipSim<'_>) {
         for second in 0..block.graph().inputs() {
             invert(block, other, second);

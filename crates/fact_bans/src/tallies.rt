@@ -19,9 +19,9 @@ use cnf_core::Stop;
 use net_core::Side;
 use oracle_core::Oracle;
 
-/// Holds a ban of a pair of outputs of which one has more inputs in its support than the other one may have, or is binate
-/// in more, and answers its number; None where none was shown. Only claims are asked that are needed for it: where vectors
-/// show that the one has more.
+/// Makes a ban of a pair of outputs of which one has more inputs in its support than the other one may have, or is
+/// binate in more, and answers its number; None where none was shown. Only claims are asked that are needed for it:
+/// where vectors show that the one has more.
 ///
 /// # Errors
 ///
@@ -45,7 +45,7 @@ pub fn tally<O: Oracle>(
     tally_by(graphs, asker, pair, &plan, book)
 }
 
-// Holds the ban that a plan is for.
+// Makes the ban that a plan is for.
 fn tally_by<O: Oracle>(
     graphs: &PairableGraphs<'_>,
     asker: &mut Asker<'_, O>,

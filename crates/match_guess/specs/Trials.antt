@@ -34,7 +34,7 @@ pub record IsVectorOf (table : Table) (vector : List Bool) : Type 0 where
   pub bit : lane < 64
   pub vector_is : vector ≡ vector_at table word lane
 
--- A pair of an output that is held, and a vector of the first circuit's inputs.
+-- A pair of an output that is assigned, and a vector of the first circuit's inputs.
 pub record IsSuspect (graphs : Graphs) (pairs : List Pair) (suspect : Suspect) : Type 0 where
   pub held : Contains pairs suspect.pair
   pub of_output : suspect.pair.kind ≡ Output

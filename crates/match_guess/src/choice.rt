@@ -101,10 +101,11 @@ fn better(best: Option<(Rank, usize)>, rank: Option<Rank>, cell: usize) -> Optio
     }
 }
 
-/// The next choice point: a literal of the first circuit, and those that it may correspond to, if one isn't alone. By likeness,
-/// where that is known, those that are most alike come first. Else, in later rounds, the literal and the order of the others
-/// are drawn, so that rounds differ. Small cells come first in every other round, since a small cell has few wrong candidates
-/// and a large one splits more, and which of these pays hangs on the circuits. Neither alone loses one of 29 pairs.
+/// The next choice point: a literal of the first circuit, and those that it may correspond to, if one isn't alone. By
+/// likeness, where that is known, those that are most alike come first. Else, in later rounds, the literal and the
+/// order of the others are drawn, so that rounds differ. Small cells come first in every other round, since a small
+/// cell has few wrong candidates and a large one splits more, and which of these pays depends on the circuits. Neither
+/// alone loses one of 29 pairs.
 pub(crate) fn next_point(
     alloc: Global,
     state: State,
@@ -122,8 +123,8 @@ pub(crate) fn next_point(
     }
 }
 
-// A literal of a cell: the first one, and then the last of the others first, as nothing tells that another order is better; in
-// later rounds a drawn one, and the others in a drawn order.
+// A literal of a cell: the first one, and then the last of the others first, as nothing tells that another order is
+// better; in later rounds a drawn one, and the others in a drawn order.
 fn point_of(
     alloc: Global,
     state: State,
@@ -148,7 +149,8 @@ fn point_of(
     }))
 }
 
-// The literal that is most like one that it may correspond to. While signs are open, one of the cell: a guess there decides most.
+// The literal that is most like one that it may correspond to. While signs are open, one of the cell: a guess there
+// decides most.
 fn likest_point(
     alloc: Global,
     state: State,
@@ -171,8 +173,9 @@ fn likest_point(
     }))
 }
 
-// Among the literals that aren't alone in their cells, or those of one cell, the first of those that are most like one of
-// the second circuit. All pairs are gone over: guesses change what is alike, and `Likeness::responses` counts the pairs too.
+// Among the literals that aren't alone in their cells, or those of one cell, the first of those that are most like one
+// of the second circuit. All pairs are gone over: guesses change what is alike, and `Likeness::responses` counts the
+// pairs too.
 fn likest(
     alloc: Global,
     inputs: &Cells,

@@ -5,7 +5,8 @@ use net_core::Side;
 use port_cells::Cells;
 use std::alloc::{AllocError, Global};
 
-/// A literal of an input of the first circuit, and the literals of the second circuit that it is still to be tried with.
+/// A literal of an input of the first circuit, and the literals of the second circuit that it is still to be tried
+/// with.
 pub(crate) struct ChoicePoint {
     pub(crate) state: State,
     pub(crate) literal: usize,
@@ -13,7 +14,8 @@ pub(crate) struct ChoicePoint {
     pub(crate) candidates: Vec<usize>,
 }
 
-// By hand, and so one call wherever a value ends: a derived drop is expanded there, field by field, and makes proofs long.
+// By hand, and so one call wherever a value ends: a derived drop is expanded there, field by field, and makes proofs
+// long.
 impl Drop for ChoicePoint {
     fn drop(self) {
         let ChoicePoint {

@@ -8,23 +8,23 @@ use port_cells::{
 };
 use std::alloc::{AllocError, Global};
 
-/// How many words of gates may be computed so that all vectors are counted: about a fifth of a second. What is counted of
-/// all vectors is exact, and splits most.
+/// How many words of gates may be computed so that all vectors are counted: about a fifth of a second. What is counted
+/// of all vectors is exact, and splits most.
 const MOST_EXACT: u64 = 1 << 27;
 
 /// How many words of gates may be computed so that drawn vectors are counted. More vectors tell more literals apart.
 const MOST_DRAWN: u64 = 1 << 26;
 
-/// The most blocks of 256 vectors that are drawn, 65,536 vectors. Influences below a thousandth aren't seen on them, and are
-/// left to vectors on which gates have rare values.
+/// The most blocks of 256 vectors that are drawn, 65,536 vectors. Influences below a thousandth aren't seen on them,
+/// and are left to vectors on which gates have rare values.
 const MOST_BLOCKS: u64 = 256;
 
-/// The fewest, 4,096 vectors. With 5.5 standard deviations of slack they tell counts apart that differ by a sixteenth of the
-/// vectors, a fourth as many only those that differ by an eighth.
+/// The fewest, 4,096 vectors. With 5.5 standard deviations of slack they tell counts apart that differ by a sixteenth
+/// of the vectors, a fourth as many only those that differ by an eighth.
 const LEAST_BLOCKS: u64 = 16;
 
-/// An input with fewer changes of outputs on drawn vectors is faint: with 5.5 standard deviations of slack fewer than 32 changes
-/// in one direction don't tell its sign.
+/// An input with fewer changes of outputs on drawn vectors is faint: with 5.5 standard deviations of slack fewer than
+/// 32 changes in one direction don't tell its sign.
 const FEW_CHANGES: u32 = 64;
 
 /// The vectors that are counted, in blocks of 256.
@@ -63,7 +63,8 @@ pub(crate) struct Circuit<'a> {
     pub(crate) is_faint: bool,
 }
 
-// By hand, and so one call wherever a value ends: a derived drop is expanded there, field by field, and makes proofs long.
+// By hand, and so one call wherever a value ends: a derived drop is expanded there, field by field, and makes proofs
+// long.
 impl Drop for Circuit<'_> {
     fn drop(self) {
         let Circuit {
@@ -79,7 +80,8 @@ impl Drop for Circuit<'_> {
 pub(crate) type Blocks = Items<Items<Lanes>>;
 
 impl<'a> Circuit<'a> {
-    /// Counts on a sample's vectors. Where these leave some inputs faint, also blocks of vectors on which gates have rare values.
+    /// Counts on a sample's vectors. Where these leave some inputs faint, also blocks of vectors on which gates have
+    /// rare values.
     pub(crate) fn new(
         alloc: Global,
         simulator: FlipSim<'a>,

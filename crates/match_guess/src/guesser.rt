@@ -21,82 +21,84 @@ use net_core::{Graph, Matching, Side};
 use port_cells::{Cells, Draws, FlipSim, Lanes, Slack};
 use std::alloc::{AllocError, Global};
 
-/// How many words of gates may be computed, about a second's. With half as many matchings of two adders of 128 bits and of a
-/// sorter of 64 numbers, all of them with negated ports, weren't found by a hair.
+/// How many words of gates may be computed, about a second's. With half as many, matchings of two adders of 128 bits
+/// and of a sorter of 64 numbers, all of them with negated ports, are narrowly missed.
 const MOST_WORDS: u64 = 1 << 29;
 
-/// Which part of its words a guess of little effort may compute. Most matchings that are found are found by then, and of circuits
-/// without a match counts show it in most cases once that much was tried.
+/// Which part of its words a guess of little effort may compute. Most matchings that are found are found by then, and
+/// of circuits without a match counts show it in most cases once that much was tried.
 const LITTLE_SHARE: u64 = 8;
 
-/// On how many blocks of 256 vectors a circuit may be run with each input inverted where that takes longer. A search of large
-/// circuits needs some ten of them; ten times as many leave room.
+/// On how many blocks of 256 vectors a circuit may be run with each input inverted where that takes longer. A search of
+/// large circuits needs some ten of them; ten times as many leave room.
 const MOST_RUNS: u64 = 128;
 
-/// On how many for each input. Where inputs may all go to each other, as those of a parity, each of them is guessed, and takes
-/// one or two.
+/// On how many for each input. Where inputs may all go to each other, as those of a parity, each of them is guessed,
+/// and takes one or two.
 const MOST_RUNS_EACH: u64 = 4;
 
 /// On how many for each input with little effort: what guessing each of them takes.
 const LITTLE_RUNS_EACH: u64 = 2;
 
-/// The most inputs whose signs are guessed one after the other, before vectors are looked for that decide them all: four have
-/// 16 values, fewer than pairs of vectors are taken.
+/// The most inputs whose signs are guessed one after the other, before vectors are looked for that decide them all:
+/// four have 16 values, fewer than pairs of vectors are taken.
 const FEW_OPEN: usize = 4;
 
 /// How often a search begins anew, with other choices. Most matchings that are found are found in the first two rounds.
 const ROUNDS: u32 = 8;
 
-/// How many guesses may fail in the first round. In each further round half as many more may, some 390 in all. With half as
-/// many at first the adder and subtractor of 24 bits takes a second longer; with twice as many none of 29 pairs changes.
+/// How many guesses may fail in the first round. In each further round half as many more may, some 390 in all. With
+/// half as many at first the adder and subtractor of 24 bits takes a second longer; with twice as many none of 29 pairs
+/// changes.
 const FIRST_FAILURES: u32 = 8;
 
-/// How many may fail where all signs are taken as plain: only circuits without negated ports are matched by that. Neither one
-/// nor 16 change any of 60 such pairs.
+/// How many may fail where all signs are taken as plain: only circuits without negated ports are matched by that.
+/// Neither one nor 16 change any of 60 such pairs.
 const PLAIN_FAILURES: u32 = 4;
 
-/// How many may fail where vectors decide all signs: these are right or wrong as a whole. Neither one nor eight change any of
-/// 29 pairs.
+/// How many may fail where vectors decide all signs: these are right or wrong as a whole. Neither one nor eight change
+/// any of 29 pairs.
 const ANCHOR_FAILURES: u32 = 3;
 
-/// The most states that one search goes through, and the most rounds of one refinement: bounds that aren't met, since each
-/// round splits a cell and each search has few failures.
+/// The most states that one search goes through, and the most rounds of one refinement: bounds that aren't met, since
+/// each round splits a cell and each search has few failures.
 const MOST_STATES: u32 = 100_000;
 
-/// Under how many assignments cells are split where signs are open. Each tells other inputs apart, and eight are the fewest in
-/// which all kinds take a turn (`assignment`). Under four, comparators of 64 bits take one to three seconds longer.
+/// Under how many assignments cells are split where signs are open. Each tells other inputs apart, and eight are the
+/// fewest in which all kinds take a turn (`assignment`). Under four, comparators of 64 bits take one to three seconds
+/// longer.
 const MANY_ASSIGNMENTS: u32 = 8;
 
-/// Under how many more where these told nothing, one turn, and on how many blocks of 256 vectors each. Deviations grow by the
-/// square root, so that sixteen times the vectors show influences a fourth as large. Without these the minimum and maximum of
-/// 16 bits takes two seconds longer; a fourth of the blocks does as well for 29 pairs.
+/// Under how many more where these told nothing, one turn, and on how many blocks of 256 vectors each. Deviations grow
+/// by the square root, so that sixteen times the vectors show influences a fourth as large. Without these the minimum
+/// and maximum of 16 bits takes two seconds longer; a fourth of the blocks does as well for 29 pairs.
 const FEW_ASSIGNMENTS: u32 = 4;
 
 const MANY_BLOCKS: u64 = 16;
 
-/// How often in a round assignments of inputs whose signs are known may tell nothing. Of inputs that are alike, as those of a
-/// parity, they never do, and of two numbers that are compared always.
+/// How often in a round assignments of inputs whose signs are known may tell nothing. Of inputs that are alike, as
+/// those of a parity, they never do, and of two numbers that are compared always.
 const MOST_IN_VAIN: u32 = 4;
 
-/// How many responses of gates to inputs may be compared so that inputs are paired by likeness. With an eighth of them matchings
-/// of the count of 128 inputs, and of the parity of 128 beside an AND, were found whose gates aren't in line, which isn't proved
-/// in ten seconds.
+/// How many responses of gates to inputs may be compared so that inputs are paired by likeness. With an eighth of them
+/// matchings of the count of 128 inputs, and of the parity of 128 beside an AND, were found whose gates aren't in line,
+/// which isn't proved in ten seconds.
 const MOST_RESPONSES: u64 = 1 << 24;
 
-/// Up to how many words of gates are computed for it at once, and of how many inputs, which bounds the memory to some twenty
-/// megabytes.
+/// Up to how many words of gates are computed for it at once, and of how many inputs, which bounds the memory to some
+/// twenty megabytes.
 const MOST_COMPARED: u64 = 1 << 21;
 
 const MOST_INPUTS: u32 = 1 << 10;
 
-/// How many literals are tried with the one whose sign is to decide all others. Those of a majority or a sorter all serve;
-/// where four are refuted, few inputs may go to each other, and vectors are looked for.
+/// How many literals are tried with the one whose sign is to decide all others. Those of a majority or a sorter all
+/// serve; where four are refuted, few inputs may go to each other, and vectors are looked for.
 const FEW_TRIED: u32 = 4;
 
-/// The squares of 5.5, 6.25 and 7 standard deviations, rounded down: how far counts of corresponding literals may be apart, in
-/// rounds that take turns. A match is missed where one of its counts is farther off, as one in 26 million is by 5.5 if it is
-/// normal; circuits of 128 inputs and outputs have 32,768 counts, and those of rare changes stray farther. With 7 in all rounds
-/// comparators of 64 bits take 0.6 to 1.7 s longer.
+/// The squares of 5.5, 6.25 and 7 standard deviations, rounded down: how far counts of corresponding literals may be
+/// apart, in rounds that take turns. A match is missed where one of its counts is farther off, as one in 26 million is
+/// by 5.5 if it is normal; circuits of 128 inputs and outputs have 32,768 counts, and those of rare changes stray
+/// farther. With 7 in all rounds comparators of 64 bits take 0.6 to 1.7 s longer.
 const DEVIATIONS: [u64; 3] = [30, 39, 49];
 
 /// How much a guess may take.
@@ -151,14 +153,16 @@ pub struct Guesser<'a> {
     in_vain: u32,
     /// Whether all that was counted was counted on all vectors. Then a search that is exhausted has missed no match.
     is_exact: bool,
-    /// How many words of gates were computed for the first counts, and how many more may be, with little effort and at all.
+    /// How many words of gates were computed for the first counts, and how many more may be, with little effort and at
+    /// all.
     counted: u64,
     few_words: u64,
     most_words: u64,
     effort: Effort,
 }
 
-// By hand, and so one call wherever a value ends: a derived drop is expanded there, field by field, and makes proofs long.
+// By hand, and so one call wherever a value ends: a derived drop is expanded there, field by field, and makes proofs
+// long.
 impl Drop for Guesser<'_> {
     fn drop(self) {
         let Guesser {
@@ -232,8 +236,8 @@ impl<'a> Guesser<'a> {
         self.kept.keep(vector);
     }
 
-    /// A matching whose outputs agree on all vectors that were tried. None where none is found within this effort, which bounds
-    /// what all guesses take together.
+    /// A matching whose outputs agree on all vectors that were tried. None where none is found within this effort,
+    /// which bounds what all guesses take together.
     ///
     /// # Errors
     ///
@@ -274,9 +278,9 @@ impl<'a> Guesser<'a> {
         Ok(None)
     }
 
-    // Searches with all open signs plain in the first round: without that 60 pairs without negated ports take 18 s instead of 5,
-    // and three of them aren't guessed. Then with signs that vectors decide, in every other round (in all rounds none of 29 pairs
-    // changes), and then with them open.
+    // Searches with all open signs plain in the first round: without that 60 pairs without negated ports take 18 s
+    // instead of 5, and three of them aren't guessed. Then with signs that vectors decide, in every other round (in all
+    // rounds none of 29 pairs changes), and then with them open.
     fn search_round(
         &mut self,
         alloc: Global,
@@ -333,7 +337,8 @@ impl<'a> Guesser<'a> {
         if open_in(&root.inputs) <= FEW_OPEN {
             return Ok(Vec::new(alloc));
         }
-        // a vector also parts inputs that may all go to each other: those with one bit on it from those with the other one
+        // a vector also parts inputs that may all go to each other: those with one bit on it from those with the other
+        // one
         self.are_signs_linked = has_one_open_cell(&root.inputs)
             && self.are_linked(alloc, root.copy()?)?;
         if self.are_signs_linked {
@@ -471,8 +476,8 @@ impl<'a> Guesser<'a> {
         Ok(Some(likeness))
     }
 
-    // Every other round goes by draws, as likeness may mislead. While signs are open it tells little, and a guess serves to split
-    // cells, unless one guess decides all signs.
+    // Every other round goes by draws, as likeness may mislead. While signs are open it tells little, and a guess
+    // serves to split cells, unless one guess decides all signs.
     fn goes_by_likeness(&self, state: &State) -> bool {
         let first = self.first.simulator.words_of_flips();
         let second = self.second.simulator.words_of_flips();
@@ -533,8 +538,8 @@ impl<'a> Guesser<'a> {
         }
     }
 
-    // Splits cells whose signs are known, by counts under assignments too where vectors tell nothing and drawn ones left inputs
-    // faint: of two numbers that are compared the next bits matter once those above them are equal.
+    // Splits cells whose signs are known, by counts under assignments too where vectors tell nothing and drawn ones
+    // left inputs faint: of two numbers that are compared the next bits matter once those above them are equal.
     fn split_known(&mut self, alloc: Global, state: State) -> Result<Option<State>, AllocError> {
         let before = state.count();
         let Some(state) = self.split_by_vectors(alloc, state)? else {
@@ -617,9 +622,9 @@ impl<'a> Guesser<'a> {
         link.split(alloc, state)
     }
 
-    // Every other one is by a vector on which many inputs matter: under most assignments a wide gate shows none of its inputs.
-    // Of the others half are drawn, and half have one bit on all inputs, 0 and 1 in turn: the upper bits of two numbers that
-    // are compared are equal then, which they hardly ever are on drawn vectors.
+    // Every other one is by a vector on which many inputs matter: under most assignments a wide gate shows none of its
+    // inputs. Of the others half are drawn, and half have one bit on all inputs, 0 and 1 in turn: the upper bits of two
+    // numbers that are compared are equal then, which they hardly ever are on drawn vectors.
     fn assignment(
         &mut self,
         alloc: Global,

@@ -22,10 +22,10 @@ pub struct Hints<'a> {
     pub candidates: &'a [Matching],
 }
 
-/// Matchings that may be a match, one after the other: first the candidates that a search is given and the one that pairs equal
-/// places, and then those that a `Guesser` finds. A candidate is passed over where outputs differ on drawn vectors. One under which
-/// few gates of the two circuits have one function comes after all guesses: its proof may be long where that of a guess is short,
-/// as of circuits whose inputs may go to each other.
+/// Matchings that may be a match, one after the other: first the candidates that a search is given and the one that
+/// pairs equal places, and then those that a `Guesser` finds. A candidate is passed over where outputs differ on drawn
+/// vectors. One under which few gates of the two circuits have one function comes after all guesses: its proof may be
+/// long where that of a guess is short, as of circuits whose inputs may go to each other.
 pub struct Guesses<'a> {
     seed: u64,
     /// Candidates that come before all guesses, and those that come after them. The last one is next.
@@ -37,7 +37,8 @@ pub struct Guesses<'a> {
     guesser: Option<Guesser<'a>>,
 }
 
-// By hand, and so one call wherever a value ends: a derived drop is expanded there, field by field, and makes proofs long.
+// By hand, and so one call wherever a value ends: a derived drop is expanded there, field by field, and makes proofs
+// long.
 impl Drop for Guesses<'_> {
     fn drop(self) {
         let Guesses {
@@ -72,7 +73,8 @@ impl<'a> Guesses<'a> {
         Ok(guesses)
     }
 
-    // Adds the candidates, the first of which is to come first, and the matching that pairs equal places, unless it is one of these.
+    // Adds the candidates, the first of which is to come first, and the matching that pairs equal places, unless it is
+    // one of these.
     fn add_all(
         &mut self,
         alloc: Global,
@@ -108,7 +110,8 @@ impl<'a> Guesses<'a> {
         Ok(())
     }
 
-    /// Keeps a vector of the first circuit's inputs on which a matching failed, so that matchings that are guessed agree on it.
+    /// Keeps a vector of the first circuit's inputs on which a matching failed, so that matchings that are guessed
+    /// agree on it.
     ///
     /// # Errors
     ///
@@ -121,8 +124,8 @@ impl<'a> Guesses<'a> {
         Ok(())
     }
 
-    /// The next matching, whose outputs agree on all vectors that were tried. None where there are no more candidates, and none is
-    /// guessed within this effort, which bounds what all guesses take together.
+    /// The next matching, whose outputs agree on all vectors that were tried. None where there are no more candidates,
+    /// and none is guessed within this effort, which bounds what all guesses take together.
     ///
     /// # Errors
     ///

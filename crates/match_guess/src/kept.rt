@@ -4,8 +4,8 @@ use bit_list::Bits;
 use port_cells::{Lanes, replicated, with_bit};
 use std::alloc::{AllocError, Global};
 
-/// Vectors of the first circuit's inputs on which matchings failed, the last 256 of them: one run tries a matching on all, and at
-/// most sixteen are compared.
+/// Vectors of the first circuit's inputs on which matchings failed, the last 256 of them: one run tries a matching on
+/// all, and at most sixteen are compared.
 #[derive(Drop)]
 pub(crate) struct Kept {
     /// A bit of each vector, for each input.

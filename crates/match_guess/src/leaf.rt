@@ -7,17 +7,17 @@ use net_core::Side;
 use port_cells::{Cells, Draws, all_lanes, blocks_of_all};
 use std::alloc::{AllocError, Global};
 
-/// How many blocks of 256 drawn vectors a matching is tried on at first: most wrong ones fail on them, for a hundredth of what
-/// trying it on all takes. One block does as well for 29 pairs.
+/// How many blocks of 256 drawn vectors a matching is tried on at first: most wrong ones fail on them, for a hundredth
+/// of what trying it on all takes. One block does as well for 29 pairs.
 const FIRST_BLOCKS: u64 = 8;
 
-/// How many further ones a matching of many inputs is tried on, some 200,000 vectors, where all aren't fewer: a wrong matching
-/// costs the oracle more.
+/// How many further ones a matching of many inputs is tried on, some 200,000 vectors, where all aren't fewer: a wrong
+/// matching costs the oracle more.
 const MORE_BLOCKS: u64 = 768;
 
-/// Pairs the outputs of circuits whose inputs are paired by what they have on vectors, where that can be: on those on which
-/// matchings failed before, which are one block, on a few drawn ones, and on all where the inputs are few. So most wrong matchings
-/// are left before what takes longest.
+/// Pairs the outputs of circuits whose inputs are paired by what they have on vectors, where that can be: on those on
+/// which matchings failed before, which are one block, on a few drawn ones, and on all where the inputs are few. So
+/// most wrong matchings are left before what takes longest.
 pub(crate) fn with_paired_outputs(
     alloc: Global,
     state: State,
@@ -99,7 +99,8 @@ struct Hashes {
     second: Vec<u64>,
 }
 
-// By hand, and so one call wherever a value ends: a derived drop is expanded there, field by field, and makes proofs long.
+// By hand, and so one call wherever a value ends: a derived drop is expanded there, field by field, and makes proofs
+// long.
 impl Drop for Hashes {
     fn drop(self) {
         let Hashes {

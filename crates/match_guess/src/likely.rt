@@ -14,8 +14,9 @@ use std::alloc::{AllocError, Global};
 use std::simd::prelude::*;
 use word_sim::{Words, mix, run_gate_blocks, signed_lanes, simulate, word_at};
 
-/// One of how many gates of either circuit has to seem equal to one of the other, so that a candidate comes first. Where half of them
-/// do, most of what a proof needs is found by hashing and by simulation. Of a chain and a tree of exclusive ors hardly any do.
+/// One of how many gates of either circuit has to seem equal to one of the other, so that a candidate comes first.
+/// Where half of them do, most of what a proof needs is found by hashing and by simulation. Of a chain and a tree of
+/// exclusive ors hardly any do.
 const ONE_OF: usize = 2;
 
 /// How likely it is that a candidate is soon shown to be a match.
@@ -149,8 +150,8 @@ fn does_agree(outputs: &Words, from: u32, entry: (u32, bool), partners: &Words) 
     true
 }
 
-// A number for what each gate has on the first eight words, up to its complement, ascending. Gates that are constant there are
-// left out: they tell nothing.
+// A number for what each gate has on the first eight words, up to its complement, ascending. Gates that are constant
+// there are left out: they tell nothing.
 fn classes_of(alloc: Global, graph: &Graph, inputs: &Words) -> Result<Vec<u64>, AllocError>
     requires { HasColumns graph.now.inputs inputs.now }
 {
@@ -159,7 +160,8 @@ fn classes_of(alloc: Global, graph: &Graph, inputs: &Words) -> Result<Vec<u64>, 
     classes_in(alloc, &values)
 }
 
-// The circuit on the vectors of the first eight words. `values` has room for a block of each signal, and the constant's is there.
+// The circuit on the vectors of the first eight words. `values` has room for a block of each signal, and the constant's
+// is there.
 fn run_block(graph: &Graph, inputs: &Words, values: &mut [u64x8])
     requires columns { HasColumns graph.now.inputs inputs.now }
     requires room { length values.old ≡ signals_of graph.now }

@@ -1,7 +1,7 @@
 //! How many more guesses may fail.
 
-/// How many guesses that fail at once count as one. With half as many the adder and subtractor of 24 bits takes a second
-/// longer; with twice as many none of 29 pairs changes.
+/// How many guesses that fail at once count as one. With half as many the adder and subtractor of 24 bits takes a
+/// second longer; with twice as many none of 29 pairs changes.
 const SHARE: u32 = 8;
 
 /// How many more guesses may fail, in shares.
@@ -13,10 +13,10 @@ pub(crate) struct Patience {
 }
 
 impl Patience {
-    /// That many guesses may fail. In every other round that is said of choice points all of whose guesses failed, and eight
-    /// guesses that fail at once count as such a point: where each sign has to be guessed by itself, as of two numbers that
-    /// are added or subtracted, every other guess fails at once and the next one is right. The other rounds begin anew the
-    /// sooner, which serves where the first guess is wrong.
+    /// That many guesses may fail. In every other round that is said of choice points all of whose guesses failed, and
+    /// eight guesses that fail at once count as such a point: where each sign has to be guessed by itself, as of two
+    /// numbers that are added or subtracted, every other guess fails at once and the next one is right. The other
+    /// rounds begin anew the sooner, which serves where the first guess is wrong.
     pub(crate) fn of_round(round: u32, failures: u32) -> Patience {
         if round % 2 == 1 {
             return Patience {

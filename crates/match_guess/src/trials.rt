@@ -18,8 +18,8 @@ use word_sim::{Rails, Words, and_lanes, first_bit, rails_eval, simulate};
 /// How many words are evaluated at once.
 const BLOCK: usize = 8;
 
-/// Vectors of the first circuit's inputs, 64 in a word, and what its outputs have on them: all vectors of at most eleven
-/// inputs, else 2,048 that are drawn, which make room for those on which whole matchings failed.
+/// Vectors of the first circuit's inputs, 64 in a word, and what its outputs have on them: all vectors of at most
+/// eleven inputs, else 2,048 that are drawn, which make room for those on which whole matchings failed.
 #[derive(Debug)]
 pub struct Trials {
     /// A column for each input.
@@ -30,7 +30,8 @@ pub struct Trials {
     pub next: u32,
 }
 
-// By hand, and so one call wherever a value ends: a derived drop is expanded there, field by field, and makes proofs long.
+// By hand, and so one call wherever a value ends: a derived drop is expanded there, field by field, and makes proofs
+// long.
 impl Drop for Trials {
     fn drop(self) {
         let Trials {
@@ -80,7 +81,7 @@ impl Trials {
         Ok(())
     }
 
-    /// An output's pair among those that are held, and one of the vectors, on which the partner is said to be wrong
+    /// An output's pair among those that are assigned, and one of the vectors, on which the partner is said to be wrong
     /// whatever the inputs have that aren't paired.
     pub fn suspect(
         &self,

@@ -14,8 +14,8 @@ const FEWEST_WORDS: usize = 8;
 /// How many words are tried at most: 2,048 vectors show nearly every wrong pair, and a search tries them at each step.
 const MOST_WORDS: usize = 32;
 
-/// Vectors of n inputs, 8 to 32 words: all of few inputs, which come again where they don't fill a block, else some that are
-/// drawn.
+/// Vectors of n inputs, 8 to 32 words: all of few inputs, which come again where they don't fill a block, else some
+/// that are drawn.
 pub(crate) fn first_vectors(alloc: Global, inputs: u32, seed: u64) -> Result<Words, AllocError>
     ensures { IfOk result (HasColumns inputs) }
 {
@@ -77,9 +77,10 @@ fn bits_for(input: u32, word: usize, whole: bool, draws: &mut Draws) -> u64 {
     }
 }
 
-// A drawn word. Of eight words, a block, two are even, and the others mostly 0 or mostly 1: an output that is nearly always 1
-// on even vectors, as whether a graph has an edge between two of the inputs that are 1, tells the graph only where few inputs
-// are. How few hangs on the graph, so that a quarter of them are, an eighth and a sixteenth. These shares weren't tuned.
+// A drawn word. Of eight words, a block, two are even, and the others mostly 0 or mostly 1: an output that is nearly
+// always 1 on even vectors, as whether a graph has an edge between two of the inputs that are 1, tells the graph only
+// where few inputs are. How few depends on the graph, so that a quarter of them are, an eighth and a sixteenth. These
+// shares weren't tuned.
 fn drawn(word: usize, draws: &mut Draws) -> u64 {
     match word % 8 {
         2 | 5 => sparse(2, draws),

@@ -31,7 +31,7 @@ use Rattle.match_search.specs.declared.ahead.Settled.TheVariants as settled
 pub use Rattle.fact_bans.specs.Serving.{AreValid, HasServed}
 pub use Rattle.class_refine.specs.Refining.{IsShownTrail}
 
--- What a session has of what it is lent, as far as bans and pairs hang on it, and the names of the loans.
+-- What a session has of what it is lent, as far as bans and pairs depend on it, and the names of the loans.
 pub record Lent : Type 0 where
   pub known : Known
   pub ledger : Ledgered
@@ -64,12 +64,11 @@ pub record AreSameLoans (old new : Lent) : Type 0 where
   pub book : new.book_name ≡ old.book_name
   pub ledger : new.ledger_name ≡ old.ledger_name
 
--- claims may be asked and bans held
+-- claims may be asked, and bans made
 abbrev pub MayGoOn : Graphs → Lent → Type 0
 MayGoOn graphs lent = MayHold graphs lent.known lent.ledger lent.bans
 
--- What a call does that holds and deletes no pair: claims were decided and bans held by their facts, whatever it answers, and the
--- trials stay.
+-- What a call does that assigns and deletes no pair: claims were decided and bans made by their facts, whatever it answers, and the trials stay.
 pub record GoesOn {X : Type 0} (graphs : Graphs) (old new : Lent) (result : Result X Stop) : Type 0 where
   pub same : AreSameLoans old new
   pub holds : HoldsBans graphs old.known new.known old.ledger new.ledger old.bans new.bans result
@@ -81,13 +80,13 @@ pub record MayCompare (graphs : Graphs) (known : Known) (ledger : Ledgered) : Ty
   pub lawful : AreFacts graphs known.facts
   pub suits : Suits known ledger
 
--- All may begin: the oracle is of these circuits, the ledger suits it, and no ban is held.
+-- All may begin: the oracle is of these circuits, the ledger suits it, and there is no ban.
 pub record MayBegin (graphs : Graphs) (known : Known) (ledger : Ledgered) (bans : List Ban) : Type 0 where
   pub graphs_are : graphs ≡ known.graphs
   pub suits : Suits known ledger
   pub none : bans ≡ []
 
--- A search may begin: claims may be asked and bans held, and the trials are the first circuit's.
+-- A search may begin: claims may be asked, and bans made, and the trials are the first circuit's.
 pub record MaySearch (graphs : Graphs) (lent : Lent) : Type 0 where
   pub may : MayGoOn graphs lent
   pub trials : AreTrials graphs.first lent.vectors
@@ -98,8 +97,8 @@ pub record MayStep (graphs : Graphs) (lent : Lent) (domains : Domained) : Type 0
   pub trail : IsShownTrail graphs lent.known lent.bans domains
   pub trials : AreTrials graphs.first lent.vectors
 
--- What a step does: claims were decided and bans held by their facts, whatever it answers, and where it does the next step may be
--- made, with these pairs held and deleted.
+-- What a step does: claims were decided and bans made by their facts, whatever it answers, and where it does the next step may be made, with these pairs
+-- assigned and deleted.
 pub record Steps {X : Type 0} (graphs : Graphs) (old new : Lent) (domains : Domained) (result : Result X Stop) : Type 0 where
   pub same : AreSameLoans old new
   pub holds : HoldsBans graphs old.known new.known old.ledger new.ledger old.bans new.bans result
@@ -130,12 +129,12 @@ pub record IsFoundBy (graphs : Graphs) (lent : Lent) (found : Found) : Type 0 wh
   pub found_is : IsFound graphs lent.bans found
   pub decided : IsDecidedFound graphs (map decided_by lent.known.facts) found
 
--- More pairs may be deleted beside one that stays held, and no more is left than before.
+-- More pairs may be deleted beside one that stays assigned, and no more is left than before.
 pub record Deletes (pair : Pair) (before after : Domained) : Type 0 where
   pub held : Contains (held_in after.entries) pair
   pub less : left after ≤ left before
 
--- What a call does that holds a ban of held pairs, if it finds one, and no pair.
+-- What a call does that makes a ban of assigned pairs, if it finds one, and assigns no pair.
 pub record Excludes (graphs : Graphs) (old new : Lent) (held : List Pair) (result : Result (Option ℕ) Stop) : Type 0 where
   pub goes_on : GoesOn graphs old new result
   pub covers : IfOk result (λ found. IfSome found (Covers new.bans held))

@@ -8,11 +8,11 @@ use pair_search::Impasse;
 /// What a step ahead comes to.
 #[derive(Drop)]
 pub(crate) enum Ahead {
-    /// One more pair is held or deleted.
+    /// One more pair is assigned or deleted.
     Deeper,
-    /// The pairs that are held, one of each port, are a match.
+    /// The pairs that are assigned, one of each port, are a match.
     Match(Matching, Items<Log>),
-    /// It doesn't go on.
+    /// The search can't go on: a conflict.
     Impasse(Impasse),
 }
 

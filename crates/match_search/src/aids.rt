@@ -1,4 +1,4 @@
-//! What a search goes by.
+//! The heuristic state of a search.
 
 ghost use Rattle.std.specs.Prelude.{IfOk};
 ghost use Rattle.match_guess.specs.Trials.{AreTrials};
@@ -14,7 +14,8 @@ pub(crate) struct Aids {
     pub(crate) trials: Trials,
 }
 
-// By hand, and so one call wherever a value ends: a derived drop is expanded there, field by field, and makes proofs long.
+// By hand, and so one call wherever a value ends: a derived drop is expanded there, field by field, and makes proofs
+// long.
 impl Drop for Aids {
     fn drop(self) {
         let Aids {
@@ -25,7 +26,7 @@ impl Drop for Aids {
 }
 
 impl Aids {
-    /// What a search begins with. Another seed draws other vectors.
+    /// The state with which a search begins. Another seed draws other vectors.
     pub(crate) fn new(
         alloc: Global,
         graphs: &PairableGraphs<'_>,

@@ -1,4 +1,4 @@
-//! Bans that decided claims show of held pairs.
+//! Bans that decided claims show of assigned pairs.
 
 ghost use Rattle.std.specs.Prelude.{◌<◌, Contains, IfSome};
 ghost use Rattle.account_core.specs.Ports.{IsKnown};
@@ -16,7 +16,7 @@ use net_core::Side;
 use oracle_core::Oracle;
 use pair_search::{Port, way_of};
 
-/// Holds the tallies of an output of the first circuit and each of the second.
+/// Makes the tallies of an output of the first circuit and each of the second.
 pub(crate) fn ask_output<O: Oracle>(
     graphs: &PairableGraphs<'_>,
     session: &mut Session<'_, O>,
@@ -41,8 +41,8 @@ pub(crate) fn ask_output<O: Oracle>(
     Ok(())
 }
 
-/// Holds the bans that decided claims show of a held pair: by itself, or with another held one. Such bans have one pair or two,
-/// so that what refers to them needs few pairs too. Answers whether there are any.
+/// Makes the bans that decided claims show of an assigned pair: by itself, or with another assigned one. Such bans have
+/// one pair or two, so that what refers to them needs few pairs too. Answers whether there are any.
 pub(crate) fn ask_held<O: Oracle>(
     graphs: &PairableGraphs<'_>,
     session: &mut Session<'_, O>,
@@ -53,7 +53,7 @@ pub(crate) fn ask_held<O: Oracle>(
     requires held { Contains (held_in domains.now.entries) pair }
     ensures steps { Steps graphs.now (lent O.known session.old) (lent O.known session.new) domains.now result }
 {
-    // held pairs are of ports that exist, and share none
+    // assigned pairs are of ports that exist, and share none
     let _lawful = domains.entries();
     let count = session.book.bans().len();
     let held = domains.pairs();
@@ -64,7 +64,7 @@ pub(crate) fn ask_held<O: Oracle>(
     Ok(session.book.bans().len() > count)
 }
 
-// Holds the tally of a pair of outputs.
+// Makes the tally of a pair of outputs.
 fn ask_alone<O: Oracle>(
     graphs: &PairableGraphs<'_>,
     session: &mut Session<'_, O>,
@@ -80,7 +80,7 @@ fn ask_alone<O: Oracle>(
     }
 }
 
-// Holds a mismatch of two pairs, if they are of different kinds.
+// Makes a mismatch of two pairs, if they are of different kinds.
 fn ask_two<O: Oracle>(
     graphs: &PairableGraphs<'_>,
     session: &mut Session<'_, O>,

@@ -25,8 +25,8 @@ use oracle_core::Oracle;
 use pair_search::{Impasse, branch, start_over, turn_back};
 use watch_core::Stage;
 
-/// Searches from nothing, with the bans that are held, for this many rounds, or until the bans take all their room, and answers
-/// what that came to, if it came to anything. Rounds end early once this many lines are learned in the run.
+/// Searches from nothing, with the bans that are kept, for this many rounds, or until the bans take all their room, and
+/// answers what that came to, if it came to anything. Rounds end early once this many lines are learned in the run.
 ///
 /// # Errors
 ///
@@ -70,7 +70,7 @@ fn run_rounds<O: Oracle>(
     Ok(None)
 }
 
-/// Searches from nothing, with the bans that are held, and doesn't start over.
+/// Searches from nothing, with the bans that are kept, and doesn't start over.
 ///
 /// # Errors
 ///
@@ -116,7 +116,7 @@ fn is_round_over<O: Oracle>(session: &Session<'_, O>) -> bool {
     session.aids.guide.is_round_over(learned)
 }
 
-// One step ahead, and back from an impasse. It answers None where less is left than before.
+// Goes one step ahead, and back after a conflict. None: the search isn't over, and less is left than before.
 fn turn<O: Oracle>(
     graphs: &PairableGraphs<'_>,
     session: &mut Session<'_, O>,
@@ -153,7 +153,7 @@ fn turn<O: Oracle>(
     }
 }
 
-// One step ahead: what follows is held and deleted, then the next port is decided.
+// One step ahead: what follows is assigned and deleted, then the next port is decided.
 fn ahead<O: Oracle>(
     graphs: &PairableGraphs<'_>,
     session: &mut Session<'_, O>,
@@ -189,7 +189,7 @@ fn go_on<O: Oracle>(
     }
 }
 
-// Compares the outputs under the pairs that are held, one of each port.
+// Compares the outputs under the pairs that are assigned, one of each port.
 fn compare_held<O: Oracle>(
     graphs: &PairableGraphs<'_>,
     session: &mut Session<'_, O>,
@@ -206,8 +206,8 @@ fn compare_held<O: Oracle>(
     }
 }
 
-// Answers a match, once the claims of one input of all outputs are decided. Neither these nor bans exclude the pairs of a
-// match, so that the other answer of refining is not expected here; but it is no harm, and goes the way of any ban.
+// Answers a match, once the claims of one input of all outputs are decided. Neither these nor bans exclude the pairs of
+// a match, so that the other answer of refining is not expected here; but it is no harm, and goes the way of any ban.
 fn confirm<O: Oracle>(
     graphs: &PairableGraphs<'_>,
     session: &mut Session<'_, O>,

@@ -25,8 +25,8 @@ use std::alloc::Global;
 use vector_bans::{Difference, exclude};
 use watch_core::Stage;
 
-/// Compares all outputs under the pairs that are held, one of each port. Where one differs, it keeps the vector, and holds a
-/// ban of which all pairs are held.
+/// Compares all outputs under the pairs that are assigned, one of each port. Where one differs, it keeps the vector,
+/// and makes a ban of which all pairs are assigned.
 pub(crate) fn compare_whole<O: Oracle>(
     graphs: &PairableGraphs<'_>,
     session: &mut Session<'_, O>,
@@ -40,7 +40,7 @@ pub(crate) fn compare_whole<O: Oracle>(
     // the gates of a graph are in order
     let _first = graphs.first();
     let _second = graphs.second();
-    // held pairs are of ports that exist, and share none
+    // assigned pairs are of ports that exist, and share none
     let _lawful = domains.entries();
     let asker = &mut session.asker;
     let alloc = asker.alloc;
@@ -66,8 +66,8 @@ pub(crate) fn compare_whole<O: Oracle>(
     }
 }
 
-/// Compares the outputs, until one differs. The logs of those that agree come after those given. The outputs are taken in order, as an
-/// account has their logs.
+/// Compares the outputs, until one differs. The logs of those that agree come after those given. The outputs are taken
+/// in order, as an account has their logs.
 pub(crate) fn compare_all<O: Oracle>(
     alloc: Global,
     graphs: &PairableGraphs<'_>,

@@ -1,4 +1,4 @@
-//! Both phases.
+//! Both phases: matchings are guessed, and then a match is sought or excluded.
 
 ghost use Rattle.match_search.specs.States.{MayBegin, MaySearch, Searches, SearchesBy, lent};
 
@@ -18,30 +18,31 @@ use oracle_core::Oracle;
 use query_core::Ledger;
 use std::alloc::Global;
 
-/// Up to how many inputs times outputs counts are looked at, and a short search is made, before all guesses. An adder of 32 bits has
-/// 2,112. Near misses of an encoder of 64 bits and of a subtractor and an incrementer of 32 are refused in a quarter of the time that
-/// way, though one of a unit of 24 bits that adds and subtracts takes twice as long. An adder of 128 bits has 33,024, and asks for
-/// seconds there, though its matching is guessed in one.
+/// Where inputs times outputs are at most this many, counts are looked at and a short search is made before all
+/// guesses. An adder of 32 bits has 2,112. Near misses of an encoder of 64 bits and of a subtractor and an incrementer
+/// of 32 are refused in a quarter of the time that way, though one of a unit of 24 bits that adds and subtracts takes
+/// twice as long. An adder of 128 bits has 33,024, and asks for seconds there, though its matching is guessed in one.
 const FEW_FLIPS: u64 = 2_304;
 
-/// How often a refusal by counts is tried before more matchings are guessed: once, since vectors that err there say little, and of
-/// circuits that match each further try is lost.
+/// How often a refusal by counts is tried before more matchings are guessed: once, since vectors that err there say
+/// little, and of circuits that match each further try is lost.
 const FEW_TRIES: u32 = 1;
 
-/// How many rounds a short search has: 1, 1, 2, 1, 1, 2 and 4 times the shortest one. After three a near miss of an encoder
-/// (`encoder64`) isn't refused; 15 in which more lines may be learned gain nothing more.
+/// How many rounds a short search has: 1, 1, 2, 1, 1, 2 and 4 times the shortest one. After three a near miss of an
+/// encoder (`encoder64`) isn't refused; 15 in which more lines may be learned gain nothing more.
 const LITTLE_ROUNDS: u64 = 7;
 
-/// How many lines may be learned in the short search before all guesses: an eighth of a second's. Four times as many, in twice the
-/// rounds, gain nothing more.
+/// How many lines may be learned in the short search before all guesses: an eighth of a second's. Four times as many,
+/// in twice the rounds, gain nothing more.
 const FEW_LINES: u64 = 5_000;
 
-/// Decides whether two circuits with as many ports match. Matchings that are guessed are compared first; where none of them is a
-/// match, `search` decides. Of circuits with few claims, matchings of little effort come first, then a refusal by counts and a
-/// short search, which take little there, and then all guesses and the search. All draw by the seed.
+/// Decides whether two circuits with as many ports match. Matchings that are guessed are compared first; where none of
+/// them is a match, `search` decides. Of circuits with few claims, matchings of little effort come first, then a
+/// refusal by counts and a short search, which take little there, and then all guesses and the search. All draw by the
+/// seed.
 ///
-/// The book's bans are valid in view of the oracle's facts, and each ban by a vector is a last resort, as `search` says,
-/// whatever is answered. Of a match that is guessed no claim is decided.
+/// The book's bans are valid in view of the oracle's facts, and each ban by a vector is a last resort, as `search`
+/// says, whatever is answered. Of a match that is guessed no claim is decided.
 ///
 /// # Errors
 ///
@@ -55,7 +56,8 @@ pub fn decide<O: Oracle>(
     ledger: &mut Ledger,
 ) -> Result<Found, Stop>
     requires may { MayBegin graphs.now (O.known oracle.old) ledger.old book.old }
-    ensures searches { Searches graphs.now (O.known oracle.old) (O.known oracle.new) ledger.old ledger.new book.new result }
+    ensures searches { Searches graphs.now (O.known oracle.old)
+        (O.known oracle.new) ledger.old ledger.new book.new result }
 {
     let _facts = oracle.facts();
     let mut guesses = Guesses::new(alloc, graphs, hints)?;
@@ -88,8 +90,8 @@ pub fn decide<O: Oracle>(
     }
 }
 
-// With how much effort matchings are guessed at first: little where there are few claims of one input, so that counts may refuse a
-// match before all guesses failed.
+// With how much effort matchings are guessed at first: little where there are few claims of one input, so that counts
+// may refuse a match before all guesses failed.
 fn first_effort(graphs: &PairableGraphs<'_>) -> Effort {
     let inputs = graphs.ports(PortKind::Input) as u64;
     let outputs = graphs.ports(PortKind::Output) as u64;
@@ -100,8 +102,8 @@ fn first_effort(graphs: &PairableGraphs<'_>) -> Effort {
     }
 }
 
-// Decides where little effort found no match: by counts, by a short search, which refuses what a few conflicts show, by more
-// guesses, and then by searching with the bans that are held.
+// Decides where little effort found no match: by counts, by a short search, which refuses what a few conflicts show, by
+// more guesses, and then by searching with the bans that are kept.
 fn refuse_or_find<'a, O: Oracle>(
     graphs: &PairableGraphs<'a>,
     session: &mut Session<'_, O>,

@@ -13,9 +13,9 @@ use cnf_core::Stop;
 use fact_bans::{SwapPairs, swap_mismatch};
 use oracle_core::Oracle;
 
-/// Holds a ban that claims of two inputs show of the newest held pair and two others, and answers its number; None where none was
-/// shown. It looks at any two others, which is good enough because a look takes what vectors showed of two claims: one is asked only
-/// where that tells the pairs apart.
+/// Makes a ban that claims of two inputs show of the newest assigned pair and two others, and answers its number; None
+/// where none was shown. It looks at any two others, which is good enough because a look takes what vectors showed of
+/// two claims: one is asked only where that tells the pairs apart.
 pub(crate) fn exclude_by_swaps<O: Oracle>(
     graphs: &PairableGraphs<'_>,
     session: &mut Session<'_, O>,
@@ -35,7 +35,7 @@ pub(crate) fn exclude_by_swaps<O: Oracle>(
     Ok(None)
 }
 
-// Holds a ban of the newest pair, an input's, and a third one.
+// Makes a ban of the newest pair, an input's, and a third one.
 fn exclude_with<O: Oracle>(
     graphs: &PairableGraphs<'_>,
     session: &mut Session<'_, O>,
@@ -60,7 +60,7 @@ fn exclude_with<O: Oracle>(
     Ok(None)
 }
 
-// Holds a ban of three pairs, where the third is an output's and the others are inputs', or the first is an output's.
+// Makes a ban of three pairs, where the third is an output's and the others are inputs', or the first is an output's.
 fn exclude_three<O: Oracle>(
     graphs: &PairableGraphs<'_>,
     session: &mut Session<'_, O>,

@@ -21,12 +21,12 @@ struct Candidate {
     weight: u64,
 }
 
-/// Of the ports that are in no pair the one of either circuit that has the fewest ways left for its weight: ports of the last
-/// conflicts are decided first, so that these come again sooner and lead to bans of few pairs. Of the inputs those alone are
-/// looked at that an output in a pair reads. An output counts as if it had this many times its ways.
+/// Of the ports that are in no pair the one of either circuit that has the fewest ways left for its weight: ports of
+/// the last conflicts are decided first, so that these come again sooner and lead to bans of few pairs. Of the inputs
+/// those alone are looked at that an output in a pair reads. An output counts as if it had this many times its ways.
 ///
-/// All ports are gone over, and no heap of them is kept, for the numbers of ways change with each pair that is deleted, and a
-/// decision deletes all other ways of two ports, which are about four times the ports of its kind in a circuit.
+/// All ports are gone over, and no heap of them is kept, for the numbers of ways change with each pair that is deleted,
+/// and a decision deletes all other ways of two ports, which are about four times the ports of its kind in a circuit.
 pub(crate) fn fewest_ways(
     alloc: Global,
     reads: &Reads,
@@ -57,7 +57,7 @@ fn fewest_of_outputs(weights: &Weights, domains: &Domains) -> Option<Candidate> 
     fewer(first, second)
 }
 
-// That of the inputs of a circuit that outputs in pairs read.
+// The input with the fewest ways, of those of a circuit that outputs in pairs read.
 fn fewest_read(
     alloc: Global,
     reads: &[Items<u32>],
@@ -90,7 +90,7 @@ fn mark_all(inputs: &[u32], read: &mut [bool]) {
     }
 }
 
-// That of the ports of a kind of a circuit, of the inputs those alone that are read.
+// The port of a kind with the fewest ways, in a circuit; of the inputs only those count that are read.
 fn fewest_of(
     weights: &Weights,
     domains: &Domains,
@@ -137,7 +137,7 @@ fn candidate_at(
     })
 }
 
-// That of two candidates which has fewer ways for its weight.
+// The one of two candidates that has fewer ways for its weight.
 fn fewer(one: Option<Candidate>, other: Option<Candidate>) -> Option<Candidate> {
     let Some(first) = one else {
         return other;

@@ -1,4 +1,4 @@
-//! What follows of the pairs that are held, by bans, by decided claims and by vectors.
+//! What follows of the pairs that are assigned, by bans, by decided claims and by vectors.
 
 ghost use Rattle.std.specs.Prelude.{◌≤◌, Contains, IfOk, IfSome, OnOk};
 ghost use Rattle.pair_search.specs.Impasses.{IsImpasse};
@@ -21,8 +21,8 @@ use pair_search::{Impasse, propagate};
 use std::alloc::AllocError;
 use vector_bans::foresee;
 
-/// Holds and deletes what follows of bans and of claims, those of one input first, which are fewer and whose bans are shorter,
-/// and tries the pairs that are held on vectors.
+/// Propagates bans, compares the assigned pairs with decided claims, those of one input first, which are fewer and
+/// whose bans are shorter, and then tries the pairs on vectors.
 pub(crate) fn follow<O: Oracle>(
     graphs: &PairableGraphs<'_>,
     session: &mut Session<'_, O>,
@@ -47,7 +47,7 @@ pub(crate) fn follow<O: Oracle>(
     try_held(graphs, session, domains)
 }
 
-// Tries the held pairs on vectors.
+// Tries the assigned pairs on vectors.
 fn try_held<O: Oracle>(
     graphs: &PairableGraphs<'_>,
     session: &mut Session<'_, O>,
@@ -57,7 +57,7 @@ fn try_held<O: Oracle>(
     ensures steps { Steps graphs.now (lent O.known session.old) (lent O.known session.new) domains.now result }
     ensures impasse { IfOk result (λ found. IfSome found (IsImpasse session.new.book.now domains.now)) }
 {
-    // held pairs are of ports that exist, and share none
+    // assigned pairs are of ports that exist, and share none
     let _lawful = domains.entries();
     match foresee(
         graphs,
@@ -71,7 +71,7 @@ fn try_held<O: Oracle>(
     }
 }
 
-// Holds each held pair that wasn't yet against claims of two inputs, beside all others.
+// Compares each assigned pair that wasn't compared yet with claims of two inputs, beside all other assigned pairs.
 fn exchange_held<O: Oracle>(
     graphs: &PairableGraphs<'_>,
     session: &mut Session<'_, O>,
@@ -81,7 +81,7 @@ fn exchange_held<O: Oracle>(
     ensures steps { Steps graphs.now (lent O.known session.old) (lent O.known session.new) domains.now result }
     ensures impasse { IfOk result (λ found. IfSome found (IsImpasse session.new.book.now domains.now)) }
 {
-    // held pairs are of ports that exist, and share none
+    // assigned pairs are of ports that exist, and share none
     let _lawful = domains.entries();
     let held = domains.pairs();
     for place in session.aids.guide.exchanged..held.len() {
@@ -94,8 +94,8 @@ fn exchange_held<O: Oracle>(
     Ok(None)
 }
 
-// Holds and deletes what follows of bans, and has claims decided of each output and of each held pair, whose bans come to them.
-// In each turn but the last one it is one more. Where the round has learned its lines, no more are.
+// Propagates bans in turns. After each turn the claims of one more output, or of one more assigned pair, are decided,
+// and the bans that they show are made. It ends where none is left, or once the round has learned its lines.
 fn settle<O: Oracle>(
     graphs: &PairableGraphs<'_>,
     session: &mut Session<'_, O>,
@@ -126,8 +126,8 @@ fn settle<O: Oracle>(
     Ok(None)
 }
 
-// Holds the tallies of the next output that none were held of, or else the bans that decided claims show of the next held pair,
-// and deletes the ways that they tell from it. Answers whether there is one.
+// Makes the tallies of the next output that has none. After the last output it makes the bans that decided claims show
+// of the next assigned pair, and deletes the ways that they tell from it. Answers whether there was a next one.
 fn ask_next<O: Oracle>(
     graphs: &PairableGraphs<'_>,
     session: &mut Session<'_, O>,
@@ -145,9 +145,9 @@ fn ask_next<O: Oracle>(
     Ok(true)
 }
 
-// Holds the bans that decided claims show of the next held pair that wasn't compared with any, and deletes the ways that they
-// tell from it. Where there are such bans, what follows of them comes first, and the pair is compared again. Answers whether
-// there is such a pair.
+// Makes the bans that decided claims show of the next assigned pair that wasn't compared yet. Where there are some,
+// what follows of them comes first, and the pair is compared again; where there are none, the ways that claims tell
+// from the pair are deleted. Answers whether there is such a pair.
 fn ask_next_pair<O: Oracle>(
     graphs: &PairableGraphs<'_>,
     session: &mut Session<'_, O>,
@@ -169,14 +169,14 @@ fn ask_next_pair<O: Oracle>(
     Ok(true)
 }
 
-// The held pair of a place.
+// The assigned pair of a place.
 fn next_held(domains: &Domains, place: usize) -> Option<Pair>
     ensures { IfSome result (Contains (held_in domains.now.entries)) }
 {
     domains.pairs().get(place).copied()
 }
 
-// Deletes the ways that decided claims tell from a held pair.
+// Deletes the ways that decided claims tell from an assigned pair.
 fn delete_beside<O: Oracle>(
     graphs: &PairableGraphs<'_>,
     session: &mut Session<'_, O>,
@@ -193,7 +193,7 @@ fn delete_beside<O: Oracle>(
     delete_unlike(graphs, session, domains, pair, &ways)
 }
 
-// The ways that vectors tell from a held pair.
+// The ways that vectors tell from an assigned pair.
 fn ways_beside<O: Oracle>(
     asker: &Asker<'_, O>,
     domains: &Domains,

@@ -17,8 +17,8 @@ use query_core::Ledger;
 use std::alloc::Global;
 use watch_core::Stage;
 
-/// How many guessed matchings are compared. Each is right on the vectors that showed the ones before it to be wrong, so that it
-/// isn't wrong for what they were; that they are 16 was chosen, and not measured.
+/// How many guessed matchings are compared. Each is right on the vectors that showed the ones before it to be wrong, so
+/// that it isn't wrong for what they were; that they are 16 was chosen, and not measured.
 const MOST_GUESSES: u32 = 16;
 
 /// What a guess comes to.
@@ -32,8 +32,8 @@ pub(crate) enum Guessed {
     Nothing,
 }
 
-/// Compares matchings that are guessed with so much effort, a bounded number of them, and answers one that is a match, with its
-/// logs. None says nothing of whether there is a match.
+/// Compares matchings that are guessed with so much effort, a bounded number of them, and answers one that is a match,
+/// with its logs. None says nothing of whether there is a match.
 pub(crate) fn compare_guesses<'a, O: Oracle>(
     alloc: Global,
     graphs: &PairableGraphs<'a>,

@@ -12,24 +12,25 @@ use circuits::Pair;
 use pair_search::{Impasse, Port};
 use std::alloc::{AllocError, Global};
 
-/// The most that tallies of all signed pairs of outputs may ask: the pairs times the inputs. Each pair's ban lists up to twice as
-/// many facts as there are inputs, so more would take much memory. Above that tallies are held of held pairs alone.
+/// The most that tallies of all signed pairs of outputs may ask: the pairs times the inputs. Each pair's ban lists up
+/// to twice as many facts as there are inputs, so more would take much memory. Above that tallies are made of assigned
+/// pairs alone.
 const MOST_ASKED: u64 = 1 << 21;
 
-/// What guides a search: for each output of either circuit the inputs that it reads, in how many of the last conflicts ports were,
-/// what was asked and compared, and how far the round is. No answer rests on it.
+/// What guides a search: for each output of either circuit the inputs that it reads, in how many of the last conflicts
+/// ports were, what was asked and compared, and how far the round is. No answer rests on it.
 #[derive(Drop)]
 pub struct Guide {
     pub(crate) reads: Reads,
     pub(crate) weights: Weights,
     pub(crate) rounds: Rounds,
     room: Room,
-    /// The outputs of the first circuit whose tallies are held at first, in that order, and how many have been.
+    /// The outputs of the first circuit whose tallies are made at first, in that order, and how many have been.
     order: Vec<u32>,
     tallied: usize,
-    /// How many of the held pairs were held against claims of one input.
+    /// How many of the assigned pairs were compared with claims of one input.
     pub asked: usize,
-    /// How many of the held pairs were held against claims of two inputs.
+    /// How many of the assigned pairs were compared with claims of two inputs.
     pub exchanged: usize,
     compared: ComparedPairs,
     /// The port that was decided last, and the one that comes first as long as it is in no pair.
@@ -65,26 +66,26 @@ impl Guide {
         })
     }
 
-    /// Notes that a search begins with no pair held, whose rounds end once this many lines are learned in the run.
+    /// Notes that a search begins with no pair assigned, whose rounds end once this many lines are learned in the run.
     pub fn begin(&mut self, lines: u64) {
         self.forget(0);
         self.rounds.end_at(lines);
     }
 
-    /// Notes that only this many pairs are held now, the earliest ones.
+    /// Notes that only this many pairs are assigned now, the earliest ones.
     pub fn forget(&mut self, held: usize) {
         self.asked = self.asked.min(held);
         self.exchanged = self.exchanged.min(held);
     }
 
-    /// Notes that a round begins, with this many held pairs, the earliest ones.
+    /// Notes that a round begins, with this many assigned pairs, the earliest ones.
     pub fn begin_round(&mut self, held: usize) {
         self.forget(held);
         self.rounds.advance();
     }
 
-    /// Notes that the search begins anew, with no bans: no pair is held, and of no output tallies are. What was learned of the
-    /// ports, as their weights, stays.
+    /// Notes that the search begins anew, with no pair assigned and no ban, so that no output has its tallies. What was
+    /// learned of the ports, as their weights, stays.
     pub fn begin_anew(&mut self) {
         self.room = Room::new();
         self.tallied = 0;
@@ -93,7 +94,8 @@ impl Guide {
         self.begin_round(0);
     }
 
-    /// Whether the round has had what it may have: its conflicts, the lines that may be learned in the run, or the bans' room.
+    /// Whether the round has had what it may have: its conflicts, the lines that may be learned in the run, or the
+    /// bans' room.
     pub fn is_round_over(&self, learned: u64) -> bool {
         self.has_had_its_share(learned) | self.is_full()
     }
@@ -118,19 +120,19 @@ impl Guide {
         self.compared.mark(pair)
     }
 
-    /// Notes an impasse. Where outputs have too few others to go to, the port that was decided last comes first until it has a
-    /// pair (last conflict: Lecoutre and others, Artificial Intelligence 2009). A way that several held pairs exclude has the
-    /// first of them as its reason, so the conflict may have pairs that were held long before, and each way of this port would
-    /// be tried beside each of these. With this done after every conflict a near miss of a graph (`triangular8_or`) took 2.5
-    /// times as many.
+    /// Notes an impasse. Where outputs have too few others to go to, the port that was decided last comes first until
+    /// it has a pair (last conflict: Lecoutre and others, Artificial Intelligence 2009). A way that several assigned
+    /// pairs exclude has the first of them as its reason, so the conflict may have pairs that were assigned long
+    /// before, and each way of this port would be tried beside each of these. With this done after every conflict a
+    /// near miss of a graph (`triangular8_or`) took 2.5 times as many.
     pub fn hurry(&mut self, impasse: &Impasse) {
         if let Impasse::Block(_) = impasse {
             self.urgent = self.decided;
         }
     }
 
-    /// Notes the bans that the conflict of an impasse came to, those from a place on, the last of which was learned; where
-    /// there are none, the ban that the impasse was is the learned one.
+    /// Notes the bans that the conflict of an impasse came to, those from a place on, the last of which was learned;
+    /// where there are none, the ban that the impasse was is the learned one.
     pub fn learn(&mut self, bans: &[Ban], from: usize, dead: Option<u64>) {
         self.rounds.count();
         self.room.count(bans);
@@ -141,7 +143,7 @@ impl Guide {
         }
     }
 
-    /// The next output of the first circuit whose tallies are to be held, one of n outputs.
+    /// The next output of the first circuit whose tallies are to be made, one of n outputs.
     pub fn next_output(&mut self, outputs: u32) -> Option<u32>
         ensures there { IfSome result (λ output. output < outputs) }
     {
@@ -155,8 +157,8 @@ fn ban_at(bans: &[Ban], number: Option<u64>) -> Option<&Ban> {
     bans.get(number? as usize)
 }
 
-// The outputs of the first circuit, those first that read the fewest inputs, whose claims are cheap; none where there are too
-// many.
+// The outputs of the first circuit, those first that read the fewest inputs, whose claims are cheap; none where there
+// are too many.
 fn order_of(
     alloc: Global,
     reads: &Reads,

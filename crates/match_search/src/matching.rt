@@ -20,7 +20,8 @@ pub(crate) fn matching_of(
 ) -> Result<Matching, AllocError>
     requires held { AreHeld graphs.now held.now }
     requires whole { IsWhole graphs.now held.now }
-    ensures ports { IfOk result (λ matching. HavePorts graphs.now.first graphs.now.second matching.inputs matching.outputs) }
+    ensures ports { IfOk result
+        (λ matching. HavePorts graphs.now.first graphs.now.second matching.inputs matching.outputs) }
     ensures extends { IfOk result (λ matching. Extends held.now matching.inputs matching.outputs) }
 {
     let inputs = graphs.ports(PortKind::Input);

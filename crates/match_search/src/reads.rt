@@ -22,8 +22,8 @@ impl Reads {
     }
 }
 
-/// The outputs, n of them, those first that read the fewest inputs. They are gone over once for each number of inputs, once in a
-/// search: a tally of each pair, for which the order is, looks at as many inputs.
+/// The outputs, n of them, those first that read the fewest inputs. They are gone over once for each number of inputs,
+/// once in a search: a tally of each pair, for which the order is, looks at as many inputs.
 pub(crate) fn by_count(
     alloc: Global,
     reads: &[Items<u32>],

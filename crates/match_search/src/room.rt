@@ -2,12 +2,13 @@
 
 use account_core::{Ban, Step};
 
-/// How many bytes the bans may take. With the facts and what isn't counted a search took less than a gigabyte then, where it was
-/// measured.
+/// How many bytes the bans may take. With the facts and what isn't counted a search took less than a gigabyte then,
+/// where it was measured.
 const MOST: u64 = 600_000_000;
 
-/// What a ban takes, with few pairs and its places in the indices of bans. Bans of wide circuits have more pairs, and those by
-/// vectors a byte for each input beside. A tally's lists aren't counted: `MOST_ASKED` bounds those of all pairs of outputs.
+/// What a ban takes, with few pairs and its places in the indices of bans. Bans of wide circuits have more pairs, and
+/// those by vectors a byte for each input beside. A tally's lists aren't counted: `MOST_ASKED` bounds those of all
+/// pairs of outputs.
 const BAN: u64 = 270;
 
 /// What a reference of a cover takes. A cover of 128 ports and as many others has 32,768 of them.

@@ -1,25 +1,25 @@
 //! How long a search goes on before it starts over.
 
-/// How many conflicts the shortest rounds have. With 32 a near miss of a comparator of 16 words, one of a rotation of 32 bits and
-/// others took half as long again, since all that follows of the first pairs is deleted anew.
+/// How many conflicts the shortest rounds have. With 32 a near miss of a comparator of 16 words, one of a rotation of
+/// 32 bits and others took half as long again, since all that follows of the first pairs is deleted anew.
 const SHORTEST: u64 = 100;
 
-/// In every other round an output counts as if it had this many times its ways. Once inputs have pairs, the partners of outputs
-/// that read them are known, so inputs come first where no conflict says otherwise. With 2 alone near misses of adders that
-/// subtract too (`addsub24`) were late, and with 4 alone those of rotations (`rotate16`); counted alike, three of 11 near misses
-/// took 1.5 seconds and more that take less than one with 4.
+/// In every other round an output counts as if it had this many times its ways. Once inputs have pairs, the partners of
+/// outputs that read them are known, so inputs come first where no conflict says otherwise. With 2 alone near misses of
+/// adders that subtract too (`addsub24`) were late, and with 4 alone those of rotations (`rotate16`); counted alike,
+/// three of 11 near misses took 1.5 seconds and more that take less than one with 4.
 const OUTPUT_FACTOR: u64 = 4;
 
 /// And in the others this many times.
 const OTHER_FACTOR: u64 = 2;
 
-/// The rounds of a search, after each of which it starts over. Their lengths are as the numbers 1, 1, 2, 1, 1, 2, 4, 1, .. of
-/// Luby, Sinclair and Zuckerman (Information Processing Letters 1993), which solvers use: all rounds of a length take as many
-/// conflicts together as those of any other.
+/// The rounds of a search, after each of which it starts over. Their lengths are as the numbers 1, 1, 2, 1, 1, 2, 4, 1,
+/// .. of Luby, Sinclair and Zuckerman (Information Processing Letters 1993), which solvers use: all rounds of a length
+/// take as many conflicts together as those of any other.
 #[derive(Drop)]
 pub(crate) struct Rounds {
-    /// The numbers by which Knuth makes the sequence (reluctant doubling): the length doubles until it is the greatest power of
-    /// two that divides the turn, and then the next turn begins with 1.
+    /// The numbers by which Knuth makes the sequence (reluctant doubling): the length doubles until it is the greatest
+    /// power of two that divides the turn, and then the next turn begins with 1.
     turn: u64,
     length: u64,
     /// Whether the round is the second, the fourth and so on.

@@ -21,27 +21,27 @@ use std::alloc::Global;
 /// How often a refusal by counts is tried. Vectors that err more often say little of the circuits.
 const MOST_TRIES: u32 = 32;
 
-/// How many rounds there are with the same bans, after each of which the search starts over. They come to some six million
-/// conflicts, hours of work.
+/// How many rounds there are with the same bans, after each of which the search starts over. They come to some six
+/// million conflicts, hours of work.
 const MOST_ROUNDS: u64 = 10_000;
 
-/// How often the search begins anew with no bans, once they take all their room, which is some seconds' work at least. That it ends is
-/// seen of what follows alone, in which the bans aren't let go, and less is left after each turn.
+/// How often the search begins anew with no bans, once they take all their room, which takes some seconds at least.
+/// After the last time it goes on without letting bans go: then less is left after each turn, so that it ends.
 const MOST_TIMES: u64 = 10_000;
 
-/// Looks for a match of two circuits with as many ports, as conflict-driven solvers look for models, unless counts of inputs
-/// refuse one at once. Ports are decided one by one, and what follows of bans and of ports with one way left is held and deleted.
-/// From an impasse a ban is learned that leads as far back as it can, and the outputs of whole matchings are compared. Pairs are
-/// tried on vectors; another seed draws other ones. `docs/SEARCH.md` tells how, and why it ends.
+/// Looks for a match of two circuits with as many ports, as conflict-driven solvers look for models, unless counts of
+/// inputs refuse one at once. Ports are decided one by one, and bans and ports with one way left are propagated. From a
+/// conflict a ban is learned that leads as far back as it can. Pairs are tried on vectors, and the outputs of whole
+/// matchings are compared. Another seed draws other vectors. `docs/SEARCH.md` tells how, and why it ends.
 ///
-/// The book's bans are valid in view of the oracle's facts, whatever is answered. A ban by a vector is a last resort: the
-/// claims of one input of its two outputs are decided, and neither a mismatch of these nor a tally is valid for its pairs.
-/// Where a match is found, the claims of one input of all outputs are decided after it.
+/// The book's bans are valid in view of the oracle's facts, whatever is answered. A ban by a vector is a last resort:
+/// the claims of one input of its two outputs are decided, and neither a mismatch of these nor a tally is valid for its
+/// pairs. Where a match is found, the claims of one input of all outputs are decided after it.
 ///
 /// # Errors
 ///
-/// `Spent` where a line had to be learned and the ledger's budget was spent, also where a match was found, and its claims weren't
-/// decided. `Memory` when out of memory.
+/// `Spent` where a line had to be learned and the ledger's budget was spent, also where a match was found, and its
+/// claims weren't decided. `Memory` when out of memory.
 pub fn search<O: Oracle>(
     alloc: Global,
     graphs: &PairableGraphs<'_>,
@@ -51,7 +51,8 @@ pub fn search<O: Oracle>(
     ledger: &mut Ledger,
 ) -> Result<Found, Stop>
     requires may { MayBegin graphs.now (O.known oracle.old) ledger.old book.old }
-    ensures searches { Searches graphs.now (O.known oracle.old) (O.known oracle.new) ledger.old ledger.new book.new result }
+    ensures searches { Searches graphs.now (O.known oracle.old)
+        (O.known oracle.new) ledger.old ledger.new book.new result }
     ensures decided { IfOk result (IsDecidedFound graphs.now (map decided_by (O.known oracle.new).facts)) }
 {
     // the facts of an oracle are of its circuits
@@ -71,12 +72,12 @@ pub fn search<O: Oracle>(
     refuse_or_explore(graphs, &mut session)
 }
 
-/// Searches unless counts of inputs refuse a match. Ports are decided one by one, as conflict-driven solvers decide variables, until
-/// a match is found, or a ban without pairs. What the search goes by comes from the caller, and bans may be held. Where a match is
-/// found, the claims of one input of all outputs are decided.
+/// Searches unless counts of inputs refuse a match. Ports are decided one by one, as conflict-driven solvers decide
+/// variables, until a match is found, or a ban without pairs. The heuristic state comes from the caller, and there may
+/// be bans already. Where a match is found, the claims of one input of all outputs are decided.
 ///
-/// Bans that take all their room are let go, and the search begins anew. A ban without pairs rests on those of its book alone, so
-/// nothing that it needs is gone.
+/// Bans that take all their room are let go, and the search begins anew. A ban without pairs rests on those of its book
+/// alone, so nothing that it needs is gone.
 ///
 /// # Errors
 ///
@@ -103,7 +104,7 @@ pub(crate) fn refuse_or_explore<O: Oracle>(
     explore_whole(graphs, session)
 }
 
-/// Holds a ban without pairs that counts of inputs show, tried this often, and answers its number.
+/// Makes a ban without pairs that counts of inputs show, tried this often, and answers its number.
 ///
 /// # Errors
 ///

@@ -1,4 +1,4 @@
-//! The pairs that are held and deleted, and what of that was followed.
+//! The pairs that are assigned and deleted, and how far propagation has come.
 
 ghost use Rattle.std.specs.Prelude.{◌≡◌, [], List, IfOk};
 ghost use Rattle.account_core.specs.declared.step.Ban.{Ban as AnyBan};
@@ -10,7 +10,7 @@ use class_refine::Domains;
 use pair_search::Queue;
 use std::alloc::{AllocError, Global};
 
-/// The pairs of two circuits, held and deleted in order, and how far it was followed what comes of that.
+/// The pairs of two circuits, assigned and deleted in order, and how far propagation has come.
 #[derive(Drop)]
 pub(crate) struct PairTrail {
     pub(crate) domains: Domains,

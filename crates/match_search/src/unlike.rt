@@ -1,4 +1,4 @@
-//! Ways that claims of one input tell from a held pair.
+//! Ways that claims of one input tell from an assigned pair.
 
 ghost use Rattle.std.specs.Prelude.{IfOk, IfSome, OnOk, map, Contains};
 ghost use Rattle.account_core.specs.Given.{decided_by};
@@ -21,21 +21,21 @@ use oracle_core::Oracle;
 use pair_search::is_open;
 use std::alloc::{AllocError, Global};
 
-/// A port of the other kind, and what vectors break of the claims of it and a held pair's port (`Seen::broken`).
+/// A port of the other kind, and what vectors break of the claims of it and an assigned pair's port (`Seen::broken`).
 #[derive(Clone, Copy)]
 struct Beside {
     port: u32,
     broken: u8,
 }
 
-/// Lists the ways of the other kind that vectors tell from a held pair and that aren't deleted: a vector breaks a claim of one
-/// input of the one circuit, and none does that which the pair and the way carry it to. Ports of which a pair is held are
-/// passed over: their other ways are deleted, and held pairs are compared for themselves.
+/// Lists the ways of the other kind that vectors tell from an assigned pair and that aren't deleted: a vector breaks a
+/// claim of one input of the one circuit, and none does that which the pair and the way carry it to. Ports of which a
+/// pair is assigned are passed over: their other ways are deleted, and assigned pairs are compared for themselves.
 ///
-/// Of a pair that was compared before the last ports come first: a port's first way is held when it is decided, so what follows
-/// of the last ones is followed before it. With the first ports first a near miss of 16 copies of a circuit of five inputs took
-/// more than 20 s in place of one; with the last ones first at the first time, too, that of an adder of 128 bits took 10 s in
-/// place of two.
+/// Of a pair that was compared before the last ports come first: a port's first way is assigned when it is decided, so
+/// what follows of the last ones is followed before it. With the first ports first a near miss of 16 copies of a
+/// circuit of five inputs took more than 20 s in place of one; with the last ones first at the first time, too, that of
+/// an adder of 128 bits took 10 s in place of two.
 pub(crate) fn list_unlike(
     alloc: Global,
     domains: &Domains,
@@ -55,7 +55,7 @@ pub(crate) fn list_unlike(
     Ok(ways)
 }
 
-// The ports of a circuit, of the other kind than a pair, of which no pair is held.
+// The ports of a circuit, of the other kind than a pair, of which no pair is assigned.
 fn free_ports(
     alloc: Global,
     domains: &Domains,
@@ -118,7 +118,7 @@ fn exchanged(broken: u8) -> u8 {
     }
 }
 
-// Lists the way of two ports whose sign, with that of a held pair, is such, if it is open.
+// Lists the way of two ports whose sign, with that of an assigned pair, is such, if it is open.
 fn list_way(
     domains: &Domains,
     pair: Pair,
@@ -139,7 +139,7 @@ fn list_way(
     Ok(())
 }
 
-/// Deletes those of some ways that decided claims tell from a held pair.
+/// Deletes those of some ways that decided claims tell from an assigned pair.
 pub(crate) fn delete_unlike<O: Oracle>(
     graphs: &PairableGraphs<'_>,
     session: &mut Session<'_, O>,
@@ -158,7 +158,7 @@ pub(crate) fn delete_unlike<O: Oracle>(
     Ok(())
 }
 
-// Deletes a way if it is open, and decided claims tell it from a held pair.
+// Deletes a way if it is open, and decided claims tell it from an assigned pair.
 fn delete_way<O: Oracle>(
     graphs: &PairableGraphs<'_>,
     session: &mut Session<'_, O>,
@@ -171,7 +171,7 @@ fn delete_way<O: Oracle>(
     ensures steps { Steps graphs.now (lent O.known session.old) (lent O.known session.new) domains.new result }
     ensures deletes { OnOk result (Deletes pair domains.old domains.new) }
 {
-    // held pairs are of ports that exist, and share none
+    // assigned pairs are of ports that exist, and share none
     let _lawful = domains.entries();
     if !is_open(domains, way) {
         return Ok(());
@@ -185,7 +185,7 @@ fn delete_way<O: Oracle>(
     Ok(())
 }
 
-// The facts that tell a way from a held pair, if they are of different kinds.
+// The facts that tell a way from an assigned pair, if they are of different kinds.
 fn unlike_beside<O: Oracle>(
     graphs: &PairableGraphs<'_>,
     session: &mut Session<'_, O>,

@@ -9,8 +9,8 @@ use std::alloc::{AllocError, Global};
 /// What a conflict adds at first: so much that little is lost where its sixteenth is rounded.
 const FIRST_STEP: u64 = 1 << 10;
 
-/// A conflict adds more than the one before it by what that one added divided by this. `learn_solver` counts so too; MiniSat divides
-/// by 0.95. No other number was measured in this search.
+/// A conflict adds more than the one before it by what that one added divided by this. `learn_solver` counts so too;
+/// MiniSat divides by 0.95. No other number was measured in this search.
 const GROWTH: u64 = 16;
 
 /// What it adds at most: then all weights are made smaller, so that their sums stay far below 2^64.
@@ -40,8 +40,8 @@ impl Weights {
         })
     }
 
-    /// Counts a conflict that came to these bans, the last of which was learned: the ports get heavier whose ways were covered
-    /// on the way, and those of the learned pairs.
+    /// Counts a conflict that came to these bans, the last of which was learned: the ports get heavier whose ways were
+    /// covered on the way, and those of the learned pairs.
     pub(crate) fn count(&mut self, bans: &[Ban]) {
         for ban in bans.iter() {
             self.raise_covered(&ban.step);
@@ -60,8 +60,8 @@ impl Weights {
         }
     }
 
-    /// The weight of a port, with a tenth of a conflict for each, so that among ports that were in none the number of ways
-    /// decides. With a fiftieth a near miss of a funnel shifter took three times as many conflicts.
+    /// The weight of a port, with a tenth of a conflict for each, so that among ports that were in none the number of
+    /// ways decides. With a fiftieth a near miss of a funnel shifter took three times as many conflicts.
     pub(crate) fn of(&self, port: Port) -> u64 {
         let place = self.place(port.side, port.kind, port.number);
         let weight = match self.weights.get(place) {
@@ -72,8 +72,8 @@ impl Weights {
     }
 
     // The ports whose ways a step covers: those of the circuit of which they are fewer, which are short of ways to the
-    // others. With those of the other circuit in their place a near miss of a decoder (`decoder6`) took 180,000 conflicts in
-    // place of 3,300.
+    // others. With those of the other circuit in their place a near miss of a decoder (`decoder6`) took 180,000
+    // conflicts in place of 3,300.
     fn raise_covered(&mut self, step: &Step) {
         let Step::Cover { kind, from, to, .. } = step else {
             return;

@@ -1,4 +1,5 @@
-//! A multiplexer and a parity, worked out by hand, and an exclusive or on as many words as fill blocks of eight or don't.
+//! A multiplexer and a parity, worked out by hand, and an exclusive or on as many words as fill blocks of eight or
+//! don't.
 
 use net_core::Graph;
 use rand_core::Rng;

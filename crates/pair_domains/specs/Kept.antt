@@ -12,7 +12,7 @@ pub record TellsPlace (entries : List Entry) (pair : Pair) (place : Option ℕ) 
   pub found : IfSome place (IsPlace entries pair)
   pub none : IfNone place (IsOpen entries pair)
 
--- the pair of a port that is held, if there is one
+-- the pair of a port that is assigned, if there is one
 pub record TellsHeld (entries : List Entry) (side : Side) (kind : PortKind) (port : ℕ) (pair : Option Pair) : Type 0 where
   pub found : IfSome pair (IsHeldAt entries side kind port)
   pub none : IfNone pair (IsFreePort entries side kind port)
@@ -24,7 +24,7 @@ pub record ArePlaces (inputs outputs : ℕ) (entries : List Entry) (places : Lis
       → IsPairOf inputs outputs pair
       → TellsPlace entries pair (slice_index_or places (pair_number inputs outputs pair) None)
 
--- the held pair of each port
+-- the assigned pair of each port
 pub record AreHolders (inputs outputs : ℕ) (entries : List Entry) (held : List (Option Pair)) : Type 0 where
   pub size : length held ≡ 2 * inputs + 2 * outputs
   pub tells : (side : Side) (kind : PortKind) (port : ℕ)

@@ -1,5 +1,5 @@
--- Signed pairs that are held or deleted, in order (the trail of Marques-Silva and Sakallah, GRASP, 1999, over the candidate pairs
--- of Katebi and Markov, DATE 2010).
+-- Signed pairs that are assigned or deleted, in order (the trail of Marques-Silva and Sakallah, GRASP, 1999, over the candidate pairs of Katebi and Markov,
+-- DATE 2010).
 use Rattle.std.specs.Prelude.{◌≡◌, ◌≢◌, ℕ, ◌<◌, ◌==◌, ◌&&◌, Bool, true, false, not, List, length, map, filter, count_by, All, AllPairs, Contains, slice_index_or}
 use Rattle.circuits.specs.declared.port.Pair.{Pair}
 use Rattle.circuits.specs.declared.port.PortKind.{PortKind}
@@ -33,7 +33,7 @@ abbrev pub is_held : Fate → Bool
 is_held (Held cause) = true
 is_held (Deleted reason) = false
 
--- the pairs that are held, in order
+-- the pairs that are assigned, in order
 abbrev pub held_in : List Entry → List Pair
 held_in entries = map (λ entry. entry.pair) (filter (λ entry. is_held entry.fate) entries)
 
@@ -45,7 +45,7 @@ is_at side kind port pair = same_kind pair.kind kind && (port_on side pair == po
 abbrev pub gone_in : List Entry → Side → PortKind → ℕ → ℕ
 gone_in entries side kind port = count_by (λ entry. not (is_held entry.fate) && is_at side kind port entry.pair) entries
 
--- a pair is neither held nor deleted
+-- a pair is neither assigned nor deleted
 abbrev pub IsOpen : List Entry → Pair → Type 0
 IsOpen entries pair = All (λ entry. entry.pair ≢ pair) entries
 
@@ -53,7 +53,7 @@ IsOpen entries pair = All (λ entry. entry.pair ≢ pair) entries
 abbrev pub IsDeleted : List Entry → Pair → Type 0
 IsDeleted entries pair = (reason : Reason) × Contains entries (record { pair = pair; fate = Deleted reason })
 
--- no pair of a port of a circuit is held
+-- no pair of a port of a circuit is assigned
 abbrev pub IsFreePort : List Entry → Side → PortKind → ℕ → Type 0
 IsFreePort entries side kind port = All (λ pair. is_at side kind port pair ≡ false) (held_in entries)
 
@@ -62,12 +62,12 @@ pub record IsPlace (entries : List Entry) (pair : Pair) (place : ℕ) : Type 0 w
   pub within : place < length entries
   pub there : (d : Entry) → (slice_index_or entries place d).pair ≡ pair
 
--- A pair of a port of a circuit is held.
+-- A pair of a port of a circuit is assigned.
 pub record IsHeldAt (entries : List Entry) (side : Side) (kind : PortKind) (port : ℕ) (pair : Pair) : Type 0 where
   pub held : Contains (held_in entries) pair
   pub at : is_at side kind port pair ≡ true
 
--- The pairs are of ports that exist, none has two entries, and no two that are held share a port.
+-- The pairs are of ports that exist, none has two entries, and no two that are assigned share a port.
 pub record AreEntries (inputs outputs : ℕ) (entries : List Entry) : Type 0 where
   pub known : All (λ entry. IsPairOf inputs outputs entry.pair) entries
   pub distinct : AllPairs (λ one other. one.pair ≢ other.pair) entries

@@ -1,4 +1,4 @@
-//! The pairs that are held and deleted, in order.
+//! The pairs that are assigned and deleted, in order.
 
 ghost use Rattle.std.specs.Prelude.{◌≡◌, ◌≢◌, ◌+◌, ◌*◌, ◌^◌, ◌<◌, ◌≤◌, [], ◌∷◌, ◌++◌, AllPairs, Contains, IfNone, IfOk, IfSome, IsTrue, None, OnErr, OnOk, Option, false, length, replicate, slice_index_or, take};
 ghost use Rattle.circuits.specs.declared.port.Pair.{Pair as AnyPair};
@@ -15,9 +15,9 @@ use net_core::Side;
 use std::alloc::{AllocError, Global};
 use std::marker::Model;
 
-/// The signed pairs of two circuits with as many ports. Each is open, held or deleted. Contracts see those that are held
-/// or deleted as a list, in the order in which they came to be so, each with what became of it; a pair that isn't in it
-/// is open. No two held pairs share a port.
+/// The signed pairs of two circuits with as many ports. Each is open, assigned or deleted. Contracts see those that are
+/// assigned or deleted as a list, in the order in which they came to be so, each with what became of it; a pair that
+/// isn't in it is open. No two assigned pairs share a port.
 ///
 /// The memory that it takes goes with the square of the ports.
 #[derive(Debug, Drop)]
@@ -27,9 +27,9 @@ pub struct Domains {
     entries: Vec<Entry>,
     /// Where the entry of each pair stands, by the pair's number.
     places: Vec<Option<usize>>,
-    /// The pairs that are held, in order.
+    /// The pairs that are assigned, in order.
     pairs: Vec<Pair>,
-    /// The held pair of each port, by the port's number.
+    /// The assigned pair of each port, by the port's number.
     holders: Vec<Option<Pair>>,
     /// How many pairs of each port are deleted.
     gone: Vec<usize>,
@@ -83,7 +83,7 @@ impl Domains {
         }
     }
 
-    /// The pairs that are held or deleted, in order, each with what became of it.
+    /// The pairs that are assigned or deleted, in order, each with what became of it.
     pub fn entries(&self) -> &[Entry]
         ensures value { result.now ≡ self.now.entries }
         ensures lawful { AreDomains self.now }
@@ -91,7 +91,7 @@ impl Domains {
         self.entries.as_slice()
     }
 
-    /// The pairs that are held, in order.
+    /// The pairs that are assigned, in order.
     pub fn pairs(&self) -> &[Pair]
         ensures value { result.now ≡ held_in self.now.entries }
         ensures apart { AllPairs AreApart result.now }
@@ -141,7 +141,7 @@ impl Domains {
         self.reason(pair).is_none()
     }
 
-    /// The held pair of a port of a circuit, or None exactly where there is none.
+    /// The assigned pair of a port of a circuit, or None exactly where there is none.
     pub fn held(&self, side: Side, kind: PortKind, port: u32) -> Option<Pair>
         requires { port < ports_of self.now.inputs self.now.outputs kind }
         ensures { TellsHeld self.now.entries side kind port result }
@@ -157,7 +157,7 @@ impl Domains {
         self.gone[port_number(self.inputs, self.outputs, side, kind, port)]
     }
 
-    /// Holds an open pair of two ports of which no pair is held. A refusal changes nothing.
+    /// Assigns an open pair of two ports of which no pair is assigned. A refusal changes nothing.
     pub fn hold(&mut self, pair: Pair, cause: Cause) -> Result<(), AllocError>
         requires known { IsPairOf self.old.inputs self.old.outputs pair }
         requires open { IsOpen self.old.entries pair }

@@ -3,7 +3,7 @@
 use circuits::Pair;
 use net_core::Side;
 
-/// Why a pair is held.
+/// Why a pair is assigned.
 #[derive(Clone, Copy, Debug, PartialEq, Eq)]
 pub enum Cause {
     /// It was chosen.
@@ -12,15 +12,16 @@ pub enum Cause {
     LastWay(Side),
 }
 
-/// Why a pair is deleted. It names the held pairs with which the pair can't be.
+/// Why a pair is deleted. It names the assigned pairs with which the pair can't be.
 #[derive(Clone, Copy, Debug, PartialEq, Eq)]
 pub enum Reason {
-    /// The held pair shares a port with it.
+    /// The assigned pair shares a port with it.
     Clash(Pair),
-    /// The ban of this number has no other pairs than this one and held ones.
+    /// The ban of this number has no other pairs than this one and assigned ones.
     Ban(u64),
-    /// The held pair is of the other kind, and two facts tell the two apart: the one says that a claim fails, the other one that
-    /// the claim which the pairs carry it to holds, or which they carry to it. The facts are named by their numbers.
+    /// The assigned pair is of the other kind, and two facts tell the two apart: the one says that a claim fails, the
+    /// other one that the claim which the pairs carry it to holds, or which they carry to it. The facts are named by
+    /// their numbers.
     Mismatch { with: Pair, fails: u64, holds: u64 },
 }
 

@@ -1,4 +1,4 @@
-//! The signed pairs of two circuits with as many ports: which are held, which are deleted, and why.
+//! The signed pairs of two circuits with as many ports: which are assigned, which are deleted, and why.
 #![tactic(auto)]
 
 mod domains;

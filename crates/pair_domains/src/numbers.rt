@@ -7,8 +7,8 @@ ghost use Rattle.pair_domains.specs.Trails.{IsPairOf, ports_of};
 use circuits::{Pair, PortKind};
 use net_core::Side;
 
-/// How many signed pairs there are of this many ports, or None where those of a kind are 2^62 or more, so that all of them are fewer
-/// than 2^63.
+/// How many signed pairs there are of this many ports, or None where those of a kind are 2^62 or more, so that all of
+/// them are fewer than 2^63.
 pub(crate) fn pairs_of_ports(inputs: u32, outputs: u32) -> Option<usize>
     ensures some { IfSome result (λ count. count ≡ pairs_of_ports inputs outputs) }
     ensures few { IfSome result (λ count. count < 2 ^ 63) }

@@ -1,5 +1,4 @@
--- Conflicts of held pairs, and where to go back to (conflict clauses and the first unique implication point: Marques-Silva and
--- Sakallah, GRASP, 1999).
+-- Conflicts of assigned pairs, and where to go back to (conflict clauses and the first unique implication point: Marques-Silva and Sakallah, GRASP, 1999).
 use Rattle.std.specs.Prelude.{◌≡◌, ◌≢◌, ℕ, ◌<◌, ◌≤◌, List, [], ◌∷◌, length, take, Contains, slice_index_or}
 use Rattle.circuits.specs.declared.port.Pair.{Pair}
 use Rattle.net_core.specs.Sides.{Graphs}
@@ -22,12 +21,12 @@ pub record FitPorts (graphs : Graphs) (inputs outputs : ℕ) : Type 0 where
   pub inputs_are : graphs.first.inputs ≡ inputs
   pub outputs_are : length graphs.first.outputs ≡ outputs
 
--- Some of the held pairs, in order, and a ban that has no other pairs.
+-- Some of the assigned pairs, in order, and a ban that has no other pairs.
 pub record IsConflict (bans : List Ban) (held : List Pair) (conflict : Conflict) : Type 0 where
   pub part : IsPart held conflict.pairs.items
   pub covers : Covers bans conflict.pairs.items conflict.ban
 
--- The last of the first held pairs that is one of some.
+-- The last of the first assigned pairs that is one of some.
 pub record IsLastOf (held : List Pair) (limit : ℕ) (pairs : List Pair) (place : ℕ) : Type 0 where
   pub within : place < limit
   pub is : (d : Pair) → Contains pairs (slice_index_or held place d)
@@ -42,7 +41,7 @@ pub record IsChoiceAt (entries : List Entry) (place : ℕ) : Type 0 where
 pub record HasNoChoice (entries : List Entry) (from to : ℕ) : Type 0 where
   pub none : (k : ℕ) (d : Entry) → from ≤ k → k < to → (slice_index_or entries k d).fate ≢ Held Choice
 
--- Before a choice a pair is open, and a ban has no other pairs than it and those that are held there.
+-- Before a choice a pair is open, and a ban has no other pairs than it and those that are assigned there.
 pub record IsBack (bans : List Ban) (domains : Domained) (back : Back) : Type 0 where
   pub choice : IsChoiceAt domains.entries back.place
   pub known : IsPairOf domains.inputs domains.outputs back.pair

@@ -1,4 +1,4 @@
--- What excludes a deleted pair beside those that were held before it.
+-- What excludes a deleted pair beside those that were assigned before it.
 use Rattle.std.specs.Prelude.{◌≡◌, ℕ, ◌<◌, List, ◌∷◌, length, take, Contains, slice_index_or}
 use Rattle.circuits.specs.declared.port.Pair.{Pair}
 use Rattle.account_core.specs.declared.step.Ban.{Ban}
@@ -16,7 +16,7 @@ abbrev pub IsExcluded : List Ban → List Pair → Pair → Deletion → Type 0
 IsExcluded bans pairs pair (deletion.Clash with) = Contains pairs with × Clash with pair
 IsExcluded bans pairs pair (deletion.Ban number) = Covers bans (pair ∷ pairs) number
 
--- A pair is deleted by an entry, and excluded beside the pairs that are held before that one.
+-- A pair is deleted by an entry, and excluded beside the pairs that are assigned before that one.
 pub record IsDeletion (bans : List Ban) (entries : List Entry) (pair : Pair) (deletion : Deletion) : Type 0 where
   pub place : ℕ
   pub within : place < length entries

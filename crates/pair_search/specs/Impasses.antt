@@ -1,4 +1,4 @@
--- Where a search doesn't go on.
+-- A conflict before it is told as a ban: why the search can't go on.
 use Rattle.std.specs.Prelude.{List, All, Option, Result, IfOk, IfSome, OnOk}
 use Rattle.account_core.specs.declared.step.Ban.{Ban}
 use Rattle.ban_book.specs.Covering.{Covers}
@@ -21,13 +21,13 @@ pub record HasNoWays (domains : Domained) (block : Block) : Type 0 where
   pub is_block : IsBlock (ports_of domains.inputs domains.outputs block.kind) block
   pub each : All (IsDeleted domains.entries) (ways_in block)
 
--- all pairs of a ban are held, or all ways of a port or of a block are deleted
+-- all pairs of a ban are assigned, or all ways of a port or of a block are deleted
 abbrev pub IsImpasse : List Ban → Domained → Impasse → Type 0
 IsImpasse bans domains (impasse.Ban number) = Covers bans (held_in domains.entries) number
 IsImpasse bans domains (impasse.Port port) = HasNoWay domains port
 IsImpasse bans domains (impasse.Block block) = HasNoWays domains block
 
--- What propagating does: pairs came to be held and deleted as it follows, and it is an impasse that is answered.
+-- What propagating does: pairs were assigned and deleted as it follows, and what is answered is an impasse.
 pub record Follows {E : Type 0} (bans : List Ban) (before after : Domained) (result : Result (Option Impasse) E) : Type 0 where
   pub propagates : OnOk result (Propagates bans before after)
   pub impasse : IfOk result (λ found. IfSome found (IsImpasse bans after))

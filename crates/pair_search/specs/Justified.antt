@@ -20,8 +20,8 @@ use Rattle.pair_search.specs.Named.{AreNamed, EachWay, IsLeftOutOr}
 abbrev pub port_of : Side → Pair → Port
 port_of side pair = record { side = side; kind = pair.kind; number = port_on side pair }
 
--- what became of a pair follows: a choice from nothing, the last way of a port from the deletions of all others, and a deletion from
--- the held pairs that its reason names
+-- what became of a pair follows: a choice from nothing, the last way of a port from the deletions of all others, and a deletion from the assigned pairs that
+-- its reason names
 abbrev pub IsJustified : ℕ → ℕ → List Ban → List Entry → Pair → Fate → Type 0
 IsJustified inputs outputs bans before pair (Held Choice) = ⊤
 IsJustified inputs outputs bans before pair (Held (LastWay side)) =

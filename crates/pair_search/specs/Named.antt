@@ -1,4 +1,4 @@
--- The held pairs that the reasons of deletions name (nodes of the implication graph of Marques-Silva and Sakallah, GRASP, 1999).
+-- The assigned pairs that the reasons of deletions name (nodes of the implication graph of Marques-Silva and Sakallah, GRASP, 1999).
 use Rattle.std.specs.Prelude.{◌≡◌, ◌⊎◌, ℕ, ◌*◌, ◌<◌, List, ◌∷◌, All, Contains, Option, None, Some}
 use Rattle.std.specs.List.{AllZip}
 use Rattle.circuits.specs.declared.port.Pair.{Pair}

@@ -9,7 +9,7 @@ use Rattle.pair_search.specs.declared.resolution.Pivot.{Pivot}
 use Rattle.pair_search.specs.declared.resolution.Pivot.TheVariants as pivot
 use Rattle.pair_search.specs.Conflicts.{IsChoiceAt}
 
--- Before a choice one pair is open, and all others are held.
+-- Before a choice one pair is open, and all others are assigned.
 pub record IsSplit (entries : List Entry) (pairs : List Pair) (pair : Pair) (place : ℕ) : Type 0 where
   pub choice : IsChoiceAt entries place
   pub open' : IsOpen (take place entries) pair

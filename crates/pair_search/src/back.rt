@@ -19,8 +19,9 @@ use ban_book::BanBook;
 use pair_domains::{Domains, Reason};
 use std::alloc::{AllocError, Global};
 
-/// Goes back from an impasse: resolves the conflict to a ban, and deletes its latest pair at the last choice before which
-/// all others are held. It answers a ban without pairs where there is no such choice. Less is left than before.
+/// Goes back from an impasse: resolves the conflict to a ban, and deletes its latest pair at the last choice before
+/// which all others are assigned. It answers a ban without pairs where there is no such choice. Less is left than
+/// before.
 pub fn turn_back(
     alloc: Global,
     graphs: &PairableGraphs<'_>,
@@ -48,8 +49,8 @@ pub fn turn_back(
     }
 }
 
-/// Starts over: what was held and deleted before the first choice stays, and all other pairs are open again. The bans stay, so
-/// that what was learned isn't lost.
+/// Starts over: what was assigned and deleted before the first choice stays, and all other pairs are open again. The
+/// bans stay, so that what was learned isn't lost.
 pub fn start_over(domains: &mut Domains, queue: &mut Queue)
     ensures entries { domains.new.entries ≡ level_zero domains.old.entries }
     ensures stays { (bans : List AnyBan)
@@ -83,7 +84,7 @@ fn learn(
     Ok(learned)
 }
 
-// Goes back before a choice, and deletes there the pair that a ban has beside held ones.
+// Goes back before a choice, and deletes there the pair that a ban has beside assigned ones.
 fn go_back(domains: &mut Domains, queue: &mut Queue, back: Back) -> Result<(), AllocError>
     requires choice { IsChoiceAt domains.old.entries back.place }
     requires known { IsPairOf domains.old.inputs domains.old.outputs back.pair }

@@ -1,4 +1,4 @@
-//! Pairs that share a port with a held one.
+//! Pairs that share a port with an assigned one.
 
 ghost use Rattle.std.specs.Prelude.{◌≡◌, ◌⊎◌, Contains, OnOk};
 ghost use Rattle.pair_domains.specs.Trails.{IsPairOf, held_in};
@@ -13,7 +13,7 @@ use net_core::Side;
 use pair_domains::{Domains, Reason};
 use std::alloc::AllocError;
 
-/// Deletes the open ways of the port that a held pair has of a circuit: each of them clashes with it.
+/// Deletes the open ways of the port that an assigned pair has of a circuit: each of them clashes with it.
 pub(crate) fn delete_ways(
     domains: &mut Domains,
     bans: &[Ban],
@@ -38,7 +38,7 @@ pub(crate) fn delete_ways(
     Ok(())
 }
 
-// Deletes a way that shares its port of a circuit with a held pair, if it is open.
+// Deletes a way that shares its port of a circuit with an assigned pair, if it is open.
 fn delete_way(domains: &mut Domains, bans: &[Ban], pair: Pair, way: Pair) -> Result<(), AllocError>
     requires justified { IsJustifiedTrail bans.now domains.old }
     requires known { IsPairOf domains.old.inputs domains.old.outputs way }

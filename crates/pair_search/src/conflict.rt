@@ -1,4 +1,4 @@
-//! Held pairs that no match has all of, and covers that say so.
+//! Assigned pairs that no match has all of, and covers that say so.
 
 ghost use Rattle.std.specs.Prelude.{◌≡◌, All, AllPairs, Contains, IfOk, OnOk};
 ghost use Rattle.ban_book.specs.Covering.{Covers};
@@ -22,16 +22,16 @@ use ban_book::cover::{add_one, hold_cover};
 use circuits::Pair;
 use std::alloc::{AllocError, Global};
 
-/// Held pairs, in the order that bans have, and the number of a ban that has no other pairs.
+/// Assigned pairs, in the order that bans have, and the number of a ban that has no other pairs.
 #[derive(Debug, Drop)]
 pub struct Conflict {
     pub pairs: Vec<Pair>,
     pub ban: u64,
 }
 
-/// Adds to pairs those that a port's ways need to be excluded, holds the ban that says so, and answers both. Each way of
-/// the port was deleted for a reason that names held pairs alone; or it is the one that is resolved on, which leads into
-/// a ban beside the given pairs.
+/// Adds to pairs those that a port's ways need to be excluded, makes the ban that says so, and answers both. Each way
+/// of the port was deleted for a reason that names assigned pairs alone; or it is the one that is resolved on, which
+/// leads into a ban beside the given pairs.
 pub(crate) fn cover_port(
     view: &TrailView<'_>,
     port: Port,
@@ -54,7 +54,7 @@ pub(crate) fn cover_port(
     cover_block(view, block, resolved, pairs, made, book)
 }
 
-/// Does so for a block: ports of both circuits that are more than either has.
+/// The same for a block: ports of both circuits that are together more than either circuit has.
 pub(crate) fn cover_block(
     view: &TrailView<'_>,
     block: Block,
@@ -86,7 +86,7 @@ pub(crate) fn cover_block(
     Ok(Conflict { pairs, ban })
 }
 
-/// The conflict of a ban all of whose pairs are held.
+/// The conflict of a ban all of whose pairs are assigned.
 pub fn conflict_of_ban(
     alloc: Global,
     held: &[Pair],
@@ -102,7 +102,7 @@ pub fn conflict_of_ban(
     Ok(Conflict { pairs, ban: number })
 }
 
-// Adds held pairs to some of them.
+// Adds assigned pairs to some of them.
 fn add_all(needed: &mut Vec<Pair>, held: &[Pair], pairs: &[Pair]) -> Result<(), AllocError>
     requires part { IsPart held.now needed.old.items }
     requires apart { AllPairs AreApart held.now }

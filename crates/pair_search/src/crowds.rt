@@ -11,9 +11,9 @@ use circuits::{Pair, PortKind};
 use pair_domains::Domains;
 use std::alloc::{AllocError, Global};
 
-/// A block without ways, if there is one: ports of the first circuit that can go to fewer ports than they are, those that were
-/// reached from one for which no partner is found, and the ports of the second circuit that weren't (P. Hall, 1935; as a
-/// constraint: Régin, AAAI 1994).
+/// A block without ways, if there is one: ports of the first circuit that can go to fewer ports than they are, those
+/// that were reached from one for which no partner is found, and the ports of the second circuit that weren't (P. Hall,
+/// 1935; as a constraint: Régin, AAAI 1994).
 pub(crate) fn crowd(
     alloc: Global,
     domains: &Domains,
@@ -37,9 +37,9 @@ pub(crate) fn crowd(
     Ok(None)
 }
 
-// Whether there are no more ports of this kind than of the other. No block of them is looked for then: only where inputs are few
-// does a held pair of inputs leave each output few ways. With such blocks too, a near miss of an adder of 257 inputs and 129
-// outputs took three times as long.
+// Whether there are no more ports of this kind than of the other. No block of them is looked for then: only where
+// inputs are few does an assigned pair of inputs leave each output few ways. With such blocks too, a near miss of an
+// adder of 257 inputs and 129 outputs took three times as long.
 fn are_few(domains: &Domains, kind: PortKind) -> bool {
     let others = match kind {
         PortKind::Input => PortKind::Output,

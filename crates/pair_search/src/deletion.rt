@@ -17,18 +17,18 @@ use circuits::Pair;
 use pair_domains::{Domains, Reason};
 use std::alloc::{AllocError, Global};
 
-/// What excludes a deleted pair beside pairs that were held before it.
+/// What excludes a deleted pair beside pairs that were assigned before it.
 #[derive(Clone, Copy, Debug, PartialEq, Eq)]
 pub enum Deletion {
-    /// This held pair clashes with it. There is no ban that says so, since the pairs of a ban don't clash.
+    /// This assigned pair clashes with it. There is no ban that says so, since the pairs of a ban don't clash.
     Clash(Pair),
-    /// The ban of this number has no other pairs than it and held ones.
+    /// The ban of this number has no other pairs than it and assigned ones.
     Ban(u64),
 }
 
-/// What excludes a deleted pair beside those that were held before it: one that clashes with it, or a ban, which is held
-/// now if it wasn't. It is None exactly where the pair isn't deleted. Where the bans of the book had valid steps, in view
-/// of facts that show the deletions by mismatches, they have them afterwards.
+/// What excludes a deleted pair beside those that were assigned before it: one that clashes with it, or a ban, which is
+/// made here unless it was before. It is None exactly where the pair isn't deleted. Where the bans of the book had
+/// valid steps, in view of facts that show the deletions by mismatches, they have them afterwards.
 ///
 /// # Errors
 ///

@@ -15,10 +15,11 @@ use circuits::Pair;
 use pair_domains::Reason;
 use std::alloc::AllocError;
 
-/// Adds held pairs to those of a conflict, until all of some ways but one that is left out are impossible beside them, or
-/// were deleted for a reason that names none but them. The pairs come from those that are held, and each way was deleted
-/// for a reason that names held pairs alone. A way that is impossible beside the conflict's pairs needs none, nor does one
-/// that a ban of a mismatch excludes beside one of them: for each such way that ban's number is answered.
+/// Adds assigned pairs to those of a conflict, until all of some ways but one that is left out are impossible beside
+/// them, or were deleted for a reason that names none but them. The pairs come from those that are assigned, and each
+/// way was deleted for a reason that names assigned pairs alone. A way that is impossible beside the conflict's pairs
+/// needs none, nor does one that a ban of a mismatch excludes beside one of them: for each such way that ban's number
+/// is answered.
 pub(crate) fn gather(
     view: &TrailView<'_>,
     bans: &[Ban],

@@ -1,4 +1,4 @@
-//! Where a search doesn't go on.
+//! A conflict before it is told as a ban: why the search can't go on.
 
 ghost use Rattle.std.specs.Prelude.{◌≡◌, IfOk};
 ghost use Rattle.pair_domains.specs.Trails.{held_in};
@@ -16,14 +16,14 @@ use ban_book::block::Block;
 use pair_domains::Domains;
 use std::alloc::{AllocError, Global};
 
-/// Where a search doesn't go on.
+/// A conflict before it is told as a ban: why the search can't go on.
 #[derive(Debug, Drop, PartialEq, Eq)]
 pub enum Impasse {
-    /// All pairs of the ban of this number are held.
+    /// All pairs of the ban of this number are assigned.
     Ban(u64),
     /// All ways of the port are deleted.
     Port(Port),
-    /// All ways between ports of both circuits are deleted, of which one has to be held.
+    /// All ways between ports of both circuits are deleted, of which one has to be assigned.
     Block(Block),
 }
 
@@ -37,7 +37,7 @@ impl Impasse {
     }
 }
 
-/// The conflict that an impasse is.
+/// The conflict of an impasse: pairs that no match has all of, with the ban that says so.
 ///
 /// # Errors
 ///
@@ -55,7 +55,7 @@ pub fn conflict_of(
     ensures more { LearnsMore graphs.now domains.now.entries book.old book.new }
     ensures conflict { IfOk result (IsConflict book.new (held_in domains.now.entries)) }
 {
-    // the held pairs are of ports that exist, and share none
+    // the assigned pairs are of ports that exist, and share none
     let _lawful = domains.entries();
     let held = domains.pairs();
     let view = TrailView {

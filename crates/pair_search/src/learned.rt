@@ -3,7 +3,7 @@
 use circuits::Pair;
 
 /// Where to go back to: before the choice whose entry stands at this place. There the pair is open, and the ban has no
-/// other pairs than it and those that are held there.
+/// other pairs than it and those that are assigned there.
 #[derive(Clone, Copy, Debug, PartialEq, Eq)]
 pub struct Back {
     pub place: usize,
@@ -16,6 +16,6 @@ pub struct Back {
 pub enum LearnedBan {
     /// The ban of this number has no pairs: there is no match.
     Refusal(u64),
-    /// A ban of which all pairs but one are held before some choice.
+    /// A ban of which all pairs but one are assigned before some choice.
     Back(Back),
 }

@@ -1,4 +1,4 @@
-//! A search over signed pairs.
+//! A search over signed pairs: what follows, conflicts and their resolution, and going back.
 #![tactic(auto)]
 
 mod back;

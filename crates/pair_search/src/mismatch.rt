@@ -11,10 +11,11 @@ use indexmap::IndexMap;
 use items::Few;
 use std::alloc::{AllocError, Global};
 
-/// The numbers of the bans that were made of mismatches, so that each is made once. What it says is tried, and not trusted.
+/// The numbers of the bans that were made of mismatches, so that each is made once. What it says is tried, and not
+/// trusted.
 #[derive(Debug, Drop)]
 pub struct Mismatches {
-    /// By the deleted pair and the held one.
+    /// By the deleted pair and the assigned one.
     numbers: IndexMap<(Pair, Pair), u64>,
 }
 
@@ -36,7 +37,7 @@ impl Mismatches {
     }
 }
 
-/// The number of the ban of a deleted pair and a held one by two facts, which is held now if it wasn't.
+/// The number of the ban of a deleted pair and an assigned one by two facts. It is made here, unless it was before.
 pub(crate) fn hold_mismatch(
     alloc: Global,
     way: Pair,
@@ -110,7 +111,7 @@ fn is_of(pair: Pair, one: Pair, other: Pair) -> bool
     pair == other
 }
 
-// The ban of a deleted pair and a held one by two facts.
+// The ban of a deleted pair and an assigned one by two facts.
 fn ban_of(alloc: Global, way: Pair, with: Pair, unlike: Unlike) -> Result<Ban, AllocError>
     ensures { IfOk result (λ ban. ban ≡ mismatch_ban way with unlike.fails unlike.holds) }
 {

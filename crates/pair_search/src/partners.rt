@@ -8,9 +8,9 @@ use std::alloc::{AllocError, Global};
 /// No port.
 const NONE: u32 = u32::MAX;
 
-/// A partner for each port of the first circuit, of one kind: a port of the second one to which some way is left, no two
-/// the same (a matching). It is kept from call to call, and mended where ways were deleted meanwhile. What it says is
-/// tried, and not trusted.
+/// A partner for each port of the first circuit, of one kind: a port of the second one to which some way is left, no
+/// two the same (a matching). It is kept from call to call, and mended where ways were deleted meanwhile. What it says
+/// is tried, and not trusted.
 #[derive(Debug)]
 pub(crate) struct Partners {
     pub(crate) kind: PortKind,
@@ -25,7 +25,8 @@ pub(crate) struct Partners {
     before: Vec<u32>,
 }
 
-// By hand, and so one call wherever a value ends: a derived drop is expanded there, field by field, and makes proofs long.
+// By hand, and so one call wherever a value ends: a derived drop is expanded there, field by field, and makes proofs
+// long.
 impl Drop for Partners {
     fn drop(self) {
         let Partners {
@@ -52,8 +53,8 @@ impl Partners {
         })
     }
 
-    /// Finds a partner for each port of the first circuit. Where that can't be, it answers false: then the ports that were
-    /// reached from one without a partner have one partner less than they are.
+    /// Finds a partner for each port of the first circuit. Where that can't be, it answers false: then the ports that
+    /// were reached from one without a partner have one partner less than they are.
     pub(crate) fn find_all(&mut self, domains: &Domains) -> Result<bool, AllocError> {
         self.part(domains);
         for port in 0..self.count {
@@ -95,8 +96,8 @@ impl Partners {
         }
     }
 
-    // Finds a partner for a port that has none, while others change theirs: breadth first, along ways that are left and back
-    // along partners (augmenting paths: Berge, 1957).
+    // Finds a partner for a port that has none, while others change theirs: breadth first, along ways that are left and
+    // back along partners (augmenting paths: Berge, 1957).
     fn find_for(&mut self, domains: &Domains, port: u32) -> Result<bool, AllocError> {
         if at(&self.first, port) != NONE {
             return Ok(true);
@@ -123,8 +124,8 @@ impl Partners {
         Ok(())
     }
 
-    // Reaches the ports of the second circuit to which a port has a way, and their partners. It answers the first one that
-    // has no partner.
+    // Reaches the ports of the second circuit to which a port has a way, and their partners. It answers the first one
+    // that has no partner.
     fn reach_from(&mut self, domains: &Domains, port: u32) -> Result<Option<u32>, AllocError> {
         for other in 0..self.count {
             if self.is_new(domains, port, other) {

@@ -12,7 +12,7 @@ pub struct Port {
     pub number: u32,
 }
 
-/// A held pair that is taken out of a conflict, and a ban that it leads into beside the other pairs.
+/// An assigned pair that is taken out of a conflict, and a ban that it leads into beside the other pairs.
 #[derive(Clone, Copy, Debug)]
 pub struct Resolved {
     pub way: Pair,

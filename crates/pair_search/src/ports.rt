@@ -20,7 +20,7 @@ use net_core::Side;
 use pair_domains::{Cause, Domains, Reason};
 use std::alloc::AllocError;
 
-/// Where a port has one way left, which is open, holds it. It answers whether it has none.
+/// Where a port has one way left, which is open, assigns it. It answers whether it has none.
 pub(crate) fn apply_port(
     domains: &mut Domains,
     bans: &[Ban],
@@ -49,8 +49,8 @@ pub(crate) fn apply_port(
     Ok(false)
 }
 
-/// Decides a port of which no pair is held: holds the first of its ways that isn't deleted; or deletes it, if it shares
-/// its other port with a held pair. It answers an impasse where all are deleted.
+/// Decides a port of which no pair is assigned: assigns the first of its ways that isn't deleted; or deletes it, if it
+/// shares its other port with an assigned pair. It answers an impasse where all are deleted.
 pub fn branch(domains: &mut Domains, port: Port) -> Result<Option<Impasse>, AllocError>
     requires there { IsPortOf domains.old port }
     requires free { IsFreePort domains.old.entries port.side port.kind port.number }
@@ -64,8 +64,8 @@ pub fn branch(domains: &mut Domains, port: Port) -> Result<Option<Impasse>, Allo
 {
     // no pair has two entries
     let _lawful = domains.entries();
-    // No way is preferred to the first one: what tells ways apart was tried by guesses before, and where there is no match each way
-    // has to be excluded, in any order. No other order was measured.
+    // No way is preferred to the first one: what tells ways apart was tried by guesses before, and where there is no
+    // match each way has to be excluded, in any order. No other order was measured.
     let Some(number) = remaining(domains, port, 0) else {
         return Ok(Some(Impasse::Port(port)));
     };
@@ -96,8 +96,8 @@ pub fn way_of(domains: &Domains, port: Port, number: u64) -> Pair
     nth_way(port.side, port.kind, port.number, number)
 }
 
-// The number of the first way of a port, from one on, that isn't deleted. All that it passes over were deleted one by one, and it
-// is asked only where a port is decided, or has one way left at most.
+// The number of the first way of a port, from one on, that isn't deleted. All that it passes over were deleted one by
+// one, and it is asked only where a port is decided, or has one way left at most.
 fn remaining(domains: &Domains, port: Port, from: u64) -> Option<u64>
     requires there { IsPortOf domains.now port }
     ensures from { IfSome result (λ number. from ≤ number) }
@@ -119,7 +119,7 @@ fn remaining(domains: &Domains, port: Port, from: u64) -> Option<u64>
     None
 }
 
-// A held pair that shares a port with a pair.
+// An assigned pair that shares a port with a pair.
 fn holder(domains: &Domains, pair: Pair) -> Option<Pair>
     requires { IsPairOf domains.now.inputs domains.now.outputs pair }
     ensures held { IfSome result (Contains (held_in domains.now.entries)) }
@@ -134,7 +134,7 @@ fn holder(domains: &Domains, pair: Pair) -> Option<Pair>
     domains.held(Side::Second, pair.kind, pair.to)
 }
 
-// Whether a pair is open, and no pair of its ports is held.
+// Whether a pair is open, and no pair of its ports is assigned.
 fn is_free(domains: &Domains, pair: Pair) -> bool
     requires { IsPairOf domains.now.inputs domains.now.outputs pair }
     ensures is { IsTrue result → IsOpen domains.now.entries pair }

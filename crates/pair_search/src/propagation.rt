@@ -1,4 +1,4 @@
-//! What follows of the pairs that are held and deleted.
+//! What follows of the pairs that are assigned and deleted.
 
 ghost use Rattle.std.specs.Prelude.{◌≡◌, ◌<◌};
 ghost use Rattle.pair_domains.specs.Trails.{ports_of};
@@ -18,12 +18,12 @@ use net_core::Side;
 use pair_domains::{Domains, Entry, Fate};
 use std::alloc::{AllocError, Global};
 
-/// Where the search doesn't go on, if that was found.
+/// The conflict, if one was found.
 type Followed = Result<Option<Impasse>, AllocError>;
 
-/// Holds and deletes pairs as it follows, until nothing follows or the search doesn't go on. Pairs that share a port with a held
-/// one are deleted, and that of a ban whose other pairs are held; the last way of a port is held. Last, outputs are looked
-/// for that have fewer outputs to go to than they are.
+/// Assigns and deletes what follows, until nothing follows or there is a conflict. Pairs that share a port with an
+/// assigned one are deleted, and so is the last pair of a ban whose other pairs are assigned; the last way of a port is
+/// assigned. At the end outputs are looked for that have fewer outputs to go to than they are.
 pub fn propagate(
     alloc: Global,
     domains: &mut Domains,
@@ -42,7 +42,7 @@ pub fn propagate(
     }
 }
 
-// Holds and deletes what follows, one after the other.
+// Assigns and deletes what follows, one after the other.
 fn follow_all(domains: &mut Domains, queue: &mut Queue, bans: &[Ban]) -> Followed
     requires justified { IsJustifiedTrail bans.now domains.old }
     ensures { Follows bans.now domains.old domains.new result }
@@ -102,7 +102,7 @@ fn follow(domains: &mut Domains, queue: &mut Queue, bans: &[Ban], entry: Entry) 
     }
 }
 
-// What follows of a pair that is held.
+// What follows of a pair that is assigned.
 fn follow_held(domains: &mut Domains, queue: &mut Queue, bans: &[Ban], pair: Pair) -> Followed
     requires justified { IsJustifiedTrail bans.now domains.old }
     ensures { Follows bans.now domains.old domains.new result }
@@ -147,8 +147,9 @@ fn keep_all(queue: &mut Queue, pair: Pair, from: usize) {
     }
 }
 
-// Applies the ban of a watcher that was taken out of a held pair's list, and puts it into that of another pair of the ban
-// that isn't held, or back where there is none. Where the other watched pair is deleted, nothing follows of the ban.
+// Applies the ban of a watcher that was taken out of an assigned pair's list, and puts it into that of another pair of
+// the ban that isn't assigned, or back where there is none. Where the other watched pair is deleted, nothing follows of
+// the ban.
 fn apply_watcher(
     domains: &mut Domains,
     queue: &mut Queue,
@@ -186,7 +187,8 @@ fn is_gone(domains: &Domains, pair: Option<Pair>) -> bool {
     domains.reason(pair).is_some()
 }
 
-// What a ban is to watch in place of a held pair: one of its pairs that isn't held nor watched, or the pair itself.
+// What a ban is to watch in place of an assigned pair: one of its pairs that isn't assigned nor watched, or the pair
+// itself.
 fn next_watch(
     domains: &Domains,
     bans: &[Ban],
@@ -239,8 +241,8 @@ fn follow_port(domains: &mut Domains, bans: &[Ban], pair: Pair, side: Side) -> F
     Ok(None)
 }
 
-// Whether nothing follows at a port: a pair of it is held, so that its other ways are deleted one after the other; or two ways at
-// least are left, by the count of those that are deleted.
+// Whether nothing follows at a port: a pair of it is assigned, so that its other ways are deleted one after the other;
+// or two ways at least are left, by the count of those that are deleted.
 fn is_settled(domains: &Domains, port: Port) -> bool
     requires { port.number < ports_of domains.now.inputs domains.now.outputs port.kind }
 {

@@ -11,8 +11,8 @@ use std::alloc::{AllocError, Global};
 /// No watcher.
 const NONE: usize = usize::MAX;
 
-/// A ban that watches a pair, and the place of the watcher before it in the pair's list. The two of a ban stand beside each other,
-/// at an even place and the odd one after it.
+/// A ban that watches a pair, and the place of the watcher before it in the pair's list. The two of a ban stand beside
+/// each other, at an even place and the odd one after it.
 #[derive(Clone, Copy, Debug)]
 pub(crate) struct Watcher {
     pub(crate) ban: u64,
@@ -20,8 +20,9 @@ pub(crate) struct Watcher {
     pub(crate) before: usize,
 }
 
-/// How far propagation has come, and the bans in the lists of two of their pairs each (watched literals: Moskewicz and others,
-/// Chaff, DAC 2001). A ban is looked at only where one of these comes to be held. What it says is tried, and not trusted.
+/// How far propagation has come, and the bans in the lists of two of their pairs each (watched literals: Moskewicz and
+/// others, Chaff, DAC 2001). A ban is looked at only where one of these comes to be assigned. What it says is tried,
+/// and not trusted.
 #[derive(Debug)]
 pub struct Queue {
     /// How many entries were followed.
@@ -40,7 +41,8 @@ pub struct Queue {
     pub(crate) partners: Partners,
 }
 
-// By hand, and so one call wherever a value ends: a derived drop is expanded there, field by field, and makes proofs long.
+// By hand, and so one call wherever a value ends: a derived drop is expanded there, field by field, and makes proofs
+// long.
 impl Drop for Queue {
     fn drop(self) {
         let Queue {
@@ -78,7 +80,7 @@ impl Queue {
         })
     }
 
-    /// Has a ban watch the two of its pairs that are held last, or not at all.
+    /// Has a ban watch the two of its pairs that are assigned last, or not at all.
     pub(crate) fn add(
         &mut self,
         domains: &Domains,
@@ -101,8 +103,8 @@ impl Queue {
         Ok(())
     }
 
-    /// Adds the last ban that a conflict was resolved to. Those that it was made of are passed over: they follow of less, and
-    /// there are many.
+    /// Adds the last ban that a conflict was resolved to. Those that it was made of are passed over: they follow of
+    /// less, and there are many.
     pub(crate) fn add_learned(
         &mut self,
         domains: &Domains,
@@ -202,7 +204,8 @@ impl Queue {
     }
 }
 
-// The two of some pairs that are held last, where those come last that aren't held; of one pair that one twice.
+// The two of some pairs that were assigned last, where those that aren't assigned come last. Of one pair that one
+// twice.
 fn last_two(domains: &Domains, pairs: &[Pair]) -> Option<(Pair, Pair)> {
     let mut one = *pairs.first()?;
     let mut other = one;
@@ -217,7 +220,7 @@ fn last_two(domains: &Domains, pairs: &[Pair]) -> Option<(Pair, Pair)> {
     Some((one, other))
 }
 
-// Where the entry of a held pair stands, or the greatest number for one that isn't held.
+// Where the entry of an assigned pair stands, or the greatest number for one that isn't assigned.
 fn rank(domains: &Domains, pair: Pair) -> usize {
     if !is_held(domains, pair) {
         return NONE;

@@ -34,8 +34,9 @@ pub(crate) struct NotedWay {
 }
 
 /// The references of some ways in a cover whose ban has a conflict's pairs. Each way is impossible beside them, or was
-/// deleted for a reason that names none but them, or was held and leads into a ban of them and it; or the ban that is noted for
-/// it leads there. The bans of ways that were deleted by mismatches are held now, if they weren't.
+/// deleted for a reason that names none but them, or was assigned and leads into a ban of them and it; or the ban that
+/// is noted for it leads there. The bans of ways that were deleted by mismatches are made here, unless they were
+/// before.
 pub(crate) fn refer(
     view: &TrailView<'_>,
     noted: &NotedWays<'_>,

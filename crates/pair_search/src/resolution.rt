@@ -28,7 +28,7 @@ use std::alloc::{AllocError, Global};
 
 // What is done about the latest pair of a conflict.
 pub(crate) enum Pivot {
-    /// All other pairs of the conflict are held before the choice whose entry stands at this place, and it is not.
+    /// All other pairs of the conflict are assigned before the choice whose entry stands at this place, and it is not.
     Choice(usize),
     /// The pair was forced by its port of this circuit.
     Forced(Side),
@@ -36,7 +36,7 @@ pub(crate) enum Pivot {
 
 // A conflict whose latest pair was forced.
 struct ForcedPair {
-    /// The pair's place among the held ones.
+    /// The pair's place among the assigned ones.
     place: usize,
     /// The circuit whose port forced it.
     side: Side,
@@ -58,7 +58,7 @@ pub fn resolve(
     ensures more { LearnsMore graphs.now domains.now.entries book.old book.new }
     ensures learned { IfOk result (IsLearned book.new domains.now) }
 {
-    // no pair has two entries, and held pairs share no port
+    // no pair has two entries, and assigned pairs share no port
     let _lawful = domains.entries();
     let mut conflict = conflict;
     let mut limit = domains.pairs().len();
@@ -79,8 +79,8 @@ pub fn resolve(
     Ok(LearnedBan::Refusal(conflict.ban))
 }
 
-// The last of the first `limit` held pairs that is one of a conflict's. Each is looked for among all of these, as the cover of a
-// step does with each way of its port.
+// The last of the first `limit` assigned pairs that is one of a conflict's. Each is looked for among all of these, as
+// the cover of a step does with each way of its port.
 fn last_of(held: &[Pair], limit: usize, pairs: &[Pair]) -> Option<usize>
     requires { limit ≤ length held.now }
     ensures found { IfSome result (IsLastOf held.now limit pairs.now) }
@@ -96,7 +96,7 @@ fn last_of(held: &[Pair], limit: usize, pairs: &[Pair]) -> Option<usize>
     None
 }
 
-// What is done about the latest pair of a conflict, of which it is the last held one.
+// What is done about the latest pair of a conflict, of which it is the last assigned one.
 fn pivot_at(domains: &Domains, last: usize, pairs: &[Pair]) -> Pivot
     requires within { last < length (held_in domains.now.entries) }
     requires among { All (Contains (take (last + 1) (held_in domains.now.entries))) pairs.now }
@@ -113,7 +113,7 @@ fn pivot_at(domains: &Domains, last: usize, pairs: &[Pair]) -> Pivot
     }
 }
 
-// The circuit whose port forced a held pair, if it was forced.
+// The circuit whose port forced an assigned pair, if it was forced.
 fn side_of(fate: Fate) -> Option<Side>
     ensures forced { IfSome result (λ side. fate ≡ Held (LastWay side)) }
     ensures chosen { IfNone result (is_held fate ≡ true → fate ≡ Held Choice) }
@@ -125,7 +125,7 @@ fn side_of(fate: Fate) -> Option<Side>
     }
 }
 
-// Whether the held pair at a place is one of some.
+// Whether the assigned pair at a place is one of some.
 fn is_at(held: &[Pair], place: usize, pairs: &[Pair]) -> bool
     requires { place < length held.now }
     ensures yes { IsTrue result → (d : AnyPair) → Contains pairs.now (slice_index_or held.now place d) }
@@ -140,7 +140,7 @@ fn contains(pairs: &[Pair], pair: Pair) -> bool
     pairs.contains(&pair)
 }
 
-// Where the entry of a held pair stands.
+// Where the entry of an assigned pair stands.
 fn entry_of(domains: &Domains, index: usize) -> usize
     requires { index < length (held_in domains.now.entries) }
     ensures within { result < length domains.now.entries }
@@ -149,7 +149,7 @@ fn entry_of(domains: &Domains, index: usize) -> usize
     ensures held { (d : AnyEntry) → is_held (slice_index_or domains.now.entries result d).fate ≡ true }
     ensures front { take index (held_in domains.now.entries) ≡ held_in (take result domains.now.entries) }
 {
-    // no pair has two entries, and held pairs share no port
+    // no pair has two entries, and assigned pairs share no port
     let _lawful = domains.entries();
     match domains.place(held_at(domains, index)) {
         Some(place) => place,
@@ -157,14 +157,14 @@ fn entry_of(domains: &Domains, index: usize) -> usize
     }
 }
 
-// A held pair.
+// An assigned pair.
 fn held_at(domains: &Domains, index: usize) -> Pair
     requires { index < length (held_in domains.now.entries) }
     ensures value { (d : AnyPair) → slice_index_or (held_in domains.now.entries) index d ≡ result }
     ensures held { Contains (held_in domains.now.entries) result }
     ensures known { IsPairOf domains.now.inputs domains.now.outputs result }
 {
-    // no pair has two entries, and held pairs share no port
+    // no pair has two entries, and assigned pairs share no port
     let _lawful = domains.entries();
     domains.pairs()[index]
 }
@@ -177,7 +177,7 @@ fn after_others(domains: &Domains, last: usize, pairs: &[Pair]) -> usize
     ensures others { (d : AnyPair) → All (Contains
         (slice_index_or (held_in domains.now.entries) last d ∷ held_in (take result domains.now.entries))) pairs.now }
 {
-    // no pair has two entries, and held pairs share no port
+    // no pair has two entries, and assigned pairs share no port
     let _lawful = domains.entries();
     match last_of(domains.pairs(), last, pairs) {
         Some(second) => entry_of(domains, second) + 1,
@@ -227,8 +227,8 @@ fn back_to(domains: &Domains, last: usize, place: usize, ban: u64) -> LearnedBan
     })
 }
 
-// Resolves a conflict on a held pair that was forced by its port of a circuit: all ways of the port lead into bans
-// beside pairs that were held before it.
+// Resolves a conflict on an assigned pair that was forced by its port of a circuit: all ways of the port lead into bans
+// beside pairs that were assigned before it.
 fn resolve_on(
     alloc: Global,
     graphs: &PairableGraphs<'_>,
@@ -248,7 +248,7 @@ fn resolve_on(
     ensures more { LearnsMore graphs.now domains.now.entries book.old book.new }
     ensures conflict { IfOk result (IsConflict book.new (take forced.place (held_in domains.now.entries))) }
 {
-    // the held pairs are of ports that exist, and share none
+    // the assigned pairs are of ports that exist, and share none
     let _lawful = domains.entries();
     let ForcedPair {
         place,
@@ -274,7 +274,7 @@ fn resolve_on(
     Ok(conflict)
 }
 
-// The first held pairs.
+// The first assigned pairs.
 fn first_held(domains: &Domains, count: usize) -> &[Pair]
     requires { count ≤ length (held_in domains.now.entries) }
     ensures { result.now ≡ take count (held_in domains.now.entries) }

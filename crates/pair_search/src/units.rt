@@ -1,4 +1,4 @@
-//! Bans all of whose pairs are held, or all but one.
+//! Bans all of whose pairs are assigned, or all but one.
 
 ghost use Rattle.std.specs.Prelude.{◌≡◌, ◌<◌, ◌∷◌, All, Contains, IfNone, IfOk, IsTrue, OnOk, length};
 ghost use Rattle.ban_book.specs.Covering.{Covers};
@@ -12,14 +12,15 @@ use net_core::Side;
 use pair_domains::{Domains, Reason};
 use std::alloc::AllocError;
 
-/// Where all pairs of a ban but one are held, and that one is open, deletes it. It answers whether all are held.
+/// Where all pairs of a ban but one are assigned, and that one is open, deletes it. It answers whether all are
+/// assigned.
 pub(crate) fn apply(domains: &mut Domains, bans: &[Ban], number: u64) -> Result<bool, AllocError>
     requires there { number < length bans.now }
     requires justified { IsJustifiedTrail bans.now domains.old }
     ensures propagates { OnOk result (Propagates bans.now domains.old domains.new) }
     ensures all { IfOk result (λ all. IsTrue all → Covers bans.now (held_in domains.new.entries) number) }
 {
-    // no pair has two entries, and held pairs share no port
+    // no pair has two entries, and assigned pairs share no port
     let _lawful = domains.entries();
     let pairs = &bans[number as usize].pairs;
     let Some(way) = unheld(domains, pairs) else {
@@ -31,7 +32,7 @@ pub(crate) fn apply(domains: &mut Domains, bans: &[Ban], number: u64) -> Result<
     Ok(false)
 }
 
-// The first of some pairs that isn't held.
+// The first of some pairs that isn't assigned.
 fn unheld(domains: &Domains, pairs: &[Pair]) -> Option<Pair>
     ensures { IfNone result (All (Contains (held_in domains.now.entries)) pairs.now) }
 {
@@ -43,7 +44,7 @@ fn unheld(domains: &Domains, pairs: &[Pair]) -> Option<Pair>
     None
 }
 
-// Whether all of some pairs but one are held.
+// Whether all of some pairs but one are assigned.
 fn are_others_held(domains: &Domains, pairs: &[Pair], way: Pair) -> bool
     ensures { IsTrue result → All (Contains (way ∷ held_in domains.now.entries)) pairs.now }
 {
@@ -72,7 +73,7 @@ pub(crate) fn is_known(domains: &Domains, pair: Pair) -> bool
     (pair.from < count) & (pair.to < count)
 }
 
-/// Whether a pair is held.
+/// Whether a pair is assigned.
 pub(crate) fn is_held(domains: &Domains, pair: Pair) -> bool
     ensures known { IsTrue result → IsPairOf domains.now.inputs domains.now.outputs pair }
     ensures held { IsTrue result → Contains (held_in domains.now.entries) pair }
@@ -86,7 +87,7 @@ pub(crate) fn is_held(domains: &Domains, pair: Pair) -> bool
     }
 }
 
-/// Whether a pair is of ports that exist, and neither held nor deleted.
+/// Whether a pair is of ports that exist, and neither assigned nor deleted.
 pub fn is_open(domains: &Domains, pair: Pair) -> bool
     ensures known { IsTrue result → IsPairOf domains.now.inputs domains.now.outputs pair }
     ensures is { IsTrue result → IsOpen domains.now.entries pair }

@@ -5,8 +5,8 @@ use circuits::Pair;
 use pair_domains::Domains;
 use std::alloc::Global;
 
-/// The trail as a conflict is resolved on it: both circuits, their pairs, and the first held ones, which alone a new ban
-/// may have.
+/// The trail as a conflict is resolved on it: both circuits, their pairs, and the first assigned ones, which alone a
+/// new ban may have.
 #[derive(Clone, Copy)]
 pub(crate) struct TrailView<'a> {
     pub(crate) alloc: Global,

@@ -7,9 +7,10 @@ use net_core::Side;
 use std::alloc::{AllocError, Global};
 use word_sim::mix;
 
-/// The literals of the inputs of two circuits, or of their outputs, in cells: a literal of the first circuit may correspond
-/// to those of the second that are in its cell, of which there are as many. A literal is a port or its complement, and the
-/// complements of a cell's literals are a cell too. Where that is the same cell, the signs of its ports are open.
+/// The literals of the inputs of two circuits, or of their outputs, in cells: a literal of the first circuit may
+/// correspond to those of the second that are in its cell, of which there are as many. A literal is a port or its
+/// complement, and the complements of a cell's literals are a cell too. Where that is the same cell, the signs of its
+/// ports are open.
 #[derive(Debug)]
 pub struct Cells {
     /// The cell of each literal of the first circuit, by the literal's number.
@@ -20,7 +21,8 @@ pub struct Cells {
     count: usize,
 }
 
-// By hand, and so one call wherever a value ends: a derived drop is expanded there, field by field, and makes proofs long.
+// By hand, and so one call wherever a value ends: a derived drop is expanded there, field by field, and makes proofs
+// long.
 impl Drop for Cells {
     fn drop(self) {
         let Cells {
@@ -31,7 +33,8 @@ impl Drop for Cells {
     }
 }
 
-/// The number of a literal: twice the port, and one more for its complement. So the numbers of complements differ in bit 0.
+/// The number of a literal: twice the port, and one more for its complement. So the numbers of complements differ in
+/// bit 0.
 pub fn literal_of(port: u32, negated: bool) -> usize {
     2 * port as usize + negated as usize
 }
@@ -107,7 +110,8 @@ impl Cells {
         self.first.get(literal) == self.first.get(literal ^ 1)
     }
 
-    /// Whether the sign of some port is open. Going over all of them costs less than the sorting by which cells were split.
+    /// Whether the sign of some port is open. Going over all of them costs less than the sorting by which cells were
+    /// split.
     pub fn has_open(&self) -> bool {
         for literal in 0..self.first.len() {
             if self.is_open(literal) {
@@ -160,8 +164,8 @@ impl Cells {
         })
     }
 
-    /// The cells, each split by keys that literals have which may correspond. None where a cell's keys aren't those of as
-    /// many literals on both sides. A literal without a key has the key 0.
+    /// The cells, each split by keys that literals have which may correspond. None where a cell's keys aren't those of
+    /// as many literals on both sides. A literal without a key has the key 0.
     ///
     /// # Errors
     ///
@@ -196,8 +200,8 @@ fn add_member(literal: usize, cell: usize, members: &mut [Items<usize>]) -> Resu
     Ok(())
 }
 
-// The literals of a circuit, sorted by their cells and their keys. A literal goes with its complement's key too, so that
-// cells stay those of complements.
+// The literals of a circuit, sorted by their cells and their keys. A literal goes with its complement's key too, so
+// that cells stay those of complements.
 fn sorted_by(alloc: Global, cells: &[usize], keys: &[u64]) -> Result<Vec<Ranked>, AllocError> {
     let mut ranked = Vec::with_capacity(alloc, cells.len())?;
     for (literal, cell) in cells.iter().enumerate() {

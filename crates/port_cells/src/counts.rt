@@ -1,12 +1,12 @@
-//! How outputs hang on inputs, counted on vectors.
+//! How outputs depend on inputs, counted on vectors.
 
 use crate::cells::{empty_lists, port_at};
 use crate::{FlipSim, Lanes, ones_in};
 use items::Items;
 use std::alloc::{AllocError, Global};
 
-/// How an output hangs on an input: on how many vectors it changes where the input is inverted, and has the input's bit
-/// before, or the other one.
+/// How an output depends on an input: on how many vectors it changes where the input is inverted, and has the input's
+/// bit before, or the other one.
 #[derive(Clone, Copy, Debug, Drop)]
 pub struct Influence {
     /// The output of an input, or the input of an output.
@@ -52,7 +52,8 @@ pub struct Counts {
     pub of_outputs: Items<Items<Influence>>,
 }
 
-// By hand, and so one call wherever a value ends: a derived drop is expanded there, field by field, and makes proofs long.
+// By hand, and so one call wherever a value ends: a derived drop is expanded there, field by field, and makes proofs
+// long.
 impl Drop for Counts {
     fn drop(self) {
         let Counts {
@@ -71,7 +72,8 @@ pub struct Tally {
     of_inputs: Vec<Vec<Influence>>,
 }
 
-// By hand, and so one call wherever a value ends: a derived drop is expanded there, field by field, and makes proofs long.
+// By hand, and so one call wherever a value ends: a derived drop is expanded there, field by field, and makes proofs
+// long.
 impl Drop for Tally {
     fn drop(self) {
         let Tally {
@@ -132,8 +134,8 @@ impl Tally {
         })
     }
 
-    /// In which directions outputs were seen to change with inputs: each count is 0 or 1, whatever the vectors were drawn by. How
-    /// often outputs are true isn't told.
+    /// In which directions outputs were seen to change with inputs: each count is 0 or 1, whatever the vectors were
+    /// drawn by. How often outputs are true isn't told.
     ///
     /// # Errors
     ///

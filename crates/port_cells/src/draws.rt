@@ -4,7 +4,8 @@ use crate::lanes::Lanes;
 use rand_core::Rng;
 use rand_pcg::Pcg32;
 
-/// Which of the generator's streams all draws are of: that of PCG's own examples. Any one serves, as seeds tell searches apart.
+/// Which of the generator's streams all draws are of: that of PCG's own examples. Any one serves, as seeds tell
+/// searches apart.
 const STREAM: u64 = 54;
 
 /// Numbers drawn one after another, by a seed.

@@ -9,14 +9,14 @@ use items::Items;
 use net_core::{Gate, Graph, Lit};
 use std::alloc::{AllocError, Global};
 
-/// As many gates as take about as long as comparing an output: each is two literals' lanes read and joined, and of an output
-/// that is compared the bits are counted besides.
+/// As many gates as take about as long as comparing an output: each is two literals' lanes read and joined, and of an
+/// output that is compared the bits are counted besides.
 const GATES_OF_OUTPUT: u64 = 4;
 
 /// What an input reaches.
 pub(crate) struct Fanout {
-    /// A bit for each gate, 64 in a word: a list of the gates would take 32 times as much where an input reaches all of them, and
-    /// a circuit of 1,024 inputs and 100,000 gates takes 13 megabytes.
+    /// A bit for each gate, 64 in a word: a list of the gates would take 32 times as much where an input reaches all of
+    /// them, and a circuit of 1,024 inputs and 100,000 gates takes 13 megabytes.
     pub(crate) gates: Items<u64>,
     /// How many gates there are.
     pub(crate) count: u64,
@@ -24,7 +24,8 @@ pub(crate) struct Fanout {
     pub(crate) outputs: Items<u32>,
 }
 
-// By hand, and so one call wherever a value ends: a derived drop is expanded there, field by field, and makes proofs long.
+// By hand, and so one call wherever a value ends: a derived drop is expanded there, field by field, and makes proofs
+// long.
 impl Drop for Fanout {
     fn drop(self) {
         let Fanout {
@@ -36,7 +37,8 @@ impl Drop for Fanout {
 }
 
 impl Fanout {
-    /// How many words of 64 vectors are computed where the input is inverted, with those that comparing outputs is worth.
+    /// How many words of 64 vectors are computed where the input is inverted, with those that comparing outputs is
+    /// worth.
     pub(crate) fn words(&self) -> u64 {
         let outputs = self.outputs.len() as u64;
         self.count

@@ -46,8 +46,8 @@ pub fn word_of_all(input: u32, word: usize) -> u64 {
     }
 }
 
-/// How many blocks of 256 vectors all vectors of n inputs take, the greatest number where that is more than 4,096: past a million
-/// vectors drawn ones are counted.
+/// How many blocks of 256 vectors all vectors of n inputs take, the greatest number where that is more than 4,096: past
+/// a million vectors drawn ones are counted.
 pub fn blocks_of_all(inputs: u32) -> u64 {
     match inputs {
         0..=8 => 1,

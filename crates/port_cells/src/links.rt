@@ -1,5 +1,5 @@
-//! Keys of literals from exact counts: a match keeps how often each literal of an output changes with each literal of an
-//! input, so literals correspond only where these counts, by the cells of the other ports, are the same.
+//! Keys of literals from exact counts: a match keeps how often each literal of an output changes with each literal of
+//! an input, so literals correspond only where these counts, by the cells of the other ports, are the same.
 
 use crate::cells::literal_of;
 use crate::counts::{Counts, Influence};

@@ -1,4 +1,4 @@
-//! What is counted of literals, held against each other with some slack, since the vectors are drawn.
+//! What is counted of literals, compared with each other with some slack, since the vectors are drawn.
 
 use crate::cells::{Cells, literal_of};
 use crate::counts::{Counts, Influence};
@@ -32,8 +32,8 @@ pub struct Slack {
 }
 
 impl Slack {
-    /// Whether two counts may be of corresponding literals. The variance of their difference is estimated from both, and
-    /// one more is added, so that few changes aren't far from none.
+    /// Whether two counts may be of corresponding literals. The variance of their difference is estimated from both,
+    /// and one more is added, so that few changes aren't far from none.
     fn is_near(self, one: u32, other: u32) -> bool {
         let all = u64::from(self.vectors);
         let (one, other) = (u64::from(one), u64::from(other));
@@ -71,7 +71,7 @@ fn is_next(one: Option<&Entry>, other: Option<&Entry>) -> bool {
     }
 }
 
-// Whether two entries are near, where they are of one cell; else the first of them is held against no change.
+// Whether two entries are near, where they are of one cell; else the first of them is compared with no change.
 fn are_near(one: Option<&Entry>, other: Option<&Entry>, slack: Slack) -> bool {
     match (one, other) {
         (Some(one), Some(other)) => {
@@ -187,10 +187,10 @@ fn cell_after(cells: &[usize], literal: usize) -> usize {
     }
 }
 
-/// Keys of the literals of two circuits by which those have one key that may correspond: within a cell, near ones, and those
-/// that are near to one of these, and so on. Within a cell all are held against all that they aren't joined with yet: near
-/// profiles needn't stand near each other in any order, a comparison ends at the first counts that are apart, and cells soon get
-/// small.
+/// Keys of the literals of two circuits by which those have one key that may correspond: within a cell, near ones, and
+/// those that are near to one of these, and so on. Within a cell all are compared with all that they aren't joined with
+/// yet: near profiles needn't stand near each other in any order, a comparison ends at the first counts that are apart,
+/// and cells soon get small.
 ///
 /// # Errors
 ///
@@ -228,7 +228,8 @@ struct Classes {
     right: Vec<u64>,
 }
 
-// By hand, and so one call wherever a value ends: a derived drop is expanded there, field by field, and makes proofs long.
+// By hand, and so one call wherever a value ends: a derived drop is expanded there, field by field, and makes proofs
+// long.
 impl Drop for Classes {
     fn drop(self) {
         let Classes {

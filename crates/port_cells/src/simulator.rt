@@ -37,7 +37,8 @@ impl<'a> Model for FlipSim<'a> {
         × (vec_len a.flipped ≡ signals_of a.graph.now) };
 }
 
-// By hand, and so one call wherever a value ends: a derived drop is expanded there, field by field, and makes proofs long.
+// By hand, and so one call wherever a value ends: a derived drop is expanded there, field by field, and makes proofs
+// long.
 impl Drop for FlipSim<'_> {
     fn drop(self) {
         let FlipSim {
@@ -77,8 +78,8 @@ impl<'a> FlipSim<'a> {
         self.graph
     }
 
-    /// How many words of 64 vectors were computed: of gates, and of outputs for those who look at what an inverted input
-    /// changes.
+    /// How many words of 64 vectors were computed: of gates, and of outputs for those who look at what an inverted
+    /// input changes.
     pub fn words(&self) -> u64 {
         self.words
     }
@@ -228,7 +229,8 @@ impl<'a> FlipSim<'a> {
     }
 }
 
-// Gives each of some gates its bits, in order, where signal `first` is the first gate. The gates are bits, 64 in a word.
+// Gives each of some gates its bits, in order, where signal `first` is the first gate. The gates are bits, 64 in a
+// word.
 fn flip_gates(gates: &[Gate], first: usize, words: &[u64], values: &mut [Lanes])
     requires order { AreInOrder first gates.now }
     requires room { first + length gates.now ≡ length values.old }

@@ -30,9 +30,9 @@ use table_oracle::TableOracle;
 /// What refining comes to.
 #[derive(Clone, Copy, Debug, PartialEq, Eq)]
 enum Outcome {
-    /// It is stable, and this many pairs are held or deleted.
+    /// It is stable, and this many pairs are assigned or deleted.
     Stable(usize),
-    /// A ban of this many pairs is within the held ones.
+    /// A ban of this many pairs is within the assigned ones.
     Dead(usize),
     /// Of another kind.
     Other,
@@ -67,7 +67,7 @@ fn all_open(alloc: Global, graphs: &PairableGraphs<'_>) -> Result<Domains, Alloc
     )
 }
 
-/// Whether a pair is open, and no pair of its ports is held.
+/// Whether a pair is open, and no pair of its ports is assigned.
 fn is_free(domains: &Domains, pair: Pair) -> bool
     ensures known { IsTrue result → IsPairOf domains.now.inputs domains.now.outputs pair }
     ensures open { IsTrue result → IsOpen domains.now.entries pair }
@@ -83,7 +83,7 @@ fn is_free(domains: &Domains, pair: Pair) -> bool
     domains.held(Side::Second, pair.kind, pair.to).is_none()
 }
 
-/// Holds a pair, if it is free.
+/// Assigns a pair, if it is free.
 fn hold(graphs: &PairableGraphs<'_>, domains: &mut Domains, pair: Pair) -> Result<(), AllocError>
     requires trail { IsTrail graphs.now [] domains.old }
     requires shown { (facts : List AnyFact) → AreGrounded graphs.now facts domains.old.entries }
@@ -99,7 +99,7 @@ fn hold(graphs: &PairableGraphs<'_>, domains: &mut Domains, pair: Pair) -> Resul
     Ok(())
 }
 
-/// Holds some pairs, each if it is free.
+/// Assigns some pairs, each if it is free.
 fn hold_all(
     graphs: &PairableGraphs<'_>,
     domains: &mut Domains,
@@ -146,7 +146,7 @@ fn refined_by<O: Oracle>(
     Ok(outcome_of(&answer, domains.entries().len(), book.bans()))
 }
 
-/// What refining by all vectors comes to where pairs are held.
+/// What refining by all vectors comes to where pairs are assigned.
 fn refined_beside(
     alloc: Global,
     graphs: &PairableGraphs<'_>,
@@ -186,7 +186,7 @@ const ONE_TO_OTHER: Pair = port_pair!(Input, 0, 1, false);
 
 const OTHER_TO_ONE: Pair = port_pair!(Input, 1, 0, false);
 
-/// Two circuits by name, the pairs that are held, and what refining comes to.
+/// Two circuits by name, the pairs that are assigned, and what refining comes to.
 const REFININGS: &[(&str, Sample, Sample, &[Pair], Outcome)] = &[
     // both ways of the output are deleted: the one output depends on its input, and the other one doesn't
     (
@@ -203,7 +203,7 @@ const REFININGS: &[(&str, Sample, Sample, &[Pair], Outcome)] = &[
         &[OUTPUT],
         Outcome::Dead(1),
     ),
-    // of the ten signed pairs three are held, and the others clash with them
+    // of the ten signed pairs three are assigned, and the others clash with them
     (
         "AND, AND",
         AND,

@@ -77,8 +77,8 @@ const ODD_OF_FOUR: Sample = Sample {
     outputs: &[26],
 };
 
-/// The eight products of three inputs, plain or negated; and the same with one of them twice, in place of another. No two
-/// outputs of the first are equal.
+/// The eight products of three inputs, plain or negated; and the same with one of them twice, in place of another. No
+/// two outputs of the first are equal.
 const DECODER: Sample = Sample {
     inputs: 3,
     gates: &[

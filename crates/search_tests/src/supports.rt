@@ -27,8 +27,8 @@ const CHOICE: Sample = Sample {
 const INFORMED: &[(Sample, u64, usize, &[(u32, Unate)])] = &[
     // a constant reaches no input
     (CONSTANT, 0, 0, &[]),
-    // two claims of either of two inputs, and the two swaps by which they may be exchanged; both are positive, so that inverted
-    // they may not
+    // two claims of either of two inputs, and the two swaps by which they may be exchanged; both are positive, so that
+    // inverted they may not
     (
         AND_OF_THREE,
         99,

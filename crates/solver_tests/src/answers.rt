@@ -252,8 +252,8 @@ fn asks_of_small_circuits(rt: HostRuntime) -> Result<(), Fail> {
     Ok(())
 }
 
-/// Inputs 1 to 4, each with the AND of input 0 and one of inputs 5 to 8 or instead, and of these four either the first two or the
-/// last two: it can't fall where input 0 rises, but neither half of it says so alone.
+/// Inputs 1 to 4, each with the AND of input 0 and one of inputs 5 to 8 or instead, and of these four either the first
+/// two or the last two: it can't fall where input 0 rises, but neither half of it says so alone.
 const UNATE: &[(u32, u32)] = &[
     (2, 12),
     (2, 14),

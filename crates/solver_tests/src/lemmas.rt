@@ -115,8 +115,8 @@ fn merges_gates_of_one_structure(rt: HostRuntime) -> Result<(), Fail> {
     Ok(())
 }
 
-/// Gates of a circuit of three inputs and its output, and the lemmas where input 0 is 0 in the left cone and 1 in the right
-/// one.
+/// Gates of a circuit of three inputs and its output, and the lemmas where input 0 is 0 in the left cone and 1 in the
+/// right one.
 const RISES: [(&[(u32, u32)], u32, &[[u64; 2]]); 5] = [
     // an OR of two ANDs: each AND implies its copy, and the copy of the gate that is read inverted implies it
     (

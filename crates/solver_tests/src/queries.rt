@@ -361,8 +361,8 @@ fn equal_number(straight: &Feeds, valued: &Feeds, feeds: &Feeds) -> Option<u32> 
     if feeds == valued { Some(2) } else { None }
 }
 
-/// The number under which a map has these feeds, and the number of the equal ones: 1 for those where each input gets its
-/// own bit, 2 for those of a claim.
+/// The number under which a map has these feeds, and the number of the equal ones: 1 for those where each input gets
+/// its own bit, 2 for those of a claim.
 fn numbers_of(alloc: Global, feeds: &[Feed]) -> Result<(Option<u32>, Option<u32>), Fail> {
     let straight = Feeds::straight(3);
     let valued = Feeds::valued(3, swap(0, 2, true, false));

@@ -9,8 +9,8 @@ use refute_check::Refuter;
 use std::alloc::{AllocError, Global};
 use std::test::Fail;
 
-/// An AND of two inputs is true and an OR of their negations, inverted, is true too: variable 0 is true, 1 and 2 are the
-/// inputs, 3 and 4 the gates.
+/// An AND of two inputs is true and an OR of their negations, inverted, is true too: variable 0 is true, 1 and 2 are
+/// the inputs, 3 and 4 the gates.
 #[derive(Clone, Copy, Drop)]
 struct AndOr;
 

@@ -51,7 +51,7 @@ pub record IsShown (graphs : Graphs) (whole : List Pair) (pair : Pair) (values :
 abbrev pub AreShown : Graphs → List Pair → Shown → Type 0
 AreShown graphs whole shown = IsShown graphs whole shown.pair shown.values shown.pairs
 
--- Some of the held pairs, in order, all of inputs.
+-- Some of the assigned pairs, in order, all of inputs.
 pub record AreHeldInputs (held pairs : List Pair) : Type 0 where
   pub part : IsPart held pairs
   pub inputs : All (λ pair. pair.kind ≡ Input) pairs

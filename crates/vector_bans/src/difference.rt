@@ -51,9 +51,9 @@ pub struct Difference {
     pub vector: Bits,
 }
 
-/// Holds a ban of pairs that a matching has, an output's and some of inputs', where the output differs from its partner on a
-/// vector of the first circuit's inputs, and answers its number. The claims of one input of both outputs are decided. Where
-/// these show a ban of such pairs, that is held, and else the vector's.
+/// Makes a ban of pairs that a matching has, an output's and some of inputs', where the output differs from its partner
+/// on a vector of the first circuit's inputs, and answers its number. The claims of one input of both outputs are
+/// decided. Where these show a ban of such pairs, that is made, and else the vector's.
 ///
 /// # Errors
 ///
@@ -79,8 +79,8 @@ pub fn exclude<O: Oracle>(
     hold_shown(graphs, asker, shown, book)
 }
 
-// The pairs on which a vector shows that an output differs from the one that a matching sends it to. The pairs of inputs that the
-// difference doesn't need are left out.
+// The pairs on which a vector shows that an output differs from the one that a matching sends it to. The pairs of
+// inputs that the difference doesn't need are left out.
 fn shown_by(
     alloc: Global,
     graphs: &PairableGraphs<'_>,
@@ -155,8 +155,8 @@ fn inputs_and(alloc: Global, matching: &Matching, pair: Pair) -> Result<Vec<Pair
     Ok(pairs)
 }
 
-/// Leaves out each input's pair without which the values show the difference too, first the last ones of some order. Where that is
-/// the order in which pairs were held, what is left leads further back.
+/// Leaves out each input's pair without which the values show the difference too, first the last ones of some order.
+/// Where that is the order in which pairs were assigned, what is left leads further back.
 pub(crate) fn leave_out(
     alloc: Global,
     graphs: &PairableGraphs<'_>,

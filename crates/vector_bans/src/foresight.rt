@@ -25,10 +25,10 @@ use oracle_core::Oracle;
 use std::alloc::{AllocError, Global};
 use word_sim::tri_output;
 
-/// Where a held output's partner is wrong on one of the vectors that pairs are tried on, whatever the inputs have that aren't
-/// paired: holds a ban of held pairs, and answers its number. The claims of one input of both outputs are decided. Where these
-/// show a ban of the pairs on which the partner is wrong, that is held, and else the vector's. None where no vector shows that
-/// a partner is wrong.
+/// Where an assigned output's partner is wrong on one of the vectors that pairs are tried on, whatever the inputs have
+/// that aren't paired: makes a ban of assigned pairs, and answers its number. The claims of one input of both outputs
+/// are decided. Where these show a ban of the pairs on which the partner is wrong, that is made, and else the vector's.
+/// None where no vector shows that a partner is wrong.
 ///
 /// # Errors
 ///
@@ -54,7 +54,7 @@ pub fn foresee<O: Oracle>(
     Ok(Some(number))
 }
 
-// The held pairs on which one of the vectors shows that an output's partner is wrong.
+// The assigned pairs on which one of the vectors shows that an output's partner is wrong.
 fn suspected(
     alloc: Global,
     graphs: &PairableGraphs<'_>,
@@ -71,8 +71,8 @@ fn suspected(
     }
 }
 
-// The held pairs on which a vector shows that a held output's partner is wrong, if it is. The pairs of inputs that this doesn't
-// need are left out.
+// The assigned pairs on which a vector shows that an assigned output's partner is wrong, if it is. The pairs of inputs
+// that this doesn't need are left out.
 fn wrong_pairs(
     alloc: Global,
     graphs: &PairableGraphs<'_>,
@@ -106,7 +106,7 @@ fn wrong_pairs(
     }))
 }
 
-// The held pairs of inputs, and one of an output, in the order that bans have.
+// The assigned pairs of inputs, and one of an output, in the order that bans have.
 fn inputs_and(alloc: Global, held: &[Pair], pair: Pair) -> Result<Vec<Pair>, AllocError>
     requires apart { AllPairs AreApart held.now }
     requires held { Contains held.now pair }

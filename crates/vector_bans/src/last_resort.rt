@@ -1,4 +1,5 @@
-//! Bans of pairs on which an output differs from its partner: by claims of one input where these show one, else by the vector.
+//! Bans of pairs on which an output differs from its partner: by claims of one input where these show one, else by the
+//! vector.
 
 ghost use Rattle.std.specs.Prelude.{◌≡◌, All, IfNone, IfOk, IfSome, map};
 ghost use Rattle.account_core.specs.declared.step.Step.TheVariants as AnyStep;
@@ -23,9 +24,9 @@ use oracle_core::Oracle;
 use std::alloc::{AllocError, Global};
 use word_sim::Tri;
 
-/// Holds a ban of pairs on which values show that an output differs from its partner, and answers its number. The claims of one
-/// input of both outputs are decided first. What these show has one pair or two, and refutes more matchings than the vector, so
-/// that its ban is held only where they show none.
+/// Makes a ban of pairs on which values show that an output differs from its partner, and answers its number. The
+/// claims of one input of both outputs are decided first. What these show has one pair or two, and refutes more
+/// matchings than the vector, so that its ban is made only where they show none.
 ///
 /// # Errors
 ///

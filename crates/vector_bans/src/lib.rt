@@ -1,4 +1,4 @@
-//! Bans by vectors on which an output differs from its partner, held only where claims of one input show none.
+//! Bans by vectors on which an output differs from its partner, made only where claims of one input show none.
 #![tactic(auto)]
 
 mod difference;

@@ -307,7 +307,8 @@ fn stop_by_ports(
 
 #[test]
 fn counts_ports(rt: HostRuntime) -> Result<(), Fail> {
-    // ten names of two bytes, ninety of three, nine hundred of four and twenty-four of five, each with a blank before it
+    // ten names of two bytes, ninety of three, nine hundred of four and twenty-four of five, each with a blank before
+    // it
     let names = 10 * 3 + 90 * 4 + 900 * 5 + 24 * 6;
     let last_output = 8 + names + 9 + names;
     let rows: [(u64, u64, &[u8], Option<(NetKind, u64)>); 6] = [
