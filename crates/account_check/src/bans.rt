@@ -6,9 +6,9 @@ ghost use Rattle.account_check.specs.Bans.{BanTests, StepTests};
 ghost use Rattle.account_check.specs.Conclusions.{PortsTest};
 
 use crate::reject::Reject;
-use account_core::Ban;
+use account_core::{Ban, Step};
 use ban_check::{
-    Given, are_known, are_names_known, are_ordered, has_shown, have_as_many, keeps_rule,
+    Given, OrderedPairs, are_known, are_names_known, has_shown, have_as_many, keeps_rule,
 };
 use net_core::Graphs;
 use std::alloc::{AllocError, Global};
@@ -29,29 +29,30 @@ pub(crate) fn test_ban(
     if !are_known(graphs, &ban.pairs) {
         return Ok(Some(Reject::UnknownId));
     }
-    if !are_ordered(&ban.pairs) {
+    let Some(pairs) = OrderedPairs::new(alloc, &ban.pairs)? else {
         return Ok(Some(Reject::Rule));
-    }
-    test_step(alloc, graphs, given, ban)
+    };
+    test_step(alloc, graphs, given, &pairs, &ban.step)
 }
 
-// What is wrong with a ban's step.
+// What is wrong with the step of a ban of some pairs.
 fn test_step(
     alloc: Global,
     graphs: &Graphs<'_>,
     given: &Given,
-    ban: &Ban,
+    pairs: &OrderedPairs<'_>,
+    step: &Step,
 ) -> Result<Option<Reject>, AllocError>
-    requires { All (IsKnown graphs.now) ban.now.pairs }
-    ensures { IfOk result (StepTests graphs.now given.now ban.now) }
+    requires { All (IsKnown graphs.now) pairs.now }
+    ensures { IfOk result (StepTests graphs.now given.now (record { pairs = pairs.now; step = step.now })) }
 {
-    if !are_names_known(graphs, given, &ban.step) {
+    if !are_names_known(graphs, given, step) {
         return Ok(Some(Reject::UnknownId));
     }
-    if !keeps_rule(graphs, given, &ban.pairs, &ban.step) {
+    if !keeps_rule(alloc, graphs, given, pairs, step)? {
         return Ok(Some(Reject::Rule));
     }
-    if !has_shown(alloc, graphs, &ban.pairs, &ban.step)? {
+    if !has_shown(alloc, graphs, pairs.as_slice(), step)? {
         return Ok(Some(Reject::VectorFails));
     }
     Ok(None)

@@ -3,7 +3,7 @@
 use crate::graphs::and_or;
 use account_core::Step;
 use ban_check::{
-    Given, are_known, are_names_known, are_ordered, has_shown, have_as_many, keeps_rule,
+    Given, OrderedPairs, are_known, are_names_known, has_shown, have_as_many, keeps_rule,
 };
 use circuits::{Pair, PortKind};
 use claim_core::{Claim, Shape};
@@ -59,8 +59,11 @@ fn is_shown(
     if !are_names_known(graphs, given, step) {
         return Ok(false);
     }
+    let Some(ordered) = OrderedPairs::new(alloc, pairs)? else {
+        return Ok(false);
+    };
     let shown = has_shown(alloc, graphs, pairs, step)?;
-    Ok(shown & keeps_rule(graphs, given, pairs, step))
+    Ok(shown & keeps_rule(alloc, graphs, given, &ordered, step)?)
 }
 
 /// Whether a ban is shown by a vector, by two facts, and by a fact that isn't there. The AND of a 0 is 0, and the OR of a 1 is 1.
@@ -96,7 +99,7 @@ fn ways_shown_by_both(
 fn steps_show_bans(rt: HostRuntime) -> Result<(), Fail> {
     let both = and_or(rt.alloc())?;
     let graphs = both.graphs();
-    assert!(rt; have_as_many(&graphs) & are_ordered(&[]));
+    assert!(rt; have_as_many(&graphs) & OrderedPairs::new(rt.alloc(), &[])?.is_some());
     for (input_inverted, output_inverted, by_vector, by_mismatch) in [
         (false, false, false, true),
         (true, false, true, false),

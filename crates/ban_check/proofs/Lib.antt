@@ -4,3 +4,5 @@ pub mod AscentLemmas
 pub mod CountLemmas
 pub mod TallyLemmas
 pub mod CoverLemmas
+pub mod HeldLemmas
+pub mod MissingLemmas

@@ -1,5 +1,5 @@
 -- Lists of ports and of facts that are read from the front.
-use Rattle.std.specs.Prelude.{◌≡◌, ℕ, ◌+◌, ◌/◌, ◌<◌, ◌≤◌, ◌==◌, Bool, List, ◌∷◌, length, All, Contains, Option, None, Some, if◌then◌else◌}
+use Rattle.std.specs.Prelude.{◌≡◌, ℕ, ◌+◌, ◌/◌, ◌<◌, ◌≤◌, ◌==◌, Bool, List, length, All, Option, None, Some, if◌then◌else◌}
 use Rattle.circuits.specs.declared.port.Pair.{Pair}
 use Rattle.circuits.specs.declared.port.PortKind.TheVariants.{Output}
 use Rattle.claim_core.specs.declared.claims.Shape.{Shape}
@@ -65,10 +65,6 @@ pub record AreTooMany (inputs : ℕ) (given : Given) (each twice : List ℕ) : T
 abbrev pub HaveTooMany : ℕ → Given → Tallied → List ℕ → List ℕ → Type 0
 HaveTooMany inputs given Support have lack = AreTooMany inputs given have lack
 HaveTooMany inputs given Binate have lack = AreTooMany inputs given lack have
-
--- A pair is one of the pairs, or the one more.
-pub record IsHeld (pairs : List Pair) (more : Pair) (held : Pair) : Type 0 where
-  pub there : Contains (more ∷ pairs) held
 
 -- The ban that is referred to was given, if one is.
 pub record IsReferredBanGiven (given : Given) (reference : Option ℕ) : Type 0 where

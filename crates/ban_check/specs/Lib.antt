@@ -1,4 +1,5 @@
 pub mod Counted
+pub mod Held
 pub mod Kept
 pub mod More
 pub use Rattle.account_core.specs.Given

@@ -22,7 +22,7 @@ fn is_known(graphs: &Graphs<'_>, pair: Pair) -> bool
 }
 
 /// Whether pairs of inputs come first, the first ports of each kind ascend, and no two pairs of a kind go to one port.
-pub fn are_ordered(pairs: &[Pair]) -> bool
+pub(crate) fn are_ordered(pairs: &[Pair]) -> bool
     ensures { IsTrue result ↔ AreOrdered pairs.now }
 {
     for k in 0..pairs.len() {

@@ -8,6 +8,8 @@ ghost use Rattle.account_core.specs.Steps.{AreNamesKnown, HasShown, KeepsRule};
 use crate::covers::{are_cover_names, is_cover};
 use crate::given::Given;
 use crate::mismatches::is_mismatch;
+use crate::ordered::OrderedPairs;
+use crate::references::References;
 use crate::tallies::is_tally;
 use crate::vectors::shows_difference;
 use account_core::Step;
@@ -42,19 +44,35 @@ fn have_facts(given: &Given, numbers: &[u64]) -> bool
 
 /// Whether a step keeps its rule: a vector is of a paired output; a mismatch is of a failing claim and its image; a
 /// tally counts too many inputs; a cover excludes each way.
-pub fn keeps_rule(graphs: &Graphs<'_>, given: &Given, pairs: &[Pair], step: &Step) -> bool
-    ensures { IsTrue result ↔ KeepsRule graphs.now given.now pairs.now step.now }
+///
+/// # Errors
+///
+/// Only when out of memory.
+pub fn keeps_rule(
+    alloc: Global,
+    graphs: &Graphs<'_>,
+    given: &Given,
+    pairs: &OrderedPairs<'_>,
+    step: &Step,
+) -> Result<bool, AllocError>
+    ensures { IfOk result (λ keeps. IsTrue keeps ↔ KeepsRule graphs.now given.now pairs.now step.now) }
 {
+    let listed = pairs.as_slice();
     match step {
-        Step::Vector { output, .. } => pair_of(pairs, PortKind::Output, *output).is_some(),
-        Step::Mismatch { fails, holds } => is_mismatch(given, pairs, *fails, *holds),
-        Step::Tally { kind, have, lack } => is_tally(graphs, given, pairs, *kind, have, lack),
+        Step::Vector { output, .. } => Ok(pair_of(listed, PortKind::Output, *output).is_some()),
+        Step::Mismatch { fails, holds } => Ok(is_mismatch(given, listed, *fails, *holds)),
+        Step::Tally { kind, have, lack } => {
+            Ok(is_tally(graphs, given, listed, *kind, have, lack))
+        }
         Step::Cover {
             kind,
             from,
             to,
             refs,
-        } => is_cover(graphs, given, pairs, *kind, from, to, refs),
+        } => {
+            let mut references = References::new(alloc, given, pairs)?;
+            is_cover(graphs, &mut references, *kind, from, to, refs)
+        }
     }
 }
 

@@ -1,0 +1,69 @@
+//! What of a ban isn't among held pairs.
+
+ghost use Rattle.std.specs.Prelude.{◌≡◌, ◌↔◌, ◌∷◌, Contains, IsTrue};
+ghost use Rattle.circuits.specs.declared.port.Pair.{Pair as AnyPair};
+ghost use Rattle.ban_check.specs.Held.{AreMissing, IsAllMissing};
+
+use crate::held::Held;
+use crate::ports::are_same;
+use circuits::Pair;
+
+/// What of a ban isn't among held pairs.
+#[derive(Clone, Copy, Drop)]
+pub(crate) enum Missing {
+    /// Each of its pairs is.
+    None,
+    /// One pair isn't.
+    One(Pair),
+    /// Pairs that differ aren't.
+    Several,
+}
+
+/// What of a ban isn't among held pairs.
+pub(crate) fn missing_of(held: &Held<'_>, ban: &[Pair]) -> Missing
+    ensures { AreMissing held.now ban.now result }
+{
+    let mut missing = Missing::None;
+    for pair in ban.iter() {
+        missing = with_next(held, missing, *pair);
+    }
+    missing
+}
+
+// What is missing with one pair more.
+fn with_next(held: &Held<'_>, missing: Missing, pair: Pair) -> Missing
+    ensures { (more : AnyPair) → (IsAllMissing result more ↔ (IsAllMissing missing more × Contains (more ∷ held.now) pair)) }
+{
+    if held.has(pair) {
+        return missing;
+    }
+    with_missing(missing, pair)
+}
+
+// What is missing with one pair more that is.
+fn with_missing(missing: Missing, pair: Pair) -> Missing
+    ensures { (more : AnyPair) → (IsAllMissing result more ↔ (IsAllMissing missing more × (pair ≡ more))) }
+{
+    match missing {
+        Missing::None => Missing::One(pair),
+        Missing::One(one) => {
+            if are_same(one, pair) {
+                missing
+            } else {
+                Missing::Several
+            }
+        }
+        Missing::Several => missing,
+    }
+}
+
+/// Whether a pair is all that is missing.
+pub(crate) fn is_all(missing: Missing, pair: Pair) -> bool
+    ensures { IsTrue result ↔ IsAllMissing missing pair }
+{
+    match missing {
+        Missing::None => true,
+        Missing::One(one) => are_same(one, pair),
+        Missing::Several => false,
+    }
+}
