@@ -1,6 +1,6 @@
 //! The tests of a ban.
 
-ghost use Rattle.std.specs.Prelude.{All, IfOk};
+ghost use Rattle.std.specs.Prelude.{◌≡◌, All, IfOk};
 ghost use Rattle.account_core.specs.Ports.{IsKnown};
 ghost use Rattle.account_check.specs.Bans.{BanTests, StepTests};
 ghost use Rattle.account_check.specs.Conclusions.{PortsTest};
@@ -8,21 +8,22 @@ ghost use Rattle.account_check.specs.Conclusions.{PortsTest};
 use crate::reject::Reject;
 use account_core::{Ban, Step};
 use ban_check::{
-    Given, OrderedPairs, are_known, are_names_known, has_shown, have_as_many, keeps_rule,
+    Evaluator, Given, OrderedPairs, are_known, are_names_known, has_shown, have_as_many, keeps_rule,
 };
-use net_core::Graphs;
 use std::alloc::{AllocError, Global};
 
 /// What is wrong with a ban: the circuits have other numbers of ports; a port of its pairs doesn't exist; its pairs are out of
 /// order; what its step names isn't there; the step's rule is broken; the step's vector shows no difference.
 pub(crate) fn test_ban(
     alloc: Global,
-    graphs: &Graphs<'_>,
+    evaluator: &mut Evaluator<'_>,
     given: &Given,
     ban: &Ban,
 ) -> Result<Option<Reject>, AllocError>
-    ensures { IfOk result (PortsTest graphs.now (BanTests graphs.now given.now ban.now)) }
+    ensures same { evaluator.new ≡ evaluator.old }
+    ensures tests { IfOk result (PortsTest evaluator.old (BanTests evaluator.old given.now ban.now)) }
 {
+    let graphs = evaluator.graphs();
     if !have_as_many(graphs) {
         return Ok(Some(Reject::Conclusion));
     }
@@ -32,27 +33,29 @@ pub(crate) fn test_ban(
     let Some(pairs) = OrderedPairs::new(alloc, &ban.pairs)? else {
         return Ok(Some(Reject::Rule));
     };
-    test_step(alloc, graphs, given, &pairs, &ban.step)
+    test_step(alloc, evaluator, given, &pairs, &ban.step)
 }
 
 // What is wrong with the step of a ban of some pairs.
 fn test_step(
     alloc: Global,
-    graphs: &Graphs<'_>,
+    evaluator: &mut Evaluator<'_>,
     given: &Given,
     pairs: &OrderedPairs<'_>,
     step: &Step,
 ) -> Result<Option<Reject>, AllocError>
-    requires { All (IsKnown graphs.now) pairs.now }
-    ensures { IfOk result (StepTests graphs.now given.now (record { pairs = pairs.now; step = step.now })) }
+    requires { All (IsKnown evaluator.old) pairs.now }
+    ensures same { evaluator.new ≡ evaluator.old }
+    ensures tests { IfOk result (StepTests evaluator.old given.now (record { pairs = pairs.now; step = step.now })) }
 {
+    let graphs = evaluator.graphs();
     if !are_names_known(graphs, given, step) {
         return Ok(Some(Reject::UnknownId));
     }
     if !keeps_rule(alloc, graphs, given, pairs, step)? {
         return Ok(Some(Reject::Rule));
     }
-    if !has_shown(alloc, graphs, pairs.as_slice(), step)? {
+    if !has_shown(alloc, evaluator, pairs.as_slice(), step)? {
         return Ok(Some(Reject::VectorFails));
     }
     Ok(None)

@@ -22,7 +22,7 @@ use crate::reject::RecordStop;
 use crate::verdict::Verdict;
 use account_core::{Ban, Conclusion, FactHead};
 use account_file::Record;
-use ban_check::Given;
+use ban_check::{Evaluator, Given};
 use bit_list::Bits;
 use circuits::Pair;
 use cnf_core::LogLine;
@@ -55,7 +55,7 @@ pub(crate) enum CheckStage<'a> {
 /// Takes an account of two circuits record by record: the header; facts, each that holds with its log, and bans; a conclusion,
 /// which for a match has two logs for each of its outputs; the end.
 pub struct Checker<'a> {
-    graphs: &'a Graphs<'a>,
+    evaluator: Evaluator<'a>,
     given: Given,
     stage: CheckStage<'a>,
 }
@@ -67,7 +67,7 @@ impl<'a> Model for Checker<'a> {
     ghost Value = { Account };
 
     ghost view = { λ a. record {
-      graphs = a.graphs.now;
+      graphs = a.evaluator;
       place = place_of a.stage;
       given = a.given;
       fact = fact_of a.stage;
@@ -75,14 +75,14 @@ impl<'a> Model for Checker<'a> {
       concluded = concluded_of a.stage;
     } };
 
-    ghost invariant = { λ a. IsStage a.graphs.now a.stage };
+    ghost invariant = { λ a. IsStage a.evaluator a.stage };
 }
 
 // By hand, and so one call wherever a value ends: a derived drop is expanded there, field by field, and makes proofs long.
 impl Drop for Checker<'_> {
     fn drop(self) {
         let Checker {
-            graphs: _graphs,
+            evaluator: _evaluator,
             given: _given,
             stage: _stage,
         } = self;
@@ -95,7 +95,7 @@ impl<'a> Checker<'a> {
         ensures { IfOk result (λ checker. checker ≡ empty_account graphs.now) }
     {
         Ok(Checker {
-            graphs,
+            evaluator: Evaluator::new(alloc, graphs),
             given: Given::new(alloc),
             stage: CheckStage::Empty,
         })
@@ -165,7 +165,7 @@ impl<'a> Checker<'a> {
         requires { IsSome (next_place self.old.place (entry.Fact (head.Fails claim.now bits.now))) }
         ensures { Takes self.old (entry.Fact (head.Fails claim.now bits.now)) self.new result }
     {
-        if let Some(reject) = test_fails(alloc, self.graphs, claim, bits)? {
+        if let Some(reject) = test_fails(alloc, &mut self.evaluator, claim, bits)? {
             return Err(RecordStop::Reject(reject));
         }
         self.given.add_fact(*claim, false)?;
@@ -177,10 +177,11 @@ impl<'a> Checker<'a> {
         requires { IsSome (next_place self.old.place (entry.Fact (head.Holds claim.now))) }
         ensures { Takes self.old (entry.Fact (head.Holds claim.now)) self.new result }
     {
-        if let Some(reject) = test_holds(self.graphs, claim) {
+        let graphs = self.evaluator.graphs();
+        if let Some(reject) = test_holds(graphs, claim) {
             return Err(RecordStop::Reject(reject));
         }
-        let log = FactLog::new(alloc, self.graphs, claim)?;
+        let log = FactLog::new(alloc, graphs, claim)?;
         go_to(&mut self.stage, CheckStage::Showing(log));
         Ok(())
     }
@@ -233,7 +234,7 @@ impl<'a> Checker<'a> {
         requires { IsSome (next_place self.old.place (entry.Ban ban.now)) }
         ensures { Takes self.old (entry.Ban ban.now) self.new result }
     {
-        if let Some(reject) = test_ban(alloc, self.graphs, &self.given, ban)? {
+        if let Some(reject) = test_ban(alloc, &mut self.evaluator, &self.given, ban)? {
             return Err(RecordStop::Reject(reject));
         }
         self.given.add_ban(alloc, &ban.pairs)?;
@@ -257,7 +258,7 @@ impl<'a> Checker<'a> {
         requires { IsSome (next_place self.old.place (entry.Conclusion conclusion.NonePorts)) }
         ensures { Takes self.old (entry.Conclusion conclusion.NonePorts) self.new result }
     {
-        if let Some(reject) = test_ports(self.graphs) {
+        if let Some(reject) = test_ports(self.evaluator.graphs()) {
             return Err(RecordStop::Reject(reject));
         }
         go_to(&mut self.stage, CheckStage::Refusing);
@@ -269,7 +270,7 @@ impl<'a> Checker<'a> {
         requires { IsSome (next_place self.old.place (entry.Conclusion (conclusion.NoneBan ban))) }
         ensures { Takes self.old (entry.Conclusion (conclusion.NoneBan ban)) self.new result }
     {
-        if let Some(reject) = test_empty_ban(self.graphs, &self.given, ban) {
+        if let Some(reject) = test_empty_ban(self.evaluator.graphs(), &self.given, ban) {
             return Err(RecordStop::Reject(reject));
         }
         go_to(&mut self.stage, CheckStage::Refusing);
@@ -281,8 +282,9 @@ impl<'a> Checker<'a> {
         requires { IsSome (next_place self.old.place (entry.Conclusion (conclusion.Match pairs.now))) }
         ensures { Takes self.old (entry.Conclusion (conclusion.Match pairs.now)) self.new result }
     {
-        let matching = matching(alloc, self.graphs, pairs)?;
-        let logs = Logs::new(alloc, self.graphs, matching)?;
+        let graphs = self.evaluator.graphs();
+        let matching = matching(alloc, graphs, pairs)?;
+        let logs = Logs::new(alloc, graphs, matching)?;
         go_to(&mut self.stage, CheckStage::Proving(logs));
         Ok(())
     }

@@ -1,12 +1,12 @@
 //! The tests of a fact's line.
 
-ghost use Rattle.std.specs.Prelude.{◌↔◌, IsTrue, IfOk};
+ghost use Rattle.std.specs.Prelude.{◌≡◌, ◌↔◌, IsTrue, IfOk};
 ghost use Rattle.account_core.specs.declared.fact.FactHead.TheVariants as head;
 ghost use Rattle.account_check.specs.Conclusions.{PortsTest};
 ghost use Rattle.account_check.specs.Facts.{AreInputs, ArePortsThere, FactTests, IsLesserFirst};
 
 use crate::reject::Reject;
-use ban_check::{breaks, have_as_many};
+use ban_check::{Evaluator, breaks, have_as_many};
 use bit_list::Bits;
 use net_core::Graphs;
 use query_core::{Claim, Shape};
@@ -16,16 +16,17 @@ use std::alloc::{AllocError, Global};
 /// break it.
 pub(crate) fn test_fails(
     alloc: Global,
-    graphs: &Graphs<'_>,
+    evaluator: &mut Evaluator<'_>,
     claim: &Claim,
     bits: &Bits,
 ) -> Result<Option<Reject>, AllocError>
-    ensures { IfOk result (PortsTest graphs.now (FactTests graphs.now (head.Fails claim.now bits.now))) }
+    ensures same { evaluator.new ≡ evaluator.old }
+    ensures tests { IfOk result (PortsTest evaluator.old (FactTests evaluator.old (head.Fails claim.now bits.now))) }
 {
-    if let Some(reject) = test_holds(graphs, claim) {
+    if let Some(reject) = test_holds(evaluator.graphs(), claim) {
         return Ok(Some(reject));
     }
-    if !breaks(alloc, graphs, claim, bits)? {
+    if !breaks(alloc, evaluator, claim, bits)? {
         return Ok(Some(Reject::VectorFails));
     }
     Ok(None)

@@ -3,7 +3,7 @@
 use crate::graphs::and_or;
 use account_core::Step;
 use ban_check::{
-    Given, OrderedPairs, are_known, are_names_known, has_shown, have_as_many, keeps_rule,
+    Evaluator, Given, OrderedPairs, are_known, are_names_known, has_shown, have_as_many, keeps_rule,
 };
 use circuits::{Pair, PortKind};
 use claim_core::{Claim, Shape};
@@ -46,9 +46,9 @@ fn pairs_of(input_inverted: bool, output_inverted: bool) -> [Pair; 2] {
 }
 
 /// Whether a step shows a ban of some pairs.
-fn is_shown(
+fn is_shown<'a>(
     alloc: Global,
-    graphs: &Graphs<'_>,
+    graphs: &'a Graphs<'a>,
     given: &Given,
     pairs: &[Pair],
     step: &Step,
@@ -62,14 +62,15 @@ fn is_shown(
     let Some(ordered) = OrderedPairs::new(alloc, pairs)? else {
         return Ok(false);
     };
-    let shown = has_shown(alloc, graphs, pairs, step)?;
+    let mut evaluator = Evaluator::new(alloc, graphs);
+    let shown = has_shown(alloc, &mut evaluator, pairs, step)?;
     Ok(shown & keeps_rule(alloc, graphs, given, &ordered, step)?)
 }
 
 /// Whether a ban is shown by a vector, by two facts, and by a fact that isn't there. The AND of a 0 is 0, and the OR of a 1 is 1.
-fn ways_shown(
+fn ways_shown<'a>(
     alloc: Global,
-    graphs: &Graphs<'_>,
+    graphs: &'a Graphs<'a>,
     given: &Given,
     pairs: &[Pair],
 ) -> Result<(bool, bool, bool), AllocError> {
@@ -85,9 +86,9 @@ fn ways_shown(
 }
 
 /// The same where both facts are given.
-fn ways_shown_by_both(
+fn ways_shown_by_both<'a>(
     alloc: Global,
-    graphs: &Graphs<'_>,
+    graphs: &'a Graphs<'a>,
     pairs: &[Pair],
 ) -> Result<(bool, bool, bool), AllocError> {
     let mut given = Given::new(alloc);

@@ -6,3 +6,4 @@ pub mod TallyLemmas
 pub mod CoverLemmas
 pub mod HeldLemmas
 pub mod MissingLemmas
+pub mod ConeLemmas

@@ -1,3 +1,4 @@
+pub mod Cones
 pub mod Counted
 pub mod Held
 pub mod Kept

@@ -1,13 +1,14 @@
 //! Whether a vector breaks a claim.
 
-ghost use Rattle.std.specs.Prelude.{◌≡◌, ◌<◌, ◌↔◌, false, IsTrue, IfOk, length, replicate, vec_len};
-ghost use Rattle.circuits.specs.Netlists.{signals_of};
-ghost use Rattle.claim_core.specs.Claims.{output_bit, with_opposites, Breaks, BreaksShape, HasValues, IsClaim, IsPlaced};
+ghost use Rattle.std.specs.Prelude.{◌≡◌, ◌<◌, ◌↔◌, IsTrue, IfOk, length};
+ghost use Rattle.net_core.specs.Sides.{graph_of};
+ghost use Rattle.claim_core.specs.Claims.{with_opposites, Breaks, BreaksShape, HasValues, IsClaim, IsPlaced};
 
+use crate::evaluator::Evaluator;
 use bit_list::Bits;
 use claim_core::{Claim, Shape};
 use items::Items;
-use net_core::{Graph, Graphs, lit_value};
+use net_core::Side;
 use std::alloc::{AllocError, Global};
 
 /// Whether a vector breaks a claim: it has the values of the claim's shape, its output is 1 on it, and 0 where the
@@ -18,16 +19,18 @@ use std::alloc::{AllocError, Global};
 /// Only when out of memory.
 pub fn breaks(
     alloc: Global,
-    graphs: &Graphs<'_>,
+    evaluator: &mut Evaluator<'_>,
     claim: &Claim,
     bits: &Bits,
 ) -> Result<bool, AllocError>
-    requires { IsClaim graphs.now claim.now }
-    ensures { IfOk result (λ breaks. IsTrue breaks ↔ Breaks graphs.now claim.now bits.now) }
+    requires { IsClaim evaluator.old claim.now }
+    ensures same { evaluator.new ≡ evaluator.old }
+    ensures breaks { IfOk result (λ breaks. IsTrue breaks ↔ Breaks evaluator.old claim.now bits.now) }
 {
     breaks_shape(
         alloc,
-        graphs.side(claim.side),
+        evaluator,
+        claim.side,
         claim.output,
         claim.shape,
         bits,
@@ -36,15 +39,18 @@ pub fn breaks(
 
 fn breaks_shape(
     alloc: Global,
-    graph: &Graph,
+    evaluator: &mut Evaluator<'_>,
+    side: Side,
     output: u32,
     shape: Shape,
     bits: &Bits,
 ) -> Result<bool, AllocError>
-    requires output { output < length graph.now.outputs }
-    requires placed { IsPlaced graph.now.inputs shape }
-    ensures { IfOk result (λ breaks. IsTrue breaks ↔ BreaksShape graph.now output shape bits.now) }
+    requires output { output < length (graph_of evaluator.old side).outputs }
+    requires placed { IsPlaced (graph_of evaluator.old side).inputs shape }
+    ensures same { evaluator.new ≡ evaluator.old }
+    ensures breaks { IfOk result (λ breaks. IsTrue breaks ↔ BreaksShape (graph_of evaluator.old side) output shape bits.now) }
 {
+    let graph = evaluator.graphs().side(side);
     if bits.len() != graph.inputs() as usize {
         return Ok(false);
     }
@@ -52,9 +58,9 @@ fn breaks_shape(
     if !has_values(shape, &vector) {
         return Ok(false);
     }
-    let before = output_bit(alloc, graph, output, &vector)?;
+    let before = evaluator.bit(alloc, side, output, &vector)?;
     set_opposites(shape, &mut vector);
-    let after = output_bit(alloc, graph, output, &vector)?;
+    let after = evaluator.bit(alloc, side, output, &vector)?;
     Ok(before & !after)
 }
 
@@ -94,26 +100,4 @@ fn set_opposites(shape: Shape, vector: &mut Items<bool>)
             vector.set(j as usize, !b);
         }
     }
-}
-
-// The bit of an output on a vector.
-fn output_bit(
-    alloc: Global,
-    graph: &Graph,
-    output: u32,
-    vector: &[bool],
-) -> Result<bool, AllocError>
-    requires output { output < length graph.now.outputs }
-    requires vector { length vector.now ≡ graph.now.inputs }
-    ensures { IfOk result (λ bit. bit ≡ output_bit graph.now output vector.now) }
-{
-    let mut values = no_bits(alloc, graph.signals())?;
-    graph.eval_into(vector, values.as_mut_slice());
-    Ok(lit_value(&values, graph.outputs()[output as usize]))
-}
-
-fn no_bits(alloc: Global, count: usize) -> Result<Vec<bool>, AllocError>
-    ensures { IfOk result (λ bits. bits.items ≡ replicate count false) }
-{
-    vec![in alloc; false; count]
 }

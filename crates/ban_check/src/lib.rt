@@ -4,7 +4,10 @@
 
 mod ascent;
 mod breaking;
+mod cone_values;
+mod cones;
 mod covers;
+mod evaluator;
 mod given;
 mod held;
 mod mismatches;
@@ -18,6 +21,7 @@ mod vectors;
 
 pub use account_core::have_as_many;
 pub use breaking::breaks;
+pub use evaluator::Evaluator;
 pub use given::Given;
 pub use ordered::OrderedPairs;
 pub use ports::are_known;

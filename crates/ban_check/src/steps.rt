@@ -1,11 +1,12 @@
 //! When a step shows that no match has all of a ban's pairs.
 
-ghost use Rattle.std.specs.Prelude.{◌↔◌, All, IsTrue, IfOk};
+ghost use Rattle.std.specs.Prelude.{◌≡◌, ◌↔◌, All, IsTrue, IfOk};
 ghost use Rattle.account_core.specs.Given.{Given as AnyGiven, IsFactGiven};
 ghost use Rattle.account_core.specs.Ports.{IsKnown};
 ghost use Rattle.account_core.specs.Steps.{AreNamesKnown, HasShown, KeepsRule};
 
 use crate::covers::{are_cover_names, is_cover};
+use crate::evaluator::Evaluator;
 use crate::given::Given;
 use crate::mismatches::is_mismatch;
 use crate::ordered::OrderedPairs;
@@ -83,16 +84,17 @@ pub fn keeps_rule(
 /// Only when out of memory.
 pub fn has_shown(
     alloc: Global,
-    graphs: &Graphs<'_>,
+    evaluator: &mut Evaluator<'_>,
     pairs: &[Pair],
     step: &Step,
 ) -> Result<bool, AllocError>
-    requires known { All (IsKnown graphs.now) pairs.now }
-    requires names { (given : AnyGiven) × AreNamesKnown graphs.now given step.now }
-    ensures { IfOk result (λ shown. IsTrue shown ↔ HasShown graphs.now pairs.now step.now) }
+    requires known { All (IsKnown evaluator.old) pairs.now }
+    requires names { (given : AnyGiven) × AreNamesKnown evaluator.old given step.now }
+    ensures same { evaluator.new ≡ evaluator.old }
+    ensures shown { IfOk result (λ shown. IsTrue shown ↔ HasShown evaluator.old pairs.now step.now) }
 {
     match step {
-        Step::Vector { output, bits } => shows_difference(alloc, graphs, pairs, *output, bits),
+        Step::Vector { output, bits } => shows_difference(alloc, evaluator, pairs, *output, bits),
         _ => Ok(true),
     }
 }

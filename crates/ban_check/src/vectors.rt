@@ -1,40 +1,42 @@
 //! Bans by a vector on which an output and its partner differ, whatever the inputs are that aren't paired.
 
-ghost use Rattle.std.specs.Prelude.{◌≢◌, ◌<◌, ◌↔◌, All, IsTrue, IfOk, length};
+ghost use Rattle.std.specs.Prelude.{◌≡◌, ◌≢◌, ◌<◌, ◌↔◌, All, IsTrue, IfOk, length};
 ghost use Rattle.word_sim.specs.declared.tri.Tri.TheVariants.{X};
 ghost use Rattle.account_core.specs.Ports.{IsKnown};
 ghost use Rattle.account_core.specs.Vectors.{ShowsDifference};
 
+use crate::evaluator::Evaluator;
 use account_core::values_sent;
 use circuits::{Pair, PortKind};
 use claim_core::pair_of;
-use net_core::{Graphs, SignalValue};
+use net_core::{Side, SignalValue};
 use std::alloc::{AllocError, Global};
-use word_sim::{Tri, tri_output};
+use word_sim::Tri;
 
 /// Whether there is a value for each input of the first circuit, and on them the output and its partner are definite
 /// and differ by the sign of their pair.
 pub(crate) fn shows_difference(
     alloc: Global,
-    graphs: &Graphs<'_>,
+    evaluator: &mut Evaluator<'_>,
     pairs: &[Pair],
     output: u32,
     values: &[Tri],
 ) -> Result<bool, AllocError>
-    requires known { All (IsKnown graphs.now) pairs.now }
-    requires output { output < length graphs.now.first.outputs }
-    ensures { IfOk result (λ shows. IsTrue shows ↔ ShowsDifference graphs.now pairs.now output values.now) }
+    requires known { All (IsKnown evaluator.old) pairs.now }
+    requires output { output < length evaluator.old.first.outputs }
+    ensures same { evaluator.new ≡ evaluator.old }
+    ensures shows { IfOk result (λ shows. IsTrue shows ↔ ShowsDifference evaluator.old pairs.now output values.now) }
 {
     let Some(pair) = pair_of(pairs, PortKind::Output, output) else {
         return Ok(false);
     };
+    let graphs = evaluator.graphs();
     if values.len() != graphs.first().inputs() as usize {
         return Ok(false);
     }
-    let first = tri_output(alloc, graphs.first(), values, output)?;
-    let partners = graphs.second();
-    let sent = values_sent(alloc, pairs, partners.inputs(), values)?;
-    let second = tri_output(alloc, partners, &sent, pair.to)?;
+    let sent = values_sent(alloc, pairs, graphs.second().inputs(), values)?;
+    let first = evaluator.tri(alloc, Side::First, output, values)?;
+    let second = evaluator.tri(alloc, Side::Second, pair.to, &sent)?;
     Ok(are_opposite(first, second.signed(pair.flip)))
 }
 

@@ -7,7 +7,7 @@ use Rattle.account_check.proofs.checker.Checker.match_line.Goals as goal
 
 pub returns : goal.returns
 returns c =
-    let graphs = c.self.inside.graphs.now in
+    let graphs = c.self.inside.evaluator in
     let logs = c.in-Proving.logs in
     let line = c.args.line.now in
     let same : logs.graphs ≡ graphs = subst (IsStage graphs) c.in-Proving.is c.self.invariant in
