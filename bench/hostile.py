@@ -72,14 +72,28 @@ def fails_account(lines):
     return "npnp 1\n" + "fails a 0 down 0 =1111\n" * lines + "end\n"
 
 
-def beside_chain(gates):
-    """An output of four inputs, and another one over a long chain of gates."""
-    lines = [".names i0 i1 i2 i3 o\n1--- 1\n"]
-    last = "i0"
+def each_fails_account(outputs):
+    """A line for each output that ends a chain of an even number of gates."""
+    return "npnp 1\n" + "".join(f"fails a {k} down 3 =1111\n" for k in range(outputs)) + "end\n"
+
+
+def long_chain(gates):
+    """A long chain of gates over four inputs, from input 0 to the signal p."""
+    lines, last = [], "i0"
     for k in range(gates):
         lines.append(f".names {last} i{k % 4} {'p' if k + 1 == gates else f's{k}'}\n" + (AND if k % 2 else OR))
         last = f"s{k}"
-    return blif(names("i", 4), ["o", "p"], lines)
+    return lines
+
+
+def beside_chain(gates):
+    """An output of four inputs, and another one over a long chain of gates."""
+    return blif(names("i", 4), ["o", "p"], [".names i0 i1 i2 i3 o\n1--- 1\n", *long_chain(gates)])
+
+
+def over_chain(gates, outputs):
+    """Outputs that all have what a long chain of gates ends in."""
+    return blif(names("i", 4), names("o", outputs), [*long_chain(gates), *(f".names p o{k}\n1 1\n" for k in range(outputs))])
 
 
 def rows_netlist(count):
@@ -91,9 +105,10 @@ def rows_netlist(count):
 def rows():
     both = ("first", "second", "account")
     checked = ("check", *both)
-    yield "cover between ports, one ban named by each way (check)", (256, 512), lambda n: (constants(n, ZERO), constants(n, ONE), cover_account(n)), checked, "rejected line 4 order"
-    yield "vector bans over all ports (check)", (128, 256), lambda n: (constants(n, ZERO), constants(n, ONE), vector_account(n)), checked, None
-    yield "fails, each beside 200,000 gates (check)", (500, 1000), lambda n: (beside_chain(200_000),) * 2 + (fails_account(n),), checked, None
+    yield "cover between ports, one ban named by each way (check)", (512, 1024), lambda n: (constants(n, ZERO), constants(n, ONE), cover_account(n)), checked, "rejected line 4 order"
+    yield "vector bans over all ports (check)", (256, 512), lambda n: (constants(n, ZERO), constants(n, ONE), vector_account(n)), checked, "rejected line"
+    yield "fails, each beside 200,000 gates (check)", (50_000, 100_000), lambda n: (beside_chain(200_000),) * 2 + (fails_account(n),), checked, "rejected line"
+    yield "fails, each of another output over 20,000 gates (check)", (500, 1000), lambda n: (over_chain(20_000, n),) * 2 + (each_fails_account(n),), checked, "rejected line"
     yield "ANDs against as many with one XOR (match)", (256, 512), lambda n: (ands(n), ands(n, XOR), ""), ("match", *both), "no matching"
     yield "ANDs with themselves (match)", (256, 512), lambda n: (ands(n), ands(n), ""), ("match", *both), "matched"
     yield "XOR of all inputs with itself (match)", (512, 1024), lambda n: (chain(n, XOR),) * 2 + ("",), ("match", *both), "matched"

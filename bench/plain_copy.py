@@ -9,8 +9,8 @@ import subprocess
 import sys
 
 HERE = os.path.join(os.path.dirname(os.path.abspath(__file__)), "plain")
-CALLED = ("match_search", "fact_tests")  # by plain/program.rs, with all that they stand on
-IN_PRELUDE = ("items", "indexmap", "rand_core", "rand_pcg")  # plain/prelude.rs has what is used of these
+CALLED = ("match_search", "fact_tests", "account_check")  # by plain/program.rs, with all that they stand on
+IN_PRELUDE = ("items", "indexmap", "rand_core", "rand_pcg", "itoa")  # plain/prelude.rs has what is used of these
 NOT_IN_RUST = ("std::alloc", "std::simd", "std::marker::Model", "std::convert::AsSlice", "std::ops::DerefSlice", "std::snapshot", "thiserror")
 CLAUSE = re.compile(r"^[ \t]*(requires|ensures\*?|decreases|ghost|returns)\b", re.M)
 
@@ -101,7 +101,7 @@ def without_clauses(text):
 
 def without_models(text):
     """Without what a type means to contracts, of which nothing is left once the clauses are gone, and without texts of types."""
-    text = re.sub(r"^impl(<.*>)? Model for [^{]*\{\s*\}\n", "", text, flags=re.M)
+    text = re.sub(r"^impl(<.*>)? (std::marker::)?Model for [^{]*\{(?:\s|//[^\n]*\n)*\}\n", "", text, flags=re.M)
     return re.sub(r"^(?:///.*\n)*impl fmt::Display for \w+ \{\n(?:(?!\}).*\n)*\}\n", "", text, flags=re.M)
 
 

@@ -8,6 +8,7 @@
 #   plain matching FIRST SECOND SEED FILE   whether a matching is a match: `match`, or `differs`. FILE has a line for each port, inputs
 #                                           before outputs: the place where it goes, and 1 where it is inverted there, else 0
 #   plain ask FIRST SECOND OUTPUT VALUE BUDGET   as `workbench ask`, but lines aren't derived again
+#   plain check FIRST SECOND ACCOUNT        the verdict of an account, and the seconds without the time to read the files
 #   plain claims FILE ROUNDS                as `workbench claims`: of each output and each of its inputs whether the output may fall where the
 #                                           input goes up, in some rounds, each time anew
 # of files in the ASCII form of AIGER, in order, as `bench/match_beside_abc.sh --write` writes them. An edit changes one line of a crate first, and

@@ -529,3 +529,23 @@ impl<K: Hash + Eq + Clone> IndexSet<K> {
         self.keys.is_empty()
     }
 }
+
+/// The digits of a number, as itoa writes them.
+pub struct Buffer(String);
+
+impl Buffer {
+    pub fn new() -> Buffer {
+        Buffer(String::new())
+    }
+
+    pub fn format(&mut self, number: u64) -> &str {
+        self.0 = number.to_string();
+        &self.0
+    }
+}
+
+impl<T> Vec<T> {
+    pub fn allocator(&self) -> &Global {
+        &Global
+    }
+}

@@ -1,6 +1,7 @@
 //! What a plain copy is asked: bench/plain_copy.sh has the words. Files are in the ASCII form of AIGER, in order, as
 //! `bench/match_beside_abc.sh --write` writes them.
 
+use crate::account_check::check;
 use crate::account_core::{Ban, PairableGraphs, Step};
 use crate::ask_core::{self, Answer as Answered};
 use crate::ban_book::BanBook;
@@ -46,10 +47,11 @@ pub fn main() -> Answer {
                 prove(graphs, seed, &matching)
             })
         }
+        ["check", first, second, account] => check_account(first, second, account),
         ["claims", netlist, rounds] => claims(netlist, rounds.parse()?),
         _ => Err(
             "plain guess|search|decide FIRST SECOND SEED, plain matching FIRST SECOND SEED FILE, \
-             plain ask FIRST SECOND OUTPUT VALUE BUDGET, or plain claims FILE ROUNDS"
+             plain ask FIRST SECOND OUTPUT VALUE BUDGET, plain check FIRST SECOND ACCOUNT, or plain claims FILE ROUNDS"
                 .into(),
         ),
     }
@@ -67,6 +69,18 @@ fn on_pair(
     let graphs = Graphs::new(&first, &second);
     let graphs = PairableGraphs::new(&graphs).ok_or("the circuits have other numbers of ports")?;
     ask(&graphs, seed.parse()?)
+}
+
+/// Checks an account.
+fn check_account(first: &str, second: &str, account: &str) -> Answer {
+    let first = graph_in(&std::fs::read_to_string(first)?)?;
+    let second = graph_in(&std::fs::read_to_string(second)?)?;
+    let graphs = Graphs::new(&first, &second);
+    let account = std::fs::read(account)?;
+    let begun = std::time::Instant::now();
+    let verdict = check(Global, &graphs, &account);
+    println!("{verdict:?} {:.3} s", begun.elapsed().as_secs_f64());
+    Ok(())
 }
 
 /// Asks for n rounds, of each output and each input that it reaches through gates, whether the output never falls where the

@@ -7,3 +7,4 @@ pub mod CoverLemmas
 pub mod HeldLemmas
 pub mod MissingLemmas
 pub mod ConeLemmas
+pub mod OrderLemmas

@@ -3,6 +3,7 @@ pub mod Counted
 pub mod Held
 pub mod Kept
 pub mod More
+pub mod Seconds
 pub use Rattle.account_core.specs.Given
 pub use Rattle.account_core.specs.Ports
 pub use Rattle.account_core.specs.Steps

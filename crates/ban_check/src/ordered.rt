@@ -33,8 +33,7 @@ impl<'a> OrderedPairs<'a> {
         ensures same { IfOk result (λ found. IfSome found (λ ordered. ordered ≡ pairs.now)) }
         ensures exactly { IfOk result (λ found. IsSome found ↔ AreOrdered pairs.now) }
     {
-        let _ = alloc;
-        if are_ordered(pairs) {
+        if are_ordered(alloc, pairs)? {
             Ok(Some(OrderedPairs { pairs }))
         } else {
             Ok(None)
