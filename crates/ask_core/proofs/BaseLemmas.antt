@@ -21,6 +21,9 @@ use Rattle.bit_list.proofs.MarkLemmas.{marked_where}
 use Rattle.learn_solver.proofs.AnalysisLemmas.{unmarked_bit}
 use Rattle.circuits.proofs.Lists.{not_among}
 
+abbrev pub none : Clause3
+none = record { lits = []; len = 0 }
+
 -- the first names have their places
 pub record IsPlacing (variables : ℕ) (names places : List ℕ) (count : ℕ) : Type 0 where
   pub size : length places ≡ variables

@@ -8,12 +8,19 @@ use Rattle.joint_hash.specs.Merging.{AreLemmas}
 use Rattle.joint_hash.specs.Trees.{AreJoined}
 use Rattle.net_core.specs.Sides.{Graphs}
 use Rattle.claim_core.specs.declared.query.Query.{Query}
-use Rattle.claim_core.specs.Queries.{MeetsQuery, bits_in}
+use Rattle.claim_core.specs.Queries.{IsQuery, MeetsQuery, bits_in}
 use Rattle.claim_core.specs.Formulas.{formula_of}
 use Rattle.claim_core.specs.ConeClauses.{AllOfCones}
 use Rattle.query_core.specs.Ledgers.{Ledgered, charged_in, last_asked, learned_in, lines_in, opened, with_lines}
 use Rattle.ask_core.specs.declared.question.Answer.{Answer}
 use Rattle.ask_core.specs.declared.question.Answer.TheVariants.{Vector, Refuted}
+use Rattle.ask_core.specs.declared.question.Question.{Question}
+
+-- The query fits the circuits, and the clauses are those of its cones.
+pub record IsQuestion (question : Question) : Type 0 where
+  pub fits : IsQuery question.graphs.now question.query.now
+  pub of_graphs : question.cones.now.graphs ≡ question.graphs.now
+  pub of_query : question.cones.now.query ≡ question.query.now
 
 -- A vector that is asked for.
 pub record IsVector (graphs : Graphs) (query : Query) (vector : List Bool) : Type 0 where
@@ -85,7 +92,8 @@ IsBoundedStop graphs query ledger (Spent learned) = IsBounded graphs query ledge
 IsBoundedStop graphs query ledger Memory = Unit {0}
 
 -- What asking a query comes to: an answer, in a ledger that isn't spent, or none; and Asked says what was asked.
-pub record Asks (Asked : Graphs → Query → Ledgered → Ledgered → Type 0) (graphs : Graphs) (query : Query) (old new : Ledgered) (result : Result Answer Stop) : Type 0 where
+pub record Asks (Asked : Graphs → Query → Ledgered → Ledgered → Type 0) (graphs : Graphs) (query : Query) (old new : Ledgered)
+    (result : Result Answer Stop) : Type 0 where
   pub answer : IfOk result (IsAnswer graphs query)
   pub asked : IfOk result (λ _. Asked graphs query old new)
   pub not_spent : IfOk result (λ _. new.spent ≡ false)

@@ -30,7 +30,8 @@ impl Model for DenseBase {
 
     ghost Value = { Dense };
 
-    ghost view = { λ a. record { names = a.names.items; clauses = map literals_of a.clauses.items; numbers = a.numbers.items } };
+    ghost view = { λ a.
+        record { names = a.names.items; clauses = map literals_of a.clauses.items; numbers = a.numbers.items } };
 
     ghost invariant = { λ a. IsDense a.names.items a.clauses.items };
 }
@@ -46,7 +47,8 @@ impl DenseBase {
         cones: &ConeClauses<'_>,
         lemmas: &[LogLine],
     ) -> Result<DenseBase, AllocError>
-        requires known { All (AreKnown (formula_of cones.now.graphs cones.now.query).variables) (clauses_of lemmas.now) }
+        requires known { All (AreKnown (formula_of cones.now.graphs cones.now.query).variables)
+            (clauses_of lemmas.now) }
         requires short { AreShort (clauses_of lemmas.now) }
         ensures renaming { IfOk result (λ dense. IsRenaming (small_formula dense) dense.names dense.numbers
             (formula_of cones.now.graphs cones.now.query) lemmas.now) }

@@ -9,17 +9,18 @@ use rand_pcg::Pcg32;
 use std::alloc::{AllocError, Global};
 use word_sim::{Words, mix, simulate};
 
-/// How many rounds of vectors are drawn at most: the first has 512, and each later one as many as all before it, so that
-/// there are 32,768 in all. In a divider of 12 bits most signals are rarely 1: 4,096 vectors leave some 30 pairs that aren't
-/// equal, each of which costs the search 500 lines, and 32,768 leave none.
+/// How many rounds of vectors are drawn at most: the first has 512, and each later one as many as all before it, so
+/// that there are 32,768 in all. In a divider of 12 bits most signals are rarely 1: 4,096 vectors leave some 30 pairs
+/// that aren't equal, each of which costs the search 500 lines, and 32,768 leave none.
 const ROUNDS: u32 = 7;
 
-/// How many words of 64 vectors the first round has for each input: one of each kind that `drawn_word` draws. Over all questions
-/// of a multiplier of 8 bits one even word leaves some 470 pairs that aren't equal, four leave 100, and eight leave 20.
+/// How many words of 64 vectors the first round has for each input: one of each kind that `drawn_word` draws. Over all
+/// questions of a multiplier of 8 bits one even word leaves some 470 pairs that aren't equal, four leave 100, and eight
+/// leave 20.
 const FIRST: usize = 8;
 
-/// How many words a round may have for all signals: 16 megabytes. So all rounds are drawn for up to 8,192 signals, and fewer for
-/// more.
+/// How many words a round may have for all signals: 16 megabytes. So all rounds are drawn for up to 8,192 signals, and
+/// fewer for more.
 const MOST_WORDS: usize = 1 << 21;
 
 /// The stream of the generator, the same for each seed. Any would do.
@@ -117,7 +118,7 @@ struct Numbers {
     map: IndexMap<(u64, u64), u64>,
 }
 
-// By hand, and so one call wherever a value ends: a derived drop is expanded there, field by field, and makes proofs long.
+// By hand, and so one call wherever a value ends: a derived drop makes proofs long.
 impl Drop for Numbers {
     fn drop(self) {
         let Numbers { map: _map } = self;
@@ -198,8 +199,8 @@ fn draw_column(generator: &mut Pcg32, table: &mut Words, input: u32)
     }
 }
 
-// A word. Of each eight four are even; in the others, one each, three of four bits are 1, seven of eight, one of four and
-// one of eight: wide gates are the same value on nearly all even vectors.
+// A word. Of each eight four are even; in the others, one each, three of four bits are 1, seven of eight, one of four
+// and one of eight: wide gates are the same value on nearly all even vectors.
 fn drawn_word(generator: &mut Pcg32, place: usize) -> u64 {
     let one = generator.next_u64();
     match place % 8 {

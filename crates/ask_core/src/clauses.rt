@@ -21,7 +21,8 @@ pub(crate) fn wanted(
     requires known { All (AreKnown (formula_of cones.now.graphs cones.now.query).variables) (clauses_of lemmas.now) }
     requires short { AreShort (clauses_of lemmas.now) }
     ensures { IfOk result (λ clauses. AreOver (formula_of cones.now.graphs cones.now.query).variables
-        (map (clause_at (query_clauses cones.now.graphs cones.now.query)) cones.now.ids ++ clauses_of lemmas.now) clauses.items) }
+        (map (clause_at (query_clauses cones.now.graphs cones.now.query)) cones.now.ids
+        ++ clauses_of lemmas.now) clauses.items) }
 {
     let mut clauses = told(alloc, cones)?;
     for line in lemmas.iter() {

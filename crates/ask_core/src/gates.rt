@@ -14,8 +14,8 @@ pub struct LitGate {
     pub second: SatLit,
 }
 
-/// The gates of a query's cones, each after its operands; one that both cones have comes twice. The numbers are those of the
-/// cones' clauses.
+/// The gates of a query's cones, each after its operands; one that both cones have comes twice. The numbers are those
+/// of the cones' clauses.
 ///
 /// # Errors
 ///
@@ -31,8 +31,8 @@ pub fn gates_of<B: Base>(alloc: Global, base: &B, ids: &[u64]) -> Result<Vec<Lit
     Ok(gates)
 }
 
-// Gate k of the cones, counted from 1, whose clauses have these numbers: after that of variable 0 three for each gate, of
-// which the last says that the operands imply it.
+// Gate k of the cones, counted from 1, whose clauses have these numbers: after that of variable 0 three for each gate,
+// of which the last says that the operands imply it.
 fn gate_at<B: Base>(base: &B, ids: &[u64], k: usize) -> Option<LitGate>
     requires { 3 * k < length ids.now }
 {
@@ -49,8 +49,8 @@ fn gate_at<B: Base>(base: &B, ids: &[u64], k: usize) -> Option<LitGate>
     })
 }
 
-/// The inputs of gates each of which stands after its operands: what is read and is no gate's output, as literals without
-/// complement, in the order in which they are read first. The constant is none.
+/// The inputs of gates each of which stands after its operands: what is read and is no gate's output, as literals
+/// without complement, in the order in which they are read first. The constant is none.
 ///
 /// # Errors
 ///

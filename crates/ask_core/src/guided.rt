@@ -4,16 +4,14 @@ ghost use Rattle.std.specs.Prelude.{◌≡◌, false, IfOk};
 ghost use Rattle.std.specs.List.{list_any};
 ghost use Rattle.cnf_core.specs.Derivations.{AreDerived, clauses_of, is_empty};
 ghost use Rattle.claim_core.specs.Formulas.{formula_of};
-ghost use Rattle.claim_core.specs.Queries.{IsQuery};
-ghost use Rattle.ask_core.specs.Answers.{Asks, IsAskedWith, IsPaidFor};
+ghost use Rattle.ask_core.specs.Answers.{Asks, IsAskedWith, IsPaidFor, IsQuestion};
 
-use crate::question::Answer;
+use crate::question::{Answer, Question};
 use crate::vector::vector_of;
 use bit_list::Marks;
 use cnf_core::{LogLine, Stop};
 use learn_solver::{Finding, QuestionGuide, Solver, solve_guided};
-use net_core::Graphs;
-use query_core::{ConeClauses, Ledger, Query, QueryBase};
+use query_core::{Ledger, QueryBase};
 use std::alloc::Global;
 
 /// Answers a query that fits two circuits by the clauses of its cones and by lemmas that are derived in order from its
@@ -24,33 +22,30 @@ use std::alloc::Global;
 ///
 /// # Errors
 ///
-/// `Spent` at a conflict that is met with the budget spent; its line is kept as the refused one. When out of memory, nothing is
-/// said of the last entry.
+/// `Spent` at a conflict that is met with the budget spent; its line is kept as the refused one. When out of memory,
+/// nothing is said of the last entry.
 pub fn ask_guided<G: QuestionGuide>(
     alloc: Global,
-    graphs: &Graphs<'_>,
-    query: &Query,
-    cones: &ConeClauses<'_>,
+    question: &Question<'_>,
     lemmas: &[LogLine],
     guide: &mut G,
     ledger: &mut Ledger,
 ) -> Result<Answer, Stop>
-    requires fits { IsQuery graphs.now query.now }
-    requires of_graphs { cones.now.graphs ≡ graphs.now }
-    requires of_query { cones.now.query ≡ query.now }
-    requires derived { AreDerived (formula_of graphs.now query.now) lemmas.now }
+    requires question { IsQuestion question.now }
+    requires derived { AreDerived (formula_of question.now.graphs.now question.now.query.now) lemmas.now }
     requires unclosed { list_any is_empty (clauses_of lemmas.now) ≡ false }
     requires not_spent { ledger.old.spent ≡ false }
-    ensures asks { Asks (IsAskedWith lemmas.now) graphs.now query.now ledger.old ledger.new result }
+    ensures asks { Asks (IsAskedWith lemmas.now) question.now.graphs.now question.now.query.now
+        ledger.old ledger.new result }
     ensures paid_for { IfOk result (IsPaidFor ledger.new) }
 {
-    ledger.open(alloc, query, lemmas)?;
-    let base = QueryBase::new(alloc, graphs, query)?;
-    let mut solver = Solver::new(alloc, &base, cones.ids(), lemmas)?;
+    ledger.open(alloc, question.query, lemmas)?;
+    let base = QueryBase::new(alloc, question.graphs, question.query)?;
+    let mut solver = Solver::new(alloc, &base, question.cones.ids(), lemmas)?;
     match solve_guided(alloc, &mut solver, guide, ledger)? {
         Finding::Model(values) => {
             let values = Marks::from_table(values.into_vec());
-            let vector = vector_of(alloc, graphs, query, &values)?;
+            let vector = vector_of(alloc, question.graphs, question.query, &values)?;
             Ok(Answer::Vector(vector))
         }
         Finding::Refuted => Ok(Answer::Refuted(solver.into_log())),

@@ -9,8 +9,9 @@ use std::alloc::{AllocError, Global};
 /// The number that vectors are drawn from: any would do. Each question of a run draws the same ones.
 const SEED: u64 = 1;
 
-/// Up to how many inputs are decided first. Then a question learns about as many lines at most as the inputs have vectors,
-/// where an S-box of 8 inputs and two thousand gates took up to 28,000 by candidates, and 90 times as long as minisat.
+/// Up to how many inputs are decided first. Then a question learns about as many lines at most as the inputs have
+/// vectors, where an S-box of 8 inputs and two thousand gates took up to 28,000 by candidates, and 90 times as long as
+/// minisat.
 const FEW_INPUTS: usize = 10;
 
 /// The pairs of a query's gates that seem to be equal.
@@ -37,9 +38,9 @@ impl<'a> QuestionGuide for GatePairs<'a> {
     }
 }
 
-/// The gates of a query's cones, and two candidates for each pair of them that seem to be equal: that the one is true and the
-/// other isn't. Where the cones have few inputs, these alone, to be decided first. The numbers are those of the cones' clauses:
-/// after the first clause three for each gate.
+/// The gates of a query's cones, and two candidates for each pair of them that seem to be equal: that the one is true
+/// and the other isn't. Where the cones have few inputs, these alone, to be decided first. The numbers are those of the
+/// cones' clauses: after the first clause three for each gate.
 ///
 /// # Errors
 ///

@@ -28,7 +28,7 @@ pub(crate) struct Joint {
     pub(crate) signals: Vec<Signal>,
 }
 
-// By hand, and so one call wherever a value ends: a derived drop is expanded there, field by field, and makes proofs long.
+// By hand, and so one call wherever a value ends: a derived drop makes proofs long.
 impl Drop for Joint {
     fn drop(self) {
         let Joint {
@@ -46,7 +46,7 @@ struct Parts {
     gates: Vec<Gate>,
 }
 
-// By hand, and so one call wherever a value ends: a derived drop is expanded there, field by field, and makes proofs long.
+// By hand, and so one call wherever a value ends: a derived drop makes proofs long.
 impl Drop for Parts {
     fn drop(self) {
         let Parts {

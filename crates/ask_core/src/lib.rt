@@ -27,7 +27,7 @@ pub use guided::ask_guided;
 pub use guiding::agenda_of;
 pub use lines::translated;
 pub use pairs::{GatePair, pairs_of};
-pub use question::{Answer, ask, ask_watched};
+pub use question::{Answer, Question, ask, ask_watched};
 pub use solving::solve_dense;
 pub use tab::Tab;
 pub use verdict::DenseVerdict;

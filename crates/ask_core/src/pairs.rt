@@ -22,9 +22,9 @@ struct Candidate {
     class: u64,
 }
 
-/// Pairs of literals that agree on vectors drawn by a seed, up to 32,768 of them, of gates each of which stands after its
-/// operands, of their inputs and of the constant: for each gate the one that is nearest to the inputs, from the inputs on,
-/// so that those come first on which others rest.
+/// Pairs of literals that agree on vectors drawn by a seed, up to 32,768 of them, of gates each of which stands after
+/// its operands, of their inputs and of the constant: for each gate the one that is nearest to the inputs, from the
+/// inputs on, so that those come first on which others rest.
 ///
 /// # Errors
 ///

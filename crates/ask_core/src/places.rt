@@ -6,8 +6,9 @@ ghost use Rattle.ask_core.specs.Renamings.{AreNames, ArePlaces, TellPlaces};
 
 use std::alloc::{AllocError, Global};
 
-/// A table costs a word for each variable, which is zeroed at once, and a bisection some ten comparisons for each of the two or
-/// three literals of a clause. With this many variables for a clause the table is reckoned, not measured, to cost as much.
+/// A table costs a word for each variable, which is zeroed at once, and a bisection some ten comparisons for each of
+/// the two or three literals of a clause. With this many variables for a clause the table is reckoned, not measured, to
+/// cost as much.
 const VARIABLES_A_CLAUSE: usize = 32;
 
 /// How the place of a name is found.
@@ -19,8 +20,8 @@ pub(crate) enum Places {
     Bisected,
 }
 
-/// How the places of names are found where this many clauses are written over them: by a table where these are many beside the
-/// variables, and else by bisection.
+/// How the places of names are found where this many clauses are written over them: by a table where these are many
+/// beside the variables, and else by bisection.
 pub(crate) fn places_for(
     alloc: Global,
     clauses: usize,

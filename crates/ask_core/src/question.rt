@@ -5,7 +5,7 @@ ghost use Rattle.claim_core.specs.Formulas.{formula_of};
 ghost use Rattle.claim_core.specs.Queries.{IsQuery};
 ghost use Rattle.joint_hash.specs.Merging.{AreLemmas};
 ghost use Rattle.joint_hash.specs.Trees.{AreJoined};
-ghost use Rattle.ask_core.specs.Answers.{Asks, IsAskedIn, IsPaidFor, JoinsTrees};
+ghost use Rattle.ask_core.specs.Answers.{Asks, IsAskedIn, IsPaidFor, IsQuestion, JoinsTrees};
 
 use crate::vector::vector_of;
 use crate::{DenseVerdict, Tab, solve_dense};
@@ -16,6 +16,14 @@ use net_core::Graphs;
 use query_core::{ConeClauses, Ledger, Query};
 use std::alloc::Global;
 use watch_core::{Silent, Watch};
+
+/// A query that fits two circuits, and the clauses of its cones.
+#[derive(Clone, Copy)]
+pub struct Question<'a> {
+    pub graphs: &'a Graphs<'a>,
+    pub query: &'a Query,
+    pub cones: &'a ConeClauses<'a>,
+}
 
 /// An answer to a query.
 #[derive(Debug, Drop)]
@@ -64,35 +72,36 @@ pub fn ask_watched<W: Watch>(
 {
     let cones = ConeClauses::new(alloc, graphs, query)?;
     let lemmas = merge(alloc, &cones)?;
-    ask_cones(alloc, graphs, query, &cones, &lemmas, ledger, watch)
+    let question = Question {
+        graphs,
+        query,
+        cones: &cones,
+    };
+    ask_cones(alloc, &question, &lemmas, ledger, watch)
 }
 
 // Answers a query by the clauses of its cones and by lemmas.
 fn ask_cones<W: Watch>(
     alloc: Global,
-    graphs: &Graphs<'_>,
-    query: &Query,
-    cones: &ConeClauses<'_>,
+    question: &Question<'_>,
     lemmas: &[LogLine],
     ledger: &mut Ledger,
     watch: &W,
 ) -> Result<Answer, Stop>
-    requires fits { IsQuery graphs.now query.now }
-    requires of_graphs { cones.now.graphs ≡ graphs.now }
-    requires of_query { cones.now.query ≡ query.now }
-    requires lemmas { AreLemmas (formula_of cones.now.graphs cones.now.query) lemmas.now }
-    requires joined { AreJoined cones.now.graphs cones.now.query lemmas.now }
+    requires question { IsQuestion question.now }
+    requires lemmas { AreLemmas (formula_of question.now.cones.now.graphs question.now.cones.now.query) lemmas.now }
+    requires joined { AreJoined question.now.cones.now.graphs question.now.cones.now.query lemmas.now }
     requires not_spent { ledger.old.spent ≡ false }
-    ensures asks { Asks IsAskedIn graphs.now query.now ledger.old ledger.new result }
-    ensures joined { IfOk result (JoinsTrees graphs.now query.now) }
+    ensures asks { Asks IsAskedIn question.now.graphs.now question.now.query.now ledger.old ledger.new result }
+    ensures joined { IfOk result (JoinsTrees question.now.graphs.now question.now.query.now) }
     ensures paid_for { IfOk result (IsPaidFor ledger.new) }
 {
-    let _ids = cones.ids();
-    ledger.open(alloc, query, lemmas)?;
+    let _ids = question.cones.ids();
+    ledger.open(alloc, question.query, lemmas)?;
     let tab = Tab::new(alloc, ledger.budget(), ledger.learned(), watch);
-    match solve_dense(alloc, cones, lemmas, tab, ledger)? {
+    match solve_dense(alloc, question.cones, lemmas, tab, ledger)? {
         DenseVerdict::Model(values) => {
-            let vector = vector_of(alloc, graphs, query, &values)?;
+            let vector = vector_of(alloc, question.graphs, question.query, &values)?;
             Ok(Answer::Vector(vector))
         }
         DenseVerdict::Refuted(log) => Ok(Answer::Refuted(log)),

@@ -17,15 +17,16 @@ use query_core::ConeClauses;
 use std::alloc::Global;
 use watch_core::Watch;
 
-/// Looks for a model of the clauses of a query's cones, with lemmas that are derived in order from the formula and have one to
-/// three literals. The search is over the variables that occur in them alone, and costs by them, whatever else the formula has.
-/// The lemmas are the lines of the ledger's open entry, and the tab has the ledger's budget, of which as much is spent. What is
-/// learned is charged to the tab as it comes, and to the ledger, in terms of the formula, when the search ends.
+/// Looks for a model of the clauses of a query's cones, with lemmas that are derived in order from the formula and have
+/// one to three literals. The search is over the variables that occur in them alone, and costs by them, whatever else
+/// the formula has. The lemmas are the lines of the ledger's open entry, and the tab has the ledger's budget, of which
+/// as much is spent. What is learned is charged to the tab as it comes, and to the ledger, in terms of the formula,
+/// when the search ends.
 ///
 /// # Errors
 ///
-/// `Spent` at a conflict that is met with the budget spent: its line is the ledger's refused one. Running out of memory may leave
-/// the ledger anyhow.
+/// `Spent` at a conflict that is met with the budget spent: its line is the ledger's refused one. Running out of memory
+/// may leave the ledger anyhow.
 pub fn solve_dense<L: Charge, W: Watch>(
     alloc: Global,
     cones: &ConeClauses<'_>,
@@ -37,13 +38,19 @@ pub fn solve_dense<L: Charge, W: Watch>(
     requires short { AreShort (clauses_of lemmas.now) }
     requires asking { IsAsking (L.charging ledger.old) lemmas.now }
     requires same { IsOf tab (L.charging ledger.old) }
-    ensures verdict { IfOk result (IsDenseVerdict (with_lines_of (start_of (formula_of cones.now.graphs cones.now.query) cones.now.ids lemmas.now) (L.charging ledger.new))) }
-    ensures lines { IfOk result (λ _. IsExtended (start_of (formula_of cones.now.graphs cones.now.query) cones.now.ids lemmas.now)
-        (with_lines_of (start_of (formula_of cones.now.graphs cones.now.query) cones.now.ids lemmas.now) (L.charging ledger.new))
+    ensures verdict { IfOk result
+        (IsDenseVerdict (with_lines_of
+        (start_of (formula_of cones.now.graphs cones.now.query) cones.now.ids lemmas.now) (L.charging ledger.new))) }
+    ensures lines { IfOk result
+        (λ _. IsExtended (start_of (formula_of cones.now.graphs cones.now.query) cones.now.ids lemmas.now)
+        (with_lines_of
+        (start_of (formula_of cones.now.graphs cones.now.query) cones.now.ids lemmas.now) (L.charging ledger.new))
         (L.charging ledger.old) (L.charging ledger.new)) }
     ensures not_spent { IfOk result (λ _. IsAsking (L.charging ledger.new) (L.charging ledger.new).lines) }
-    ensures stop { IfErr result (IsStopped (start_of (formula_of cones.now.graphs cones.now.query) cones.now.ids lemmas.now)
-        (with_lines_of (start_of (formula_of cones.now.graphs cones.now.query) cones.now.ids lemmas.now) (L.charging ledger.new))
+    ensures stop { IfErr result
+        (IsStopped (start_of (formula_of cones.now.graphs cones.now.query) cones.now.ids lemmas.now)
+        (with_lines_of
+        (start_of (formula_of cones.now.graphs cones.now.query) cones.now.ids lemmas.now) (L.charging ledger.new))
         (L.charging ledger.old) (L.charging ledger.new)) }
 {
     let dense = DenseBase::new(alloc, cones, lemmas)?;
@@ -60,14 +67,19 @@ fn search_dense<L: Charge, W: Watch>(
     tab: &mut Tab<'_, W>,
     ledger: &mut L,
 ) -> Result<DenseVerdict, Stop>
-    requires renaming { IsRenaming (small_formula dense.now) dense.now.names dense.now.numbers (formula_of cones.now.graphs cones.now.query) lemmas.now }
+    requires renaming { IsRenaming (small_formula dense.now) dense.now.names dense.now.numbers
+        (formula_of cones.now.graphs cones.now.query) lemmas.now }
     requires few { length lemmas.now < 2 ^ 62 }
     requires opened { (L.charging ledger.old).opened ≡ true }
     requires not_spent { (L.charging ledger.old).spent ≡ false }
     requires same { IsOf tab.old (L.charging ledger.old) }
-    ensures settled { IfOk result (IsSettled (small_formula dense.now) dense.now.names dense.now.numbers (formula_of cones.now.graphs cones.now.query) lemmas.now
+    ensures settled { IfOk result
+        (IsSettled (small_formula dense.now) dense.now.names dense.now.numbers
+        (formula_of cones.now.graphs cones.now.query) lemmas.now
         (L.charging ledger.old) (L.charging ledger.new)) }
-    ensures unsettled { IfErr result (IsUnsettled (small_formula dense.now) dense.now.names dense.now.numbers (formula_of cones.now.graphs cones.now.query) lemmas.now
+    ensures unsettled { IfErr result
+        (IsUnsettled (small_formula dense.now) dense.now.names dense.now.numbers
+        (formula_of cones.now.graphs cones.now.query) lemmas.now
         (L.charging ledger.old) (L.charging ledger.new)) }
 {
     let _count = dense.count();

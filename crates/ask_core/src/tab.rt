@@ -8,11 +8,12 @@ use std::alloc::Global;
 use std::marker::Model;
 use watch_core::{Stage, Watch};
 
-/// Of this many learned lines one is told. They come by the thousand in a second, and what is shown changes once in one.
+/// Of this many learned lines one is told. They come by the thousand in a second, and what is shown changes once in
+/// one.
 const TOLD_EVERY: u64 = 64;
 
-/// A budget, and for contracts alone the lines that were charged to it, a refused one last: the solver has them. A watcher is told
-/// how many there are.
+/// A budget, and for contracts alone the lines that were charged to it, a refused one last: the solver has them. A
+/// watcher is told how many there are.
 #[derive(Drop)]
 pub struct Tab<'a, W: Watch> {
     budget: u64,
@@ -44,7 +45,8 @@ impl<'a, W: Watch> Tab<'a, W> {
     /// A budget of which a part was spent before.
     pub fn new(alloc: Global, budget: u64, learned: u64, watch: &'a W) -> Tab<'a, W>
         requires { learned ≤ budget }
-        ensures { result ≡ record { budget = budget; made = learned; opened = true; lines = []; spent = false; others = tt } }
+        ensures { result
+            ≡ record { budget = budget; made = learned; opened = true; lines = []; spent = false; others = tt } }
     {
         Tab {
             budget,

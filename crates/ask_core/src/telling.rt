@@ -28,7 +28,8 @@ pub(crate) fn charge_told<L: Charge>(
     requires few { All (λ line. All (λ hint. next + hint < 2 ^ 64) line.hints) lines.now }
     requires opened { (L.charging ledger.old).opened ≡ true }
     requires not_spent { (L.charging ledger.old).spent ≡ false }
-    ensures lines { IfOk result (λ told. told.items ≡ map (translated dense.now.names dense.now.numbers next) lines.now) }
+    ensures lines { IfOk result
+        (λ told. told.items ≡ map (translated dense.now.names dense.now.numbers next) lines.now) }
     ensures charged { OnOk result (AreCharged (L.charging ledger.old)
         (map (translated dense.now.names dense.now.numbers next) lines.now) (L.charging ledger.new)) }
     ensures refused { IfErr result (AreRefused (L.charging ledger.old)

@@ -190,38 +190,48 @@ stands_for_variable literals l = by_sign (inverts l)
     by_sign true = variable_of-opposite (stand_in literals (signal_of l))
     by_sign false = refl
 
--- An operand whose variable isn't low is a gate that the output reaches, and that comes earlier.
-record IsEarly (net : Net) (literals : List SatLit) (k from id variable : ℕ) : Type 0 where
-  gate : ConeGate
-  is : IsReachedGate net literals k from gate
-  before : gate.id + 2 < id + 2
-  variable_is : variable_of gate.output ≡ variable
+-- An operand of a gate whose variable isn't low is a gate that the output reaches, and that comes earlier.
+module _ (n : ℕ) (net : Net) (feed : List Feed) (variables : List ℕ) (half : IsHalf n net feed variables) (k from : ℕ) (IsGate : ConeGate → Type 0)
+    (are : (h : ConeGate) → IsReachedGate net (signal_literals feed variables) k from h → IsGate h)
+    (g : ConeGate) (is : IsReachedGate net (signal_literals feed variables) k from g) (variable : ℕ) (high : n < variable) where
+  operand_early : (l : Lit) (x : SatLit) → signal_of l < 1 + net.inputs + is.place → Reaches net k (signal_of l)
+      → x ≡ stands_for (signal_literals feed variables) l → variable_of x ≡ variable → HasGate IsGate (g.id + 2) variable
+  operand_early l x below reached stands x_is =
+      let literals = signal_literals feed variables in
+      let s = signal_of l in
+      let own : variable_of (stand_in literals s) ≡ variable = sym (stands_for_variable literals l) ∙ (ap variable_of (sym stands) ∙ x_is) in
+      elim (cases_lt n s) [
+        | inr low ↦ absurd (omega (arith, own, high, low_literal n net feed variables half s low))
+        | inl gate ↦
+            let u = s - (1 + n) in
+            let at : s ≡ 1 + net.inputs + u = omega (arith, gate, half.inputs) in
+            let at_gate : s ≡ net.inputs + 1 + u = omega (arith, gate, half.inputs) in
+            let earlier : u < is.place = omega (arith, gate, below, half.inputs) in
+            let there : u < length net.gates = omega (arith, earlier, is.there) in
+            let h : ConeGate = record {
+              id = from + 3 * u;
+              output = stand_in literals (net.inputs + 1 + u);
+              first = stands_for literals (slice_index_or net.gates u no_gate).a;
+              second = stands_for literals (slice_index_or net.gates u no_gate).b;
+            } in
+            let is_gate = are h (gate_made net literals k from u there (subst (Reaches net k) at reached) h refl refl refl refl) in
+            record {
+              gate = h;
+              visited = record { is_gate = is_gate; early = omega (arith, earlier, is.id_is) };
+              variable_is = ap (λ m. variable_of (stand_in literals m)) (sym at_gate) ∙ own;
+            }
+      ]
 
-operand_early : (n : ℕ) (net : Net) (feed : List Feed) (variables : List ℕ) → IsHalf n net feed variables → (k from id t variable : ℕ) (l : Lit) → id ≡ from + 3 * t → t < length net.gates → signal_of l < 1 + net.inputs + t → Reaches net k (signal_of l) → variable_of (stands_for (signal_literals feed variables) l) ≡ variable → n < variable → IsEarly net (signal_literals feed variables) k from id variable
-operand_early n net feed variables half k from id t variable l id_is there below reached is high =
-    let literals = signal_literals feed variables in
-    let s = signal_of l in
-    let own : variable_of (stand_in literals s) ≡ variable = sym (stands_for_variable literals l) ∙ is in
-    elim (cases_lt n s) [
-      | inr low ↦ absurd (omega (arith, own, high, low_literal n net feed variables half s low))
-      | inl gate ↦
-          let u = s - (1 + n) in
-          let at : s ≡ 1 + net.inputs + u = omega (arith, gate, half.inputs) in
-          let at_gate : s ≡ net.inputs + 1 + u = omega (arith, gate, half.inputs) in
-          let earlier : u < t = omega (arith, gate, below, half.inputs) in
-          let g : ConeGate = record {
-            id = from + 3 * u;
-            output = stand_in literals (net.inputs + 1 + u);
-            first = stands_for literals (slice_index_or net.gates u no_gate).a;
-            second = stands_for literals (slice_index_or net.gates u no_gate).b;
-          } in
-          record {
-            gate = g;
-            is = gate_made net literals k from u (omega (arith, earlier, there)) (subst (Reaches net k) at reached) g refl refl refl refl;
-            before = omega (arith, earlier, id_is);
-            variable_is = ap (λ m. variable_of (stand_in literals m)) (sym at_gate) ∙ own;
-          }
-    ]
+  operands_early : (variable_of g.first ≡ variable → HasGate IsGate (g.id + 2) variable)
+      × (variable_of g.second ≡ variable → HasGate IsGate (g.id + 2) variable)
+  operands_early =
+      let t = is.place in
+      let gate = slice_index_or net.gates t no_gate in
+      let first = half.ordered.first_operands t no_gate is.there in
+      let second = half.ordered.second_operands t no_gate is.there in (
+        operand_early gate.a g.first first (first_reached net k t no_gate is.there is.reached) (is.first_is no_gate),
+        operand_early gate.b g.second second (second_reached net k t no_gate is.there is.reached) (is.second_is no_gate),
+      )
 
 -- gates with equal parts
 same_gate : (g h : ConeGate) → g.id ≡ h.id → g.output ≡ h.output → g.first ≡ h.first → g.second ≡ h.second → g ≡ h
@@ -363,25 +373,15 @@ module _ (graphs : Graphs) (query : Query) (first : IsGraph graphs.first) (secon
       let one = one_place right (right_literals graphs query) query.right.output from_right g h is there id in
       (ap (λ (x : ConeGate). x.first) one, ap (λ (x : ConeGate). x.second) one)
 
-  early_first : (g h : ConeGate) → IsGateOf graphs query g → IsGateOf graphs query h → variable_of g.first ≡ variable_of h.output → HasGate (IsGateOf graphs query) (g.id + 2) (variable_of h.output)
-  early_first g h (inl is) of same =
-      let t = is.place in
-      let early = operand_early inputs left query.left.feed (left_variables graphs query) left_half query.left.output 1 g.id t (variable_of h.output) (slice_index_or left.gates t no_gate).a is.id_is is.there (left_half.ordered.first_operands t no_gate is.there) (first_reached left query.left.output t no_gate is.there is.reached) (ap variable_of (sym (is.first_is no_gate)) ∙ same) (high h of) in
-      record { gate = early.gate; visited = record { is_gate = inl early.is; early = early.before }; variable_is = early.variable_is }
-  early_first g h (inr is) of same =
-      let t = is.place in
-      let early = operand_early inputs right query.right.feed (right_variables graphs query) right_half query.right.output from_right g.id t (variable_of h.output) (slice_index_or right.gates t no_gate).a is.id_is is.there (right_half.ordered.first_operands t no_gate is.there) (first_reached right query.right.output t no_gate is.there is.reached) (ap variable_of (sym (is.first_is no_gate)) ∙ same) (high h of) in
-      record { gate = early.gate; visited = record { is_gate = inr early.is; early = early.before }; variable_is = early.variable_is }
-
-  early_second : (g h : ConeGate) → IsGateOf graphs query g → IsGateOf graphs query h → variable_of g.second ≡ variable_of h.output → HasGate (IsGateOf graphs query) (g.id + 2) (variable_of h.output)
-  early_second g h (inl is) of same =
-      let t = is.place in
-      let early = operand_early inputs left query.left.feed (left_variables graphs query) left_half query.left.output 1 g.id t (variable_of h.output) (slice_index_or left.gates t no_gate).b is.id_is is.there (left_half.ordered.second_operands t no_gate is.there) (second_reached left query.left.output t no_gate is.there is.reached) (ap variable_of (sym (is.second_is no_gate)) ∙ same) (high h of) in
-      record { gate = early.gate; visited = record { is_gate = inl early.is; early = early.before }; variable_is = early.variable_is }
-  early_second g h (inr is) of same =
-      let t = is.place in
-      let early = operand_early inputs right query.right.feed (right_variables graphs query) right_half query.right.output from_right g.id t (variable_of h.output) (slice_index_or right.gates t no_gate).b is.id_is is.there (right_half.ordered.second_operands t no_gate is.there) (second_reached right query.right.output t no_gate is.there is.reached) (ap variable_of (sym (is.second_is no_gate)) ∙ same) (high h of) in
-      record { gate = early.gate; visited = record { is_gate = inr early.is; early = early.before }; variable_is = early.variable_is }
+  early : (g h : ConeGate) → IsGateOf graphs query g → IsGateOf graphs query h
+      → (variable_of g.first ≡ variable_of h.output → HasGate (IsGateOf graphs query) (g.id + 2) (variable_of h.output))
+      × (variable_of g.second ≡ variable_of h.output → HasGate (IsGateOf graphs query) (g.id + 2) (variable_of h.output))
+  early g h (inl is) of =
+      operands_early inputs left query.left.feed (left_variables graphs query) left_half query.left.output 1 (IsGateOf graphs query)
+      (λ _ reached. inl reached) g is (variable_of h.output) (high h of)
+  early g h (inr is) of =
+      operands_early inputs right query.right.feed (right_variables graphs query) right_half query.right.output from_right (IsGateOf graphs query)
+      (λ _ reached. inr reached) g is (variable_of h.output) (high h of)
 
   pub nested : AreNested (IsGateOf graphs query)
   nested = record {
@@ -389,6 +389,6 @@ module _ (graphs : Graphs) (query : Query) (first : IsGraph graphs.first) (secon
     numbered = numbered_gate;
     same_first = λ g h is there same. (same_operands g h is there same).0;
     same_second = λ g h is there same. (same_operands g h is there same).1;
-    first_early = early_first;
-    second_early = early_second;
+    first_early = λ g h is there. (early g h is there).0;
+    second_early = λ g h is there. (early g h is there).1;
   }

@@ -22,9 +22,11 @@ pub(crate) fn hints_among(
 ) -> Result<Option<Items<u64>>, AllocError>
     requires { AreListed (length (query_clauses cones.now.graphs cones.now.query)) cones.now.ids ids.now }
     ensures derive { IfOk result (λ found. IfSome found (λ hints.
-        hint_fault (query_clauses cones.now.graphs cones.now.query ++ clauses_of lines.now) (map opposite clause.now) hints ≡ None)) }
+        hint_fault (query_clauses cones.now.graphs cones.now.query ++ clauses_of lines.now)
+        (map opposite clause.now) hints ≡ None)) }
     ensures among { IfOk result (λ found. IfSome found (All (Contains ids.now))) }
-    ensures found { LeadOn (query_clauses cones.now.graphs cones.now.query ++ clauses_of lines.now) (map opposite clause.now) ids.now
+    ensures found { LeadOn (query_clauses cones.now.graphs cones.now.query ++ clauses_of lines.now)
+        (map opposite clause.now) ids.now
         → IfOk result (λ found. found ≢ None) }
 {
     let mut made = ShortAssignment::against(alloc, clause)?;
@@ -59,7 +61,8 @@ fn is_there(cones: &ConeClauses<'_>, lines: &[LogLine], id: u64) -> bool
 fn effect_at(cones: &ConeClauses<'_>, lines: &[LogLine], made: &ShortAssignment, id: u64) -> Effect
     requires there { id < length (query_clauses cones.now.graphs cones.now.query ++ clauses_of lines.now) }
     requires listed { id < length (query_clauses cones.now.graphs cones.now.query) → Contains cones.now.ids id }
-    ensures { result ≡ effect_of made.now (clause_at (query_clauses cones.now.graphs cones.now.query ++ clauses_of lines.now) id) }
+    ensures { result ≡ effect_of made.now
+        (clause_at (query_clauses cones.now.graphs cones.now.query ++ clauses_of lines.now) id) }
 {
     let count = cones.count();
     if id < count {

@@ -22,8 +22,8 @@ use std::alloc::{AllocError, Global};
 
 /// Lemmas by which gates of the two cones that unfold to the same tree are one: for each gate but the first of its
 /// class, that the first one implies it and that it implies the first one. Where polarity excludes what is asked, and
-/// propagation doesn't show it, there are also lemmas by which it does: that gates of the one cone imply their copies in
-/// the other.
+/// propagation doesn't show it, there are also lemmas by which it does: that gates of the one cone imply their copies
+/// in the other.
 ///
 /// # Errors
 ///
@@ -83,7 +83,8 @@ fn add_gates(
     requires cones { (id : ℕ) → (Contains ids.now id ↔ IsConeId cones.now.graphs cones.now.query id) }
     requires under_way { IsUnderWay cones.now.graphs cones.now.query 0
         merged.old.lines.items merged.old.firsts.entries merged.old.twins.entries }
-    ensures { OnOk result (IsUnderWay cones.now.graphs cones.now.query (length (query_clauses cones.now.graphs cones.now.query))
+    ensures { OnOk result
+        (IsUnderWay cones.now.graphs cones.now.query (length (query_clauses cones.now.graphs cones.now.query))
         merged.new.lines.items merged.new.firsts.entries merged.new.twins.entries) }
 {
     for id in ids.iter() {

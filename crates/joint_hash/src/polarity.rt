@@ -1,4 +1,5 @@
-//! Questions that polarity excludes: of gates of the one cone it is derived that they imply their copies in the other one.
+//! Questions that polarity excludes: of gates of the one cone it is derived that they imply their copies in the other
+//! one.
 
 ghost use Rattle.std.specs.Prelude.{◌≡◌, IfOk, IfSome, OnOk, length};
 ghost use Rattle.claim_core.specs.Formulas.{query_clauses};
@@ -15,13 +16,14 @@ use indexmap::IndexMap;
 use query_core::ConeClauses;
 use std::alloc::{AllocError, Global};
 
-/// Where polarity excludes what is asked, adds a lemma for each gate that propagation needs to show it, and else nothing.
+/// Where polarity excludes what is asked, adds a lemma for each gate that propagation needs to show it, and else
+/// nothing.
 ///
-/// Both cones are of one circuit then, and an input that is fed 0 in the one is fed 1 in the other. Where each path from
-/// it to the output has an even number of complements, the output never falls, and each gate on the way implies its copy,
-/// or is implied by it, since that holds of its operands. One pass from the output down finds which implications are
-/// needed, and gives up at the first that can't be shown. One pass up adds a lemma for each. Nothing rests on the first
-/// pass: a lemma is added only where its hints derive it.
+/// Both cones are of one circuit then, and an input that is fed 0 in the one is fed 1 in the other. Where each path
+/// from it to the output has an even number of complements, the output never falls, and each gate on the way implies
+/// its copy, or is implied by it, since that holds of its operands. One pass from the output down finds which
+/// implications are needed, and gives up at the first that can't be shown. One pass up adds a lemma for each. Nothing
+/// rests on the first pass: a lemma is added only where its hints derive it.
 pub(crate) fn add_implications(
     alloc: Global,
     cones: &ConeClauses<'_>,
@@ -42,14 +44,14 @@ pub(crate) fn add_implications(
 struct Implications {
     /// By how much the numbers of a gate's literal and of its copy's differ.
     apart: u64,
-    /// Which gates are to imply their copies, by their variables, each with the place of the lemma that says so among the
-    /// lines, once it is there.
+    /// Which gates are to imply their copies, by their variables, each with the place of the lemma that says so among
+    /// the lines, once it is there.
     wanted: IndexMap<u64, Option<usize>>,
 }
 
 impl Implications {
-    // None is wanted. A circuit of n gates that is asked about beside itself has 3 + 6 n clauses, and a copy's variable is
-    // n after the gate's, so that their literals' numbers are 2 n apart.
+    // None is wanted. A circuit of n gates that is asked about beside itself has 3 + 6 n clauses, and a copy's variable
+    // is n after the gate's, so that their literals' numbers are 2 n apart.
     fn new(alloc: Global, cones: &ConeClauses<'_>) -> Implications {
         Implications {
             apart: cones.count().saturating_sub(3) / 3,
@@ -67,9 +69,9 @@ impl Implications {
         self.wanted.get(&variable).is_some()
     }
 
-    // Wants that one literal implies another. Answers whether it may: it does already, or the two are a gate and its copy.
-    // That the gate and its copy imply each other can't be shown so: their operands would have to do the same, down to an
-    // input that is fed 0 and 1, unless all are of one class, and then the gate and its copy are.
+    // Wants that one literal implies another. Answers whether it may: it does already, or the two are a gate and its
+    // copy. That the gate and its copy imply each other can't be shown so: their operands would have to do the same,
+    // down to an input that is fed 0 and 1, unless all are of one class, and then the gate and its copy are.
     fn want(
         &mut self,
         twins: &IndexMap<u64, Twin>,
@@ -150,8 +152,9 @@ fn unit_at(cones: &ConeClauses<'_>, before_last: usize) -> Option<SatLit> {
 }
 
 // Wants the implications by which the outputs can't have the values that are asked for. Answers among how many of the
-// cone's gates, from the first one on, lemmas are needed to show it. None is needed above the topmost gate two operands of
-// which are to imply those of its copy: where a gate and its copy differ, propagation goes on to a single operand by itself.
+// cone's gates, from the first one on, lemmas are needed to show it. None is needed above the topmost gate two operands
+// of which are to imply those of its copy: where a gate and its copy differ, propagation goes on to a single operand by
+// itself.
 fn want_all(
     cones: &ConeClauses<'_>,
     twins: &IndexMap<u64, Twin>,
@@ -172,8 +175,8 @@ fn want_all(
     Ok(needed)
 }
 
-// Wants that the left output's literal, which is to be true, implies that the right one's is false. They are the last two
-// clauses.
+// Wants that the left output's literal, which is to be true, implies that the right one's is false. They are the last
+// two clauses.
 fn want_outputs(
     cones: &ConeClauses<'_>,
     twins: &IndexMap<u64, Twin>,
@@ -185,8 +188,8 @@ fn want_outputs(
     implications.want(twins, left, right.opposite())
 }
 
-// Wants the implications between operands that the gates at a place need, if one is to imply the other. Answers how many
-// are wanted more, or None where there can't be such.
+// Wants the implications between operands that the gates at a place need, if one is to imply the other. Answers how
+// many are wanted more, or None where there can't be such.
 fn want_below(
     cones: &ConeClauses<'_>,
     twins: &IndexMap<u64, Twin>,
@@ -298,8 +301,8 @@ fn add_implication(
     implications.put(gate, place)
 }
 
-// The numbers of the clauses by which a gate implies its copy: it implies its operands, these those of the copy, and they
-// the copy.
+// The numbers of the clauses by which a gate implies its copy: it implies its operands, these those of the copy, and
+// they the copy.
 fn steps(
     alloc: Global,
     cones: &ConeClauses<'_>,
@@ -311,7 +314,8 @@ fn steps(
     requires late { AreLate (length (query_clauses cones.now.graphs cones.now.query)) (twin_of twins.now.entries) }
     requires gate { IsGateOf cones.now.graphs cones.now.query gate.now }
     requires copy { IsGateOf cones.now.graphs cones.now.query copy.now }
-    ensures { IfOk result (λ ids. AreBetween (length (query_clauses cones.now.graphs cones.now.query)) gate.now copy.now ids.items) }
+    ensures { IfOk result
+        (λ ids. AreBetween (length (query_clauses cones.now.graphs cones.now.query)) gate.now copy.now ids.items) }
 {
     let _count = cones.count();
     let mut ids = Vec::new(alloc);
@@ -330,8 +334,8 @@ fn steps(
     Ok(ids)
 }
 
-// Adds the numbers of the clauses by which an operand implies that of the copy: the one that says that variable 0 is true,
-// the lemma that the operand's gate implies its copy, or those by which both are of one class.
+// Adds the numbers of the clauses by which an operand implies that of the copy: the one that says that variable 0 is
+// true, the lemma that the operand's gate implies its copy, or those by which both are of one class.
 fn push_link(
     cones: &ConeClauses<'_>,
     twins: &IndexMap<u64, Twin>,
@@ -341,7 +345,8 @@ fn push_link(
     ids: &mut Vec<u64>,
 ) -> Result<(), AllocError>
     requires late { AreLate (length (query_clauses cones.now.graphs cones.now.query)) (twin_of twins.now.entries) }
-    ensures { OnOk result (AddsLines (length (query_clauses cones.now.graphs cones.now.query)) ids.old.items ids.new.items) }
+    ensures { OnOk result
+        (AddsLines (length (query_clauses cones.now.graphs cones.now.query)) ids.old.items ids.new.items) }
 {
     if one == other {
         return Ok(());
@@ -357,7 +362,8 @@ fn push_link(
 
 // Adds the number of the clause that says that variable 0 is true.
 fn push_constant(cones: &ConeClauses<'_>, ids: &mut Vec<u64>) -> Result<(), AllocError>
-    ensures { OnOk result (AddsLines (length (query_clauses cones.now.graphs cones.now.query)) ids.old.items ids.new.items) }
+    ensures { OnOk result
+        (AddsLines (length (query_clauses cones.now.graphs cones.now.query)) ids.old.items ids.new.items) }
 {
     ids.push(0)?;
     Ok(())
@@ -365,7 +371,8 @@ fn push_constant(cones: &ConeClauses<'_>, ids: &mut Vec<u64>) -> Result<(), Allo
 
 // Adds the number of the line at a place.
 fn push_line(cones: &ConeClauses<'_>, place: usize, ids: &mut Vec<u64>) -> Result<(), AllocError>
-    ensures { OnOk result (AddsLines (length (query_clauses cones.now.graphs cones.now.query)) ids.old.items ids.new.items) }
+    ensures { OnOk result
+        (AddsLines (length (query_clauses cones.now.graphs cones.now.query)) ids.old.items ids.new.items) }
 {
     ids.push(cones.count().saturating_add(place as u64))?;
     Ok(())
@@ -380,7 +387,8 @@ fn push_class(
     ids: &mut Vec<u64>,
 ) -> Result<(), AllocError>
     requires late { AreLate (length (query_clauses cones.now.graphs cones.now.query)) (twin_of twins.now.entries) }
-    ensures { OnOk result (AddsLines (length (query_clauses cones.now.graphs cones.now.query)) ids.old.items ids.new.items) }
+    ensures { OnOk result
+        (AddsLines (length (query_clauses cones.now.graphs cones.now.query)) ids.old.items ids.new.items) }
 {
     let _count = cones.count();
     push_lemma(ids, twins, one, true)?;

@@ -1,19 +1,18 @@
 -- Lines that were paid for stay so: written into another log, under other outputs, and as a ledger grows.
-use Rattle.std.proofs.Common.{◌≡◌, ◌⊎◌, ℕ, ◌+◌, ◌-◌, ◌<◌, ◌≤◌, cond, List, [], ◌∷◌, ◌++◌, length, take, drop, map, All, Any, Contains, slice_index_or, inl, inr, refl, sym, ap, subst, ◌∙◌, arith}
+use Rattle.std.proofs.Common.{◌≡◌, ◌⊎◌, ℕ, ◌+◌, ◌-◌, ◌<◌, ◌≤◌, cond, List, [], ◌∷◌, ◌++◌, length, take, drop, All, Any, Contains, slice_index_or, inl, inr, refl, sym, ap, subst, ◌∙◌, arith}
 use Rattle.std.proofs.lemmas.Bool.Decides.{eqb_tells}
 use Rattle.std.proofs.lemmas.Bool.{cases_lt}
 use Rattle.std.proofs.lemmas.List.{get_or-drop, get_or-map, get_or-take, get_or_append_left, get_or_default, length-append, length-drop, length-map, length-take}
-use Rattle.std.proofs.lemmas.List.Elements.{Contains-get_or}
 use Rattle.std.proofs.lemmas.List.Quantifiers.{Any-push}
 use Rattle.cnf_core.specs.declared.literal.SatLit.{SatLit}
 use Rattle.cnf_core.specs.declared.log.LogLine.{LogLine}
-use Rattle.cnf_core.specs.Clauses.{Formula, clause_at}
+use Rattle.cnf_core.specs.Clauses.{Formula}
 use Rattle.cnf_core.specs.Derivations.{clauses_of}
 use Rattle.net_core.specs.Sides.{Graphs}
 use Rattle.claim_core.specs.declared.query.Query.{Query}
 use Rattle.claim_core.specs.Formulas.{formula_of, query_clauses}
 use Rattle.query_core.specs.declared.ledger.Asked.{Asked}
-use Rattle.query_core.specs.Ledgers.{Ledgered, charged_front, entry_of, last_asked, nothing_asked, opened, with_lines}
+use Rattle.query_core.specs.Ledgers.{Ledgered, charged_front, entry_of, last_asked, nothing_asked}
 use Rattle.joint_hash.specs.declared.gates.ConeGate.{ConeGate}
 use Rattle.joint_hash.specs.Merging.{AreBetween, AreLemmas, IsImplication, IsInner}
 use Rattle.shared_lemmas.specs.Parts.{AreWritten, HaveCommon, IsWrittenAs, IsWrittenOf}

@@ -2,17 +2,17 @@
 
 use ask_core::agenda_of;
 use learn_solver::{Agenda, Candidate, QuestionGuide};
-use query_core::QueryBase;
+use query_core::{Ledger, QueryBase};
 use std::alloc::{AllocError, Global};
 use watch_core::{Stage, Watch};
 
-/// From how many more lines on one is told of the question's own search. They come by the thousand in a second, and what is
-/// shown changes once in one.
+/// From how many more lines on one is told of the question's own search. They come by the thousand in a second, and
+/// what is shown changes once in one.
 const TOLD_EVERY: u64 = 64;
 
 /// The pairs of a question's gates that seem to be equal, each of which is two candidates. Those that questions before
-/// looked at are looked at again: of what was learned there only lines are kept that rest on neither output, and a pair that
-/// is known by these is done with by propagation alone.
+/// looked at are looked at again: of what was learned there only lines are kept that rest on neither output, and a pair
+/// that is known by these is done with by propagation alone.
 #[derive(Drop)]
 pub(crate) struct QuestionPairs<'a, W: Watch> {
     pub(crate) base: &'a QueryBase<'a>,
@@ -24,17 +24,28 @@ pub(crate) struct QuestionPairs<'a, W: Watch> {
 /// What a watcher is told of a question.
 #[derive(Drop)]
 pub(crate) struct Reporter<'a, W: Watch> {
-    pub(crate) watch: &'a W,
-    pub(crate) budget: u64,
+    watch: &'a W,
+    budget: u64,
     /// How many lines were learned before the question.
-    pub(crate) learned: u64,
+    learned: u64,
     /// How many of the question's lines were learned before it.
-    pub(crate) lemmas: u64,
+    lemmas: u64,
     /// With how many of them it is told again.
-    pub(crate) next: u64,
+    next: u64,
 }
 
 impl<'a, W: Watch> Reporter<'a, W> {
+    /// Tells of a question that has this many lemmas.
+    pub(crate) fn new(ledger: &Ledger, lemmas: u64, watch: &'a W) -> Reporter<'a, W> {
+        Reporter {
+            watch,
+            budget: ledger.budget(),
+            learned: ledger.learned(),
+            lemmas,
+            next: 0,
+        }
+    }
+
     // Tells how many lines were learned, where the question has this many, unless few were learned since.
     fn tell_some(&mut self, lines: u64) {
         if lines >= self.next {

@@ -13,8 +13,8 @@ use query_core::ConeClauses;
 use std::alloc::{AllocError, Global};
 use std::mem;
 
-/// Adds to a stock those lines of a question's log that don't rest on the clauses of the outputs. Where lines of the stock
-/// stand in the log is listed. Out of memory, the stock may have no line.
+/// Adds to a stock those lines of a question's log that don't rest on the clauses of the outputs. Where lines of the
+/// stock stand in the log is listed. Out of memory, the stock may have no line.
 pub(crate) fn keep(
     alloc: Global,
     cones: &ConeClauses<'_>,

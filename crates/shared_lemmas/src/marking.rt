@@ -4,8 +4,8 @@ ghost use Rattle.std.specs.Prelude.{◌≡◌, length};
 
 use cnf_core::LogLine;
 
-/// Marks the lines that marked ones rest on, from the last line to the first: when a line's turn comes, all that may name it had
-/// theirs. A formula has n clauses, and the lines are numbered after these.
+/// Marks the lines that marked ones rest on, from the last line to the first: when a line's turn comes, all that may
+/// name it had theirs. A formula has n clauses, and the lines are numbered after these.
 pub fn mark_hinted(count: u64, lines: &[LogLine], marked: &mut [bool])
     ensures { length marked.new ≡ length marked.old }
 {

@@ -4,7 +4,7 @@ ghost use Rattle.std.specs.Prelude.{◌≡◌, ◌∷◌, [], List, false, All, 
 ghost use Rattle.claim_core.specs.Formulas.{formula_of};
 ghost use Rattle.claim_core.specs.Queries.{IsQuery};
 ghost use Rattle.query_core.specs.declared.ledger.Asked.{Asked};
-ghost use Rattle.ask_core.specs.Answers.{Asks, IsAnswer, IsAskedIn, IsAskedWith, IsPaidFor};
+ghost use Rattle.ask_core.specs.Answers.{Asks, IsAnswer, IsAskedWith, IsQuestion};
 ghost use Rattle.shared_lemmas.specs.Parts.{MayGoOn};
 ghost use Rattle.shared_lemmas.specs.Shared.{AreLogPaid, ArePaidIn, AreShared, HoldUnder, IsAskedBy, IsPaid, IsUnder};
 
@@ -14,29 +14,31 @@ use crate::keeping::keep;
 use crate::lemmas::{Lemmas, lemmas_for};
 use crate::stock::Stock;
 use crate::trim;
-use ask_core::{Answer, ask_guided, ask_watched};
-use cnf_core::{LogLine, Stop};
+use ask_core::{Answer, Question, ask_guided, ask_watched};
+use cnf_core::Stop;
+use learn_solver::QuestionGuide;
 use net_core::Graphs;
 use query_core::{ConeClauses, Ledger, Query, QueryBase};
 use std::alloc::{AllocError, Global};
 use std::marker::Model;
 use watch_core::Watch;
 
-/// A search over the formula's variables costs by the circuits. From this many clauses on, some 10,000 gates in either circuit,
-/// that is more than a question of small cones takes by itself.
+/// A search over the formula's variables costs by the circuits. From this many clauses on, some 10,000 gates in either
+/// circuit, that is more than a question of small cones takes by itself.
 const LARGE: u64 = 60_000;
 
-/// Cones are small that have at most one of this many clauses. Where 8 adders of 64 bits stand side by side, sharing takes
-/// questions that structure answers 1.3 times as long as asking alone, and others 0.4 times; where 24 do, 2 and 0.6 times.
+/// Cones are small that have at most one of this many clauses. Where 8 adders of 64 bits stand side by side, sharing
+/// takes questions that structure answers 1.3 times as long as asking alone, and others 0.4 times; where 24 do, 2 and
+/// 0.6 times.
 const PART: u64 = 8;
 
-/// How many lines questions may get as lemmas in a run. Each is copied for its question, 250 bytes or so, which are free again once
-/// that is answered: all of them take some seconds. A sorter of 64 numbers gets 400,000, a code of 57 bits that is corrected
-/// millions.
+/// How many lines questions may get as lemmas in a run. Each is copied for its question, 250 bytes or so, which are
+/// free again once that is answered: all of them take some seconds. A sorter of 64 numbers gets 400,000, a code of 57
+/// bits that is corrected millions.
 const MOST_GIVEN: u64 = 1 << 23;
 
-/// What questions about two circuits have learned, for later ones under the same feeds: as those about the outputs of one
-/// matching. Contracts see it as the circuits, the query that was asked last, and the lines.
+/// What questions about two circuits have learned, for later ones under the same feeds: as those about the outputs of
+/// one matching. Contracts see it as the circuits, the query that was asked last, and the lines.
 #[derive(Drop)]
 pub struct SharedLemmas<'a> {
     graphs: &'a Graphs<'a>,
@@ -68,10 +70,10 @@ impl<'a> SharedLemmas<'a> {
         }
     }
 
-    /// Answers a query that fits the circuits, by what was learned under its feeds too, which are the first lemmas of its entry
-    /// in the ledger. Where the lines that are kept were paid for in this ledger, so were these lemmas, but for those of joint
-    /// hashing, and what is kept afterwards. The log of a refutation has what its last line rests on, and no more, unless the query is asked by itself:
-    /// where its cones are small, or many lines were given.
+    /// Answers a query that fits the circuits, by what was learned under its feeds too, which are the first lemmas of
+    /// its entry in the ledger. Where the lines that are kept were paid for in this ledger, so were these lemmas, but
+    /// for those of joint hashing, and what is kept afterwards. The log of a refutation has what its last line rests
+    /// on, and no more, unless the query is asked by itself: where its cones are small, or many lines were given.
     ///
     /// # Errors
     ///
@@ -125,9 +127,14 @@ fn ask_sharing<W: Watch>(
     turn_to(alloc, graphs, query, stock)?;
     let cones = ConeClauses::new(alloc, graphs, query)?;
     if are_small(&cones) | (stock.given > MOST_GIVEN) {
-        return ask_alone(alloc, graphs, query, ledger, watch);
+        return ask_watched(alloc, graphs, query, ledger, watch);
     }
-    ask_cones(alloc, graphs, query, &cones, stock, ledger, watch)
+    let question = Question {
+        graphs,
+        query,
+        cones: &cones,
+    };
+    ask_cones(alloc, &question, stock, ledger, watch)
 }
 
 // Whether the clauses of cones are few beside those of large circuits.
@@ -136,113 +143,63 @@ fn are_small(cones: &ConeClauses<'_>) -> bool {
     (count >= LARGE) & (cones.ids().len() as u64 <= count / PART)
 }
 
-// Answers a query by itself.
-fn ask_alone<W: Watch>(
-    alloc: Global,
-    graphs: &Graphs<'_>,
-    query: &Query,
-    ledger: &mut Ledger,
-    watch: &W,
-) -> Result<Answer, Stop>
-    requires fits { IsQuery graphs.now query.now }
-    requires not_spent { ledger.old.spent ≡ false }
-    ensures { Asks IsAskedIn graphs.now query.now ledger.old ledger.new result }
-{
-    ask_watched(alloc, graphs, query, ledger, watch)
-}
-
-// The same, of a stock that holds under the query's feeds.
+// Answers a query by a stock that holds under its feeds, and adds to it.
 fn ask_cones<W: Watch>(
     alloc: Global,
-    graphs: &Graphs<'_>,
-    query: &Query,
-    cones: &ConeClauses<'_>,
+    question: &Question<'_>,
     stock: &mut Stock,
     ledger: &mut Ledger,
     watch: &W,
 ) -> Result<Answer, Stop>
-    requires fits { IsQuery graphs.now query.now }
-    requires of_graphs { cones.now.graphs ≡ graphs.now }
-    requires of_query { cones.now.query ≡ query.now }
-    requires hold { HoldUnder graphs.now query.now stock.old.lines.items }
+    requires question { IsQuestion question.now }
+    requires hold { HoldUnder question.now.graphs.now question.now.query.now stock.old.lines.items }
     requires not_spent { ledger.old.spent ≡ false }
     ensures held { stock.new.held ≡ stock.old.held }
-    ensures hold { HoldUnder graphs.now query.now stock.new.lines.items }
-    ensures asks { Asks (IsAskedBy (λ asked. All (IsPaid graphs.now query.now asked) stock.old.lines.items))
-        graphs.now query.now ledger.old ledger.new result }
-    ensures paid { All (IsPaid graphs.now query.now ledger.old.asked) stock.old.lines.items
-        → OnOk result (All (IsPaid graphs.now query.now ledger.new.asked) stock.new.lines.items) }
+    ensures hold { HoldUnder question.now.graphs.now question.now.query.now stock.new.lines.items }
+    ensures asks { Asks (IsAskedBy (λ asked.
+        All (IsPaid question.now.graphs.now question.now.query.now asked) stock.old.lines.items))
+        question.now.graphs.now question.now.query.now ledger.old ledger.new result }
+    ensures paid { All (IsPaid question.now.graphs.now question.now.query.now ledger.old.asked) stock.old.lines.items
+        → OnOk result
+        (All (IsPaid question.now.graphs.now question.now.query.now ledger.new.asked) stock.new.lines.items) }
 {
-    let base = QueryBase::new(alloc, graphs, query)?;
-    let lemmas = lemmas_for(alloc, cones, &base, stock)?;
-    stock.given = stock.given.saturating_add(lemmas.lines.len() as u64);
-    ask_by(
-        alloc, graphs, query, cones, &base, &lemmas, stock, ledger, watch,
-    )
+    let base = QueryBase::new(alloc, question.graphs, question.query)?;
+    let lemmas = lemmas_for(alloc, question.cones, &base, stock)?;
+    let given = lemmas.lines.len() as u64;
+    stock.given = stock.given.saturating_add(given);
+    let mut guide = QuestionPairs {
+        base: &base,
+        ids: question.cones.ids(),
+        reporter: Reporter::new(ledger, given, watch),
+    };
+    ask_by(alloc, question, &lemmas, &mut guide, stock, ledger)
 }
 
-// The same, by these lemmas.
-fn ask_by<W: Watch>(
+// The same, by these lemmas. A guide says what is looked at first.
+fn ask_by<G: QuestionGuide>(
     alloc: Global,
-    graphs: &Graphs<'_>,
-    query: &Query,
-    cones: &ConeClauses<'_>,
-    base: &QueryBase<'_>,
+    question: &Question<'_>,
     lemmas: &Lemmas,
+    guide: &mut G,
     stock: &mut Stock,
     ledger: &mut Ledger,
-    watch: &W,
 ) -> Result<Answer, Stop>
-    requires fits { IsQuery graphs.now query.now }
-    requires of_graphs { cones.now.graphs ≡ graphs.now }
-    requires of_query { cones.now.query ≡ query.now }
-    requires lemmas { MayGoOn (formula_of graphs.now query.now) lemmas.now.lines.items }
-    requires hold { HoldUnder graphs.now query.now stock.old.lines.items }
+    requires question { IsQuestion question.now }
+    requires lemmas { MayGoOn (formula_of question.now.graphs.now question.now.query.now) lemmas.now.lines.items }
+    requires hold { HoldUnder question.now.graphs.now question.now.query.now stock.old.lines.items }
     requires not_spent { ledger.old.spent ≡ false }
     ensures held { stock.new.held ≡ stock.old.held }
-    ensures hold { HoldUnder graphs.now query.now stock.new.lines.items }
-    ensures asks { Asks (IsAskedWith lemmas.now.lines.items) graphs.now query.now ledger.old ledger.new result }
-    ensures paid { All (IsPaid graphs.now query.now ledger.old.asked) lemmas.now.lines.items
-        → All (IsPaid graphs.now query.now ledger.old.asked) stock.old.lines.items
-        → OnOk result (All (IsPaid graphs.now query.now ledger.new.asked) stock.new.lines.items) }
+    ensures hold { HoldUnder question.now.graphs.now question.now.query.now stock.new.lines.items }
+    ensures asks { Asks (IsAskedWith lemmas.now.lines.items) question.now.graphs.now question.now.query.now
+        ledger.old ledger.new result }
+    ensures paid { All (IsPaid question.now.graphs.now question.now.query.now ledger.old.asked) lemmas.now.lines.items
+        → All (IsPaid question.now.graphs.now question.now.query.now ledger.old.asked) stock.old.lines.items
+        → OnOk result
+        (All (IsPaid question.now.graphs.now question.now.query.now ledger.new.asked) stock.new.lines.items) }
 {
-    let reporter = Reporter {
-        watch,
-        budget: ledger.budget(),
-        learned: ledger.learned(),
-        lemmas: lemmas.lines.len() as u64,
-        next: 0,
-    };
-    let guide = QuestionPairs {
-        base,
-        ids: cones.ids(),
-        reporter,
-    };
     let lines = &lemmas.lines;
-    let answer = ask_pairs(alloc, graphs, query, cones, lines, guide, ledger)?;
-    Ok(finish(alloc, cones, answer, &lemmas.numbers, stock)?)
-}
-
-// Answers a query by lemmas, and looks at pairs of gates.
-fn ask_pairs<W: Watch>(
-    alloc: Global,
-    graphs: &Graphs<'_>,
-    query: &Query,
-    cones: &ConeClauses<'_>,
-    lemmas: &[LogLine],
-    guide: QuestionPairs<'_, W>,
-    ledger: &mut Ledger,
-) -> Result<Answer, Stop>
-    requires fits { IsQuery graphs.now query.now }
-    requires of_graphs { cones.now.graphs ≡ graphs.now }
-    requires of_query { cones.now.query ≡ query.now }
-    requires lemmas { MayGoOn (formula_of graphs.now query.now) lemmas.now }
-    requires not_spent { ledger.old.spent ≡ false }
-    ensures asks { Asks (IsAskedWith lemmas.now) graphs.now query.now ledger.old ledger.new result }
-    ensures paid_for { IfOk result (IsPaidFor ledger.new) }
-{
-    let mut guide = guide;
-    ask_guided(alloc, graphs, query, cones, lemmas, &mut guide, ledger)
+    let answer = ask_guided(alloc, question, lines, guide, ledger)?;
+    Ok(finish(alloc, question.cones, answer, &lemmas.numbers, stock)?)
 }
 
 // What is answered: of a refutation what its last line rests on. Lines of it that hold for other outputs too are kept.

@@ -7,8 +7,8 @@ use indexmap::IndexMap;
 use query_core::Query;
 use std::alloc::{AllocError, Global};
 
-/// The places of lines of two literals. They are found by these: the lemmas by which two gates are one come anew with each
-/// question.
+/// The places of lines of two literals. They are found by these: the lemmas by which two gates are one come anew with
+/// each question.
 #[derive(Drop)]
 pub(crate) struct Twins {
     places: IndexMap<(SatLit, SatLit), usize>,
@@ -46,8 +46,8 @@ impl Twins {
     }
 }
 
-/// Lines that hold under the feeds of a query, whatever is asked of the outputs. It has lists and maps alone, and no enum:
-/// whoever owns a stock drops each of these in one step.
+/// Lines that hold under the feeds of a query, whatever is asked of the outputs. It has lists and maps alone, and no
+/// enum: whoever owns a stock drops each of these in one step.
 #[derive(Drop)]
 pub(crate) struct Stock {
     /// The query that was asked last, if one was: under its feeds the lines hold.

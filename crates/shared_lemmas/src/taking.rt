@@ -5,11 +5,11 @@ ghost use Rattle.shared_lemmas.specs.Parts.{ArePlaced, AreWritten, GoesOn, IsThe
 
 use crate::common::Common;
 use crate::numbering::renumbered;
-use cnf_core::{LogLine, SatLit};
+use cnf_core::LogLine;
 use std::alloc::{AllocError, Global};
 
-/// Writes those lines of a log that are marked at the end of another log, each where all its hints stand there, and lists the
-/// numbers that they have there. A line that is listed already, and an empty one, is passed over.
+/// Writes those lines of a log that are marked at the end of another log, each where all its hints stand there, and
+/// lists the numbers that they have there. A line that is listed already, and an empty one, is passed over.
 ///
 /// # Errors
 ///
@@ -32,18 +32,20 @@ pub fn take_marked(
     ensures written { OnOk result (AreWritten common.count source.now target.old.items target.new.items) }
 {
     for place in 0..source.len() {
-        take(alloc, common, source, place, marked[place], numbers, target)?;
+        if !marked[place] {
+            continue;
+        }
+        take(alloc, common, source, place, numbers, target)?;
     }
     Ok(())
 }
 
-// Writes one line of a log at the end of another one, where it is wanted and all its hints stand there.
+// Writes one line of a log at the end of another one, where all its hints stand there.
 fn take(
     alloc: Global,
     common: Common,
     source: &[LogLine],
     place: usize,
-    wanted: bool,
     numbers: &mut Vec<Option<u64>>,
     target: &mut Vec<LogLine>,
 ) -> Result<(), AllocError>
@@ -57,7 +59,7 @@ fn take(
     ensures written { OnOk result (AreWritten common.count source.now target.old.items target.new.items) }
 {
     let line = &source[place];
-    if !wanted | numbers[place].is_some() {
+    if numbers[place].is_some() {
         return Ok(());
     }
     if line.clause.is_empty() {
@@ -101,12 +103,5 @@ fn is_copy(count: u64, source: &[LogLine], target: &[LogLine], place: usize, num
     if (place >= source.len()) | (own >= target.len() as u64) {
         return false;
     }
-    same_clause(&source[place].clause, &target[own as usize].clause)
-}
-
-// Whether two clauses have the same literals in the same order.
-fn same_clause(one: &[SatLit], other: &[SatLit]) -> bool
-    ensures { IsTrue result → one.now ≡ other.now }
-{
-    one == other
+    source[place].clause == target[own as usize].clause
 }

@@ -1,13 +1,9 @@
 -- One clause more.
-use Rattle.std.proofs.Common.{◌≤◌, List, [], length, sym, subst}
+use Rattle.std.proofs.Common.{◌≤◌, List, length, sym, subst}
 use Rattle.cnf_core.specs.declared.literal.SatLit.{SatLit}
-use Rattle.cnf_core.specs.declared.clause.Clause3.{Clause3}
 use Rattle.ask_core.specs.Renamings.{IsNamed}
-use Rattle.ask_core.proofs.BaseLemmas.{turned_more}
+use Rattle.ask_core.proofs.BaseLemmas.{none, turned_more}
 use Rattle.ask_core.proofs.clauses.all_turned.Goals as goal
-
-abbrev none : Clause3
-none = record { lits = []; len = 0 }
 
 pub turned-requires-clause-some : goal.turned-requires-clause-some
 turned-requires-clause-some c =

@@ -1,12 +1,8 @@
 -- One clause more.
-use Rattle.std.proofs.Common.{ℕ, [], length, subst}
-use Rattle.cnf_core.specs.declared.clause.Clause3.{Clause3}
+use Rattle.std.proofs.Common.{ℕ, length, subst}
 use Rattle.ask_core.specs.Renamings.{AreMarks}
-use Rattle.ask_core.proofs.BaseLemmas.{clauses_listing_more}
+use Rattle.ask_core.proofs.BaseLemmas.{clauses_listing_more, none}
 use Rattle.ask_core.proofs.names.list_clauses.Goals as goal
-
-abbrev none : Clause3
-none = record { lits = []; len = 0 }
 
 pub loop-clause-preserved : goal.loop-clause-preserved
 loop-clause-preserved c =

@@ -14,21 +14,21 @@ use Rattle.ask_core.proofs.question.ask_cones.Goals as goal
 
 pub returns-in_err-values-clause-asks : goal.returns-in_err-values-clause-asks
 returns-in_err-values-clause-asks g c =
-    asks_err _ _ _ _ _ c.in_err-values.field-0.0 (bounded_in _ _ _ _) c.from_residual-in_err-values.ensures.1 (cones_stopped c.args.graphs.now c.args.query.now c.args.lemmas.now c.args.cones.now c.args.ledger.now c.open.new.self c.solve_dense.new.ledger c.requires.of_graphs c.requires.of_query c.ids-ids.ensures.are c.requires.lemmas c.in_err-values.field-0.0 c.in_ok-open.ensures.some c.in_ok-open.ensures.opened c.in_err-values.ensures.stop)
+    asks_err _ _ _ _ _ c.in_err-values.field-0.0 (bounded_in _ _ _ _) c.from_residual-in_err-values.ensures.1 (cones_stopped c.args.question.now.graphs.now c.args.question.now.query.now c.args.lemmas.now c.args.question.now.cones.now c.args.ledger.now c.open.new.self c.solve_dense.new.ledger c.requires.question.of_graphs c.requires.question.of_query c.ids-ids.ensures.are c.requires.lemmas c.in_err-values.field-0.0 c.in_ok-open.ensures.some c.in_ok-open.ensures.opened c.in_err-values.ensures.stop)
 
 pub vector_of-requires-clause-meets : goal.vector_of-requires-clause-meets
 vector_of-requires-clause-meets g c =
-    let new = with_lines_of (start_of (formula_of c.args.cones.now.graphs c.args.cones.now.query) c.args.cones.now.ids c.args.lemmas.now) (charging_of c.solve_dense.new.ledger) in
+    let new = with_lines_of (start_of (formula_of c.args.question.now.cones.now.graphs c.args.question.now.cones.now.query) c.args.question.now.cones.now.ids c.args.lemmas.now) (charging_of c.solve_dense.new.ledger) in
     let model = subst (λ (v : DenseVerdict). IsDenseVerdict new v) c.in-Model.is c.in_ok-values.ensures.verdict in
-    cones_met c.args.graphs.now c.args.query.now c.args.lemmas.now c.args.cones.now c.args.ledger.now c.open.new.self c.solve_dense.new.ledger c.requires.of_graphs c.requires.of_query c.ids-ids.ensures.are c.requires.lemmas c.in-Model.values c.in_ok-values.ensures.lines model.meets
+    cones_met c.args.question.now.graphs.now c.args.question.now.query.now c.args.lemmas.now c.args.question.now.cones.now c.args.ledger.now c.open.new.self c.solve_dense.new.ledger c.requires.question.of_graphs c.requires.question.of_query c.ids-ids.ensures.are c.requires.lemmas c.in-Model.values c.in_ok-values.ensures.lines model.meets
 
 pub returns-in_ok-vector-in-Model-clause-asks : goal.returns-in_ok-vector-in-Model-clause-asks
 returns-in_ok-vector-in-Model-clause-asks g c =
-    asks_ok _ _ _ _ _ (bounded_in _ _ _ _) (search rules) (cones_asked c.args.graphs.now c.args.query.now c.args.lemmas.now c.args.cones.now c.args.ledger.now c.open.new.self c.solve_dense.new.ledger c.requires.of_graphs c.requires.of_query c.ids-ids.ensures.are c.requires.lemmas c.in_ok-open.ensures.some c.in_ok-open.ensures.opened c.in_ok-values.ensures.lines) (search rules)
+    asks_ok _ _ _ _ _ (bounded_in _ _ _ _) (search rules) (cones_asked c.args.question.now.graphs.now c.args.question.now.query.now c.args.lemmas.now c.args.question.now.cones.now c.args.ledger.now c.open.new.self c.solve_dense.new.ledger c.requires.question.of_graphs c.requires.question.of_query c.ids-ids.ensures.are c.requires.lemmas c.in_ok-open.ensures.some c.in_ok-open.ensures.opened c.in_ok-values.ensures.lines) (search rules)
 
 pub returns-in-Refuted-clause-asks : goal.returns-in-Refuted-clause-asks
 returns-in-Refuted-clause-asks g c =
-    asks_ok _ _ _ _ _ (bounded_in _ _ _ _) (search rules) (cones_asked c.args.graphs.now c.args.query.now c.args.lemmas.now c.args.cones.now c.args.ledger.now c.open.new.self c.solve_dense.new.ledger c.requires.of_graphs c.requires.of_query c.ids-ids.ensures.are c.requires.lemmas c.in_ok-open.ensures.some c.in_ok-open.ensures.opened c.in_ok-values.ensures.lines) (search rules)
+    asks_ok _ _ _ _ _ (bounded_in _ _ _ _) (search rules) (cones_asked c.args.question.now.graphs.now c.args.question.now.query.now c.args.lemmas.now c.args.question.now.cones.now c.args.ledger.now c.open.new.self c.solve_dense.new.ledger c.requires.question.of_graphs c.requires.question.of_query c.ids-ids.ensures.are c.requires.lemmas c.in_ok-open.ensures.some c.in_ok-open.ensures.opened c.in_ok-values.ensures.lines) (search rules)
 
 pub solve_dense-requires-clause-asking : goal.solve_dense-requires-clause-asking
 solve_dense-requires-clause-asking g c = record {
@@ -58,6 +58,6 @@ solve_dense-requires-clause-same g c =
 
 pub returns-in-Refuted-clause-joined : goal.returns-in-Refuted-clause-joined
 returns-in-Refuted-clause-joined g c =
-    let new = with_lines_of (start_of (formula_of c.args.cones.now.graphs c.args.cones.now.query) c.args.cones.now.ids c.args.lemmas.now) (charging_of c.solve_dense.new.ledger) in
+    let new = with_lines_of (start_of (formula_of c.args.question.now.cones.now.graphs c.args.question.now.cones.now.query) c.args.question.now.cones.now.ids c.args.lemmas.now) (charging_of c.solve_dense.new.ledger) in
     let refuted = subst (λ (v : DenseVerdict). IsDenseVerdict new v) c.in-Refuted.is c.in_ok-values.ensures.verdict in
-    cones_joined c.args.graphs.now c.args.query.now c.args.lemmas.now c.args.cones.now c.args.ledger.now c.open.new.self c.solve_dense.new.ledger c.requires.of_graphs c.requires.of_query c.ids-ids.ensures.are c.requires.lemmas c.in-Refuted.log.lines c.requires.joined c.in_ok-values.ensures.lines refuted.lines_are
+    cones_joined c.args.question.now.graphs.now c.args.question.now.query.now c.args.lemmas.now c.args.question.now.cones.now c.args.ledger.now c.open.new.self c.solve_dense.new.ledger c.requires.question.of_graphs c.requires.question.of_query c.ids-ids.ensures.are c.requires.lemmas c.in-Refuted.log.lines c.requires.joined c.in_ok-values.ensures.lines refuted.lines_are

@@ -17,8 +17,8 @@ returns-clause-paid g c known =
     on_ok_weaker c.ask_cones.result (λ paid. paid_one _ _ _ _ _ (ap (λ held. held.items) c.ask_cones.ensures.held ∙ c.in_ok-turn_to.ensures.own) paid) (c.ask_cones.ensures.paid (c.in_ok-turn_to.ensures.paid _ known))
 
 pub returns-then-are_small-stock-clause-asks : goal.returns-then-are_small-stock-clause-asks
-returns-then-are_small-stock-clause-asks g c = asks_weaker _ _ _ _ c.ask_alone.result (by_own _ _ _ _ _) c.ask_alone.ensures
+returns-then-are_small-stock-clause-asks g c = asks_weaker _ _ _ _ c.ask_watched.result (by_own _ _ _ _ _) c.ask_watched.ensures.asks
 
 pub returns-then-are_small-stock-clause-paid : goal.returns-then-are_small-stock-clause-paid
 returns-then-are_small-stock-clause-paid g c known =
-    on_ok_weaker c.ask_alone.result (λ paid. paid_one _ _ _ _ _ c.in_ok-turn_to.ensures.own paid) (paid_alone _ _ _ _ _ c.ask_alone.result c.ask_alone.ensures (c.in_ok-turn_to.ensures.paid _ known))
+    on_ok_weaker c.ask_watched.result (λ paid. paid_one _ _ _ _ _ c.in_ok-turn_to.ensures.own paid) (paid_alone _ _ _ _ _ c.ask_watched.result c.ask_watched.ensures.asks (c.in_ok-turn_to.ensures.paid _ known))
