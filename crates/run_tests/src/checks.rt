@@ -356,6 +356,7 @@ impl Shelf for TooLong {
       left = 67108865;
       unread = [];
       faults = 0;
+      latest = 0;
     } };
 
     fn open(&mut self, _name: &str) -> Result<Option<u64>, ShelfStop> {
