@@ -2,8 +2,8 @@ use Rattle.std.proofs.Common.{◌∷◌, ◌++◌, ◌∙◌, [], All, ap, lengt
 use Rattle.account_core.specs.Ports.{AreOrdered, IsKnown}
 use Rattle.ban_book.specs.Vectors.{HaveNoFacts}
 use Rattle.ban_book.proofs.VectorLemmas.{facts_decided}
-use Rattle.claim_rows.specs.Rows.{HasOneOutput}
-use Rattle.claim_rows.specs.Shown.{HaveNothing, IsShownBan, IsShownByRows}
+use Rattle.ban_book.specs.Rows.{HasOneOutput}
+use Rattle.ban_book.specs.Shown.{HaveNothing, IsShownBan, IsShownByRows}
 use Rattle.class_refine.specs.Rows.{decided}
 use Rattle.class_refine.proofs.InputLemmas.{known_with, one_with, ordered_with}
 use Rattle.class_refine.proofs.ResultLemmas.{none_so, some_so}
