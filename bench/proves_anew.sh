@@ -16,7 +16,7 @@ CHANGES = [  # what is changed, and where: the first of these crates that there 
     ("a new kind of AIGER fault", ["net_file", "net_core"]),
     ("a new step of an account", ["account_core"]),
     ("another choice of the next port", ["search_guide", "match_search"]),
-    ("a new command", ["command_words", "npnp"]),
+    ("a new command", ["check_steps", "npnp"]),
 ]
 words = argparse.ArgumentParser(prog="bench/proves_anew.sh")
 words.add_argument("--minutes", metavar="FILE")

@@ -13,13 +13,12 @@ PARTS = ("src", "specs", "proofs")
 # crates that were cut out of others, which stood at 371611f
 CUT_OUT = {
     "claim_core",  # of query_core
-    "command_words",  # of npnp
+    "check_steps",  # of npnp
     "net_file",  # of net_core
     "oracle_core",  # of account_core
     "output_info",  # of port_report and fact_tests
     "run_steps",  # of npnp
     "search_guide",  # of match_search
-    "shelf_files",  # of npnp
     "text_out",  # of text_core
 }
 

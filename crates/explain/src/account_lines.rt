@@ -1,7 +1,7 @@
 //! A line of an account by its number.
 
+use check_steps::ReadStop;
 use refusal_words::{Seek, Wanted};
-use run_steps::ReadStop;
 use std::alloc::Global;
 use text_core::line_length;
 

@@ -10,9 +10,9 @@ use crate::meanings::meaning_of_line;
 use crate::notice::FORMS;
 use crate::word_fault::fault_of_words;
 use account_check::Why;
+use check_steps::{Command, Outcome, ReadStop, Which, command_asked};
 use net_file::NetFault;
 use refusal_words::{Shown, put_refusal, seek_in};
-use run_steps::{Command, Outcome, ReadStop, Which, command_asked};
 use shelf_core::Shelf;
 use std::alloc::Global;
 

@@ -1,7 +1,7 @@
 //! Files that surely can't be written, said before the search.
 
+use check_steps::{Command, command_asked};
 use refusal_words::Shown;
-use run_steps::{Command, command_asked};
 use std::fmt;
 
 /// Why a file can't be written.

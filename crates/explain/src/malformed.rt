@@ -7,9 +7,9 @@ use crate::looks::Look;
 use crate::meanings::meaning_of_kind;
 use crate::places::{line_around, place_of};
 use crate::remedies::Remedy;
+use check_steps::{File, ReadStop, read_file};
 use net_file::{NetFault, NetKind};
 use refusal_words::Shown;
-use run_steps::{File, ReadStop, read_file};
 use shelf_core::Shelf;
 use std::alloc::Global;
 

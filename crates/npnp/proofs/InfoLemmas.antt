@@ -14,9 +14,9 @@ use Rattle.claim_core.specs.declared.info.OutputInfo.{OutputInfo}
 use Rattle.port_report.specs.Infos.{IsInRange, info_text}
 use Rattle.run_steps.specs.Info.{IsSpentOf}
 use Rattle.run_steps.specs.Steps.{InformsOf, IsNew}
-use Rattle.run_steps.specs.declared.outcome.Ending.{Ending}
-use Rattle.run_steps.specs.declared.outcome.Outcome.{Outcome}
-use Rattle.run_steps.specs.declared.outcome.Outcome.TheVariants.{Informed, Memory}
+use Rattle.check_steps.specs.declared.outcome.Ending.{Ending}
+use Rattle.check_steps.specs.declared.outcome.Outcome.{Outcome}
+use Rattle.check_steps.specs.declared.outcome.Outcome.TheVariants.{Informed, Memory}
 
 -- an empty ledger suits a book that knows nothing
 pub suits_new : (graphs : Graphs) (budget : ℕ) → Suits (record { graphs = graphs; facts = []; answered = [] }) (record { budget = budget; asked = []; spent = false })

@@ -3,8 +3,8 @@ use Rattle.std.proofs.Common.{◌≡◌, ℕ, inr, List, Result, Err, refl, sym,
 use Rattle.net_core.specs.Sides.{Graphs}
 use Rattle.npnp.specs.Solving.{Solves}
 use Rattle.npnp.specs.declared.matching.Solved.{Solved}
-use Rattle.run_steps.specs.declared.outcome.Outcome.{Outcome}
-use Rattle.run_steps.specs.declared.outcome.Outcome.TheVariants as outcome
+use Rattle.check_steps.specs.declared.outcome.Outcome.{Outcome}
+use Rattle.check_steps.specs.declared.outcome.Outcome.TheVariants as outcome
 use Rattle.account_core.specs.Given.{decided_by}
 use Rattle.account_core.specs.Facts.{AreFacts}
 use Rattle.oracle_core.specs.Oracles.{Known}

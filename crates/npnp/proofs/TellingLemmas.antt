@@ -1,10 +1,11 @@
 -- What a run tells is what was answered.
 use Rattle.std.proofs.Common.{◌≡◌, inl, inr, ℕ, List, Option, sym, subst, ◌∙◌}
-use Rattle.run_steps.specs.Outcomes.{IsSound, IsTold}
+use Rattle.check_steps.specs.Checks.{IsSound}
+use Rattle.run_steps.specs.Outcomes.{IsTold}
 use Rattle.run_steps.specs.Steps.{TellsLine}
-use Rattle.run_steps.specs.declared.outcome.Ending.{Ending}
-use Rattle.run_steps.specs.declared.outcome.Outcome.{Outcome}
-use Rattle.run_steps.specs.declared.outcome.Outcome.TheVariants.{Memory}
+use Rattle.check_steps.specs.declared.outcome.Ending.{Ending}
+use Rattle.check_steps.specs.declared.outcome.Outcome.{Outcome}
+use Rattle.check_steps.specs.declared.outcome.Outcome.TheVariants.{Memory}
 
 -- an outcome that is told whole is the one that was answered
 pub answered_as : {told answered outcome : Outcome} → (IsTold told → told ≡ answered) → IsTold outcome → told ≡ outcome → answered ≡ outcome

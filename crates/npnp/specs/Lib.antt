@@ -1,12 +1,15 @@
 pub mod Solving
-pub use Rattle.run_steps.specs.Check
+pub use Rattle.check_steps.specs.Check
+pub use Rattle.check_steps.specs.Checks
+pub use Rattle.check_steps.specs.Ends
+pub use Rattle.check_steps.specs.Lines
 pub use Rattle.run_steps.specs.Make
 pub use Rattle.run_steps.specs.Match
 pub use Rattle.run_steps.specs.Outcomes
 pub use Rattle.run_steps.specs.Report
 pub use Rattle.run_steps.specs.Steps
 pub use Rattle.run_steps.specs.Trial
-pub use Rattle.run_steps.specs.Words
+pub use Rattle.check_steps.specs.Words
 pub use Rattle.account_check.specs.Verdicts
 pub use Rattle.query_core.specs.Ledgers
 pub use Rattle.match_search.specs.Founds

@@ -2,7 +2,7 @@
 use Rattle.std.specs.Prelude.{ℕ, Result, IfOk, IfErr}
 use Rattle.net_core.specs.Sides.{Graphs}
 use Rattle.account_write.specs.Records.{account_of, records_of}
-use Rattle.run_steps.specs.declared.outcome.Outcome.{Outcome}
+use Rattle.check_steps.specs.declared.outcome.Outcome.{Outcome}
 use Rattle.npnp.specs.declared.matching.Solved.{Solved}
 use Rattle.run_steps.specs.Steps.{IsAnswered, IsStopWithin}
 

@@ -9,6 +9,7 @@ ghost use Rattle.run_steps.specs.Info.{IsSpentOf, with_itself};
 ghost use Rattle.run_steps.specs.Steps.{Decides, InformsOf, IsNew};
 ghost use Rattle.run_steps.specs.Commands.{asked_info};
 
+use check_steps::{Ending, Info, Outcome, Which, read_netlist};
 use claim_core::OutputInfo;
 use cnf_core::Stop;
 use fact_tests::FactBook;
@@ -16,7 +17,6 @@ use net_core::Graphs;
 use net_file::Named;
 use port_report::put_info;
 use query_core::Ledger;
-use run_steps::{Ending, Info, Outcome, Which, read_netlist};
 use shelf_core::Shelf;
 use std::alloc::{AllocError, Global};
 use watch_core::Watch;

@@ -1,3 +1,3 @@
 //! How a run of the program ends.
 
-pub use run_steps::{Outcome, Which};
+pub use check_steps::{Outcome, Which};

@@ -5,8 +5,8 @@ ghost use Rattle.std.specs.Prelude.{◌≡◌, false};
 use crate::pieces::{Seek, Wanted};
 use account_core::{Ban, Conclusion, FactHead, Step};
 use account_file::{FileStop, Reader, Record};
+use check_steps::ReadStop;
 use claim_core::Claim;
-use run_steps::ReadStop;
 use std::alloc::Global;
 
 /// Takes an account's records, one after another.

@@ -3,7 +3,7 @@
 ghost use Rattle.std.specs.Prelude.{ℕ, ◌≡◌, List, OnOk};
 ghost use Rattle.shelf_core.specs.State.{Closed, Reading};
 
-use run_steps::{PIECE, ReadStop, zeros};
+use check_steps::{PIECE, ReadStop, zeros};
 use shelf_core::Shelf;
 use std::alloc::Global;
 

@@ -20,7 +20,7 @@ use Rattle.account_write.proofs.MatchLemmas.{match_accepted}
 use Rattle.account_write.proofs.RefusalLemmas.{none_ports_accepted, refusal_accepted}
 use Rattle.account_core.specs.Shown.{IsEmptyBan, IsShownMatch}
 use Rattle.run_steps.specs.Steps.{IsAnswered}
-use Rattle.run_steps.specs.declared.outcome.Outcome.TheVariants.{Matched, NoMatching}
+use Rattle.check_steps.specs.declared.outcome.Outcome.TheVariants.{Matched, NoMatching}
 
 pub answer_matched : (graphs : Graphs) (matching : Matching) (logs : List Log) (records : List Record) → IsShownMatch graphs matching logs → records ≡ match_records matching logs → All IsWritable records → IsAnswered graphs (account_of records) (Matched matching)
 answer_matched graphs matching logs records shown is writable =

@@ -1,5 +1,5 @@
 -- The words and the files determine what is answered.
-use Rattle.std.proofs.Common.{◌≡◌, ◌≢◌, ℕ, ◌≤◌, ◌↔◌, ◌⊎◌, inl, inr, Bool, IsTrue, List, length, Option, None, Some, Result, Ok, Err, IfOk, IfErr, refl, sym, ◌∙◌, ap, subst, arith}
+use Rattle.std.proofs.Common.{◌≡◌, ◌≢◌, ℕ, ◌↔◌, ◌⊎◌, inl, inr, Bool, IsTrue, List, length, Option, None, Some, Result, Ok, Err, refl, sym, ◌∙◌, ap, subst, arith}
 use Rattle.shelf_core.specs.Fault.{Rose}
 use Rattle.circuits.specs.Levels.{IsOrderOf}
 use Rattle.circuits.specs.Netlists.{Net}
@@ -12,31 +12,34 @@ use Rattle.account_check.specs.declared.verdict.Verdict.{Verdict}
 use Rattle.account_check.specs.declared.verdict.Verdict.TheVariants as verdict
 use Rattle.account_check.specs.declared.verdict.Why.{Why}
 use Rattle.account_check.proofs.VerdictLemmas.{one_rejection, one_proved, never_both}
-use Rattle.run_steps.specs.Circuits.{IsCircuit, IsCircuitFault}
+use Rattle.check_steps.specs.Circuits.{IsCircuit, IsCircuitFault}
 use Rattle.query_core.specs.Ledgers.{Ledgered}
-use Rattle.run_steps.specs.Words.{AsksCheck, AsksInfo, AsksMatch, AskNothing, NameThree, ReadFiles, Sought}
+use Rattle.check_steps.specs.Words.{AsksCheck, AsksInfo, AsksMatch, AskNothing, NameThree, ReadFiles, Sought}
 use Rattle.run_steps.specs.Match.{HasNoMatch, IsAskedToMatch, IsMatchFound, IsSought, IsSpentOnTwo}
 use Rattle.circuits.specs.Matches.{AreNpnpEqual}
-use Rattle.run_steps.specs.Check.{IsAsked, HasAccount, LacksAccount}
-use Rattle.run_steps.specs.Held.{Netlist, HoldsNetlist, HoldsGraph, HoldsFault, HoldsTooMuch}
-use Rattle.run_steps.specs.Outcomes.{EndsAt, EndsEarly, FollowsWords, IsAskedOf, IsSpentOn, IsOfOne, IsOfMatch, IsRight, IsDecided, IsTold, Leaves}
-use Rattle.net_file.specs.declared.named.Named.{Named}
-use Rattle.shelf_core.specs.State.{ShelfState, Closed}
+use Rattle.check_steps.specs.Check.{HasAccount, LacksAccount}
+use Rattle.check_steps.specs.Held.{Netlist, HoldsNetlist, HoldsGraph, HoldsFault, HoldsTooMuch}
+use Rattle.check_steps.specs.Ends.{EndsAt, EndsEarly}
+use Rattle.run_steps.specs.Outcomes.{FollowsWords, IsAskedOf, IsSpentOn, IsOfOne, IsOfMatch, IsRight, IsDecided, IsTold, Leaves}
+use Rattle.shelf_core.specs.State.{ShelfState}
 use Rattle.run_steps.specs.Report.{IsReport}
-use Rattle.run_steps.specs.Steps.{ReadAs, IsVerdict, IsEarly, IsOfReading, IsStopOf, IsUnwritten, ReadsNetlist, Decides}
-use Rattle.run_steps.specs.declared.words.Command.{Command}
-use Rattle.run_steps.specs.Stops.{outcome_of}
-use Rattle.run_steps.specs.declared.outcome.Ending.{Ending}
-use Rattle.run_steps.specs.declared.files.ReadStop.{ReadStop}
-use Rattle.run_steps.specs.declared.files.ReadStop.TheVariants as stop
-use Rattle.run_steps.proofs.CircuitLemmas.{one_circuit, circuit_or_fault, one_circuit_fault, few_ports, circuit_acyclic}
-use Rattle.run_steps.proofs.OutcomeLemmas.{EndsRun, of_reading, of_unwritten}
-use Rattle.run_steps.specs.declared.outcome.Which.{Which}
-use Rattle.run_steps.specs.declared.outcome.Which.TheVariants.{First, Second, Account}
-use Rattle.run_steps.specs.declared.outcome.Outcome.{Outcome}
-use Rattle.run_steps.specs.declared.outcome.Outcome.TheVariants.{AcceptedMatch, AcceptedRefusal, Rejected, Matched, NoMatching, Spent, Usage, Absent, TooLarge, Malformed, Informed, Made, Tried, ReadFault, WriteFault, Memory}
+use Rattle.check_steps.specs.Reading.{IsEarly, IsOfReading}
+use Rattle.run_steps.specs.Steps.{IsUnwritten, Decides}
+use Rattle.check_steps.specs.declared.words.Command.{Command}
+use Rattle.check_steps.specs.declared.outcome.Ending.{Ending}
+use Rattle.check_steps.proofs.CircuitLemmas.{one_circuit, circuit_or_fault, one_circuit_fault, circuit_acyclic}
+use Rattle.check_steps.proofs.EndLemmas.{EndsRun}
+use Rattle.run_steps.proofs.OutcomeLemmas.{of_unwritten}
+use Rattle.check_steps.specs.declared.outcome.Which.{Which}
+use Rattle.check_steps.specs.declared.outcome.Which.TheVariants.{First, Second, Account}
+use Rattle.check_steps.specs.declared.outcome.Outcome.{Outcome}
+use Rattle.check_steps.specs.declared.outcome.Outcome.TheVariants.{AcceptedMatch, AcceptedRefusal, Rejected, Matched, NoMatching, Spent, Usage, Absent, TooLarge, Malformed, Informed, Made, Tried, ReadFault, WriteFault, Memory}
 use Rattle.run_steps.proofs.FormLemmas.{names_one, file_named, sought_one, check_or_info, match_or_info, check_or_match, read_or_make, read_or_trial, reads_of}
-use Rattle.run_steps.specs.Commands.{Ask, IsReadingCommand}
+use Rattle.check_steps.specs.Asks.{Ask}
+use Rattle.check_steps.specs.Checks.{Checks, IsOfCheck}
+use Rattle.check_steps.specs.declared.words.Check.{Check as CheckWords}
+use Rattle.check_steps.proofs.CheckingLemmas.{at_first, at_second, at_only}
+use Rattle.run_steps.specs.Commands.{asked_check, IsReadingCommand}
 
 -- one name holds one netlist, or one thing that ends the check
 
@@ -369,34 +372,28 @@ says held words ReadFault reads decided right = absurd (decided.read refl)
 says held words WriteFault reads decided right = absurd (decided.told.written refl)
 says held words Memory reads decided right = absurd (decided.told.room refl)
 
--- what one file, or the verdict of all, makes right
+-- what one file, or a check, makes right
 
-right_early : (held : List ℕ → Option (List ℕ)) (words : List (List ℕ)) (file : Which) (content : Option (List ℕ)) (o : Outcome) → EndsAt file content o → EndsEarly held words o → IsRight held words o
-right_early held words file content (Absent which) ends early = inl early
-right_early held words file content (TooLarge which) ends early = early
-right_early held words file content (Malformed which kind at) ends early = early
-right_early held words file content ReadFault ends early = tt
-right_early held words file content Memory ends early = tt
-right_early held words file content other ends early = absurd ends
+-- what a check says is right
+right_of_check : (held : List ℕ → Option (List ℕ)) (words : List (List ℕ)) (o : Outcome) → IsOfCheck held words o → IsRight held words o
+right_of_check held words (AcceptedMatch matching) is = is
+right_of_check held words AcceptedRefusal is = is
+right_of_check held words (Rejected line why) is = is
+right_of_check held words (Absent which) is = is
+right_of_check held words (TooLarge which) is = is
+right_of_check held words (Malformed which kind at) is = is
+right_of_check held words ReadFault is = tt
+right_of_check held words Memory is = tt
+right_of_check held words other is = absurd is
 
 pub right_at_first : (held : List ℕ → Option (List ℕ)) (words : List (List ℕ)) (f g t : List ℕ) → NameThree words f g t → (o : Outcome) → EndsAt First (held f) o → IsRight held words o
-right_at_first held words f g t asks o ends =
-    right_early held words First (held f) o ends (inl (record { first_name = f; second_name = g; account_name = t; asks = asks; ends = ends }))
+right_at_first held words f g t asks o ends = right_of_check held words o (at_first held words f g t asks o ends)
 
 pub right_at_second : (held : List ℕ → Option (List ℕ)) (words : List (List ℕ)) (f g t : List ℕ) (first : Netlist) → NameThree words f g t → HoldsNetlist (held f) first → (o : Outcome) → EndsAt Second (held g) o → IsRight held words o
-right_at_second held words f g t first asks there o ends =
-    right_early held words Second (held g) o ends (inr (inl (record { first_name = f; second_name = g; account_name = t; asks = asks; first = first; first_held = there; ends = ends })))
+right_at_second held words f g t first asks there o ends = right_of_check held words o (at_second held words f g t first asks there o ends)
 
 pub right_at_only : (held : List ℕ → Option (List ℕ)) (words : List (List ℕ)) (file : List ℕ) (budget : ℕ) → AsksInfo words file budget → (o : Outcome) → EndsAt First (held file) o → IsRight held words o
-right_at_only held words file budget asks o ends =
-    right_early held words First (held file) o ends (inr (inr (record { file_name = file; budget = budget; asks = asks; ends = ends })))
-
-pub right_by_verdict : (held : List ℕ → Option (List ℕ)) (words : List (List ℕ)) (f g t : List ℕ) (graphs : Graphs) → AsksCheck words f g t → HoldsGraph (held f) graphs.first → HoldsGraph (held g) graphs.second → (o : Outcome) → IsVerdict graphs (held t) o → IsRight held words o
-right_by_verdict held words f g t graphs asks first second (AcceptedMatch matching) fact = record { graphs = graphs; account = fact.0; has = record { first_name = f; second_name = g; account_name = t; asks = asks; first_held = first; second_held = second; there = fact.1 }; accepted = fact.2 }
-right_by_verdict held words f g t graphs asks first second AcceptedRefusal fact = record { graphs = graphs; account = fact.0; has = record { first_name = f; second_name = g; account_name = t; asks = asks; first_held = first; second_held = second; there = fact.1 }; accepted = fact.2 }
-right_by_verdict held words f g t graphs asks first second (Rejected line why) fact = record { graphs = graphs; account = fact.0; has = record { first_name = f; second_name = g; account_name = t; asks = asks; first_held = first; second_held = second; there = fact.1 }; rejected = fact.2 }
-right_by_verdict held words f g t graphs asks first second (Absent which) fact = inr (fact.0, record { first = first.netlist; second = second.netlist; account_name = t; asked = record { first_name = f; second_name = g; asks = asks; first_held = first.holds; second_held = second.holds }; absent = fact.1 })
-right_by_verdict held words f g t graphs asks first second other fact = absurd fact
+right_at_only held words file budget asks o ends = right_of_check held words o (at_only held words file budget asks o ends)
 
 informed_of_match : IsOfMatch Informed → ⊥
 informed_of_match is = elim is [ inl (matching, e) ↦ cc | inr (inl e) ↦ cc | inr (inr (ledger, e)) ↦ cc ]
@@ -519,20 +516,6 @@ reached other is = record { read = λ e. cc; told = record { written = λ e. cc;
 pub told_read : IsTold ReadFault
 told_read = record { written = λ e. cc; room = λ e. cc }
 
--- what a refusal of a read ends the run with
-
-pub stop_right : (held : List ℕ → Option (List ℕ)) (words : List (List ℕ)) (s : ReadStop) → IsRight held words (outcome_of s)
-stop_right held words stop.ReadFault = tt
-stop_right held words stop.Memory = tt
-
-pub stop_reading : (s : ReadStop) → IsOfReading (outcome_of s)
-stop_reading stop.ReadFault = of_reading ReadFault tt
-stop_reading stop.Memory = of_reading Memory tt
-
-pub stop_is : (s : ReadStop) → outcome_of s ≡ ReadFault → s ≡ stop.ReadFault
-stop_is stop.ReadFault e = refl
-stop_is stop.Memory e = cc
-
 -- where no file changes, each outcome that is neither of a match nor a pair leaves what it says
 pub leaves : (before after : List ℕ → Option (List ℕ)) (words : List (List ℕ)) (o : Outcome) → ((matching : Matching) → o ≢ Matched matching) → o ≢ NoMatching → o ≢ Made → ((n : List ℕ) → after n ≡ before n) → Leaves before after words o
 leaves before after words (Matched matching) unmatched no_match no_pair same = absurd (unmatched matching refl)
@@ -564,55 +547,31 @@ stopped tells command old new result o reader same files right reading failed =
 pub report_of_same : (tells : Bool) (held : List ℕ → Option (List ℕ)) (words : List (List ℕ)) (told asked : Outcome) (text : List ℕ) → told ≡ asked → IsReport tells held words asked text → IsReport tells held words told text
 report_of_same tells held words told asked text same report = subst (λ o. IsReport tells held words o text) (sym same) report
 
--- the words ask for a check of two files that were read
-pub asks_both : (held : List ℕ → Option (List ℕ)) (content : Option (List ℕ)) (words : List (List ℕ)) (f g t : List ℕ) (first second : Netlist) → content ≡ held g → AsksCheck words f g t → HoldsNetlist (held f) first → HoldsNetlist content second → IsAsked held words first second t
-asks_both held content words f g t first second same asks holds other = record {
-  first_name = f;
-  second_name = g;
-  asks = asks;
-  first_held = holds;
-  second_held = subst (λ content. HoldsNetlist content second) same other;
-}
-
--- what the bytes of a file that is no netlist end the run with
-stop_ends : (file : Which) (content : Option (List ℕ)) (bytes : List ℕ) → content ≡ Some bytes → length bytes ≤ 67108864 → (o : Outcome) → IsStopOf file bytes o → EndsAt file content o
-stop_ends file content bytes there short (Malformed which kind at) fact = (fact.0, record { bytes = bytes; there = there; short = short; is = fact.1 })
-stop_ends file content bytes there short Memory fact = tt
-stop_ends file content bytes there short other fact = absurd fact
-
-stop_is_of_reading : (file : Which) (bytes : List ℕ) (o : Outcome) → IsStopOf file bytes o → IsOfReading o
-stop_is_of_reading file bytes (Malformed which kind at) fact = of_reading (Malformed which kind at) tt
-stop_is_of_reading file bytes Memory fact = of_reading Memory tt
-stop_is_of_reading file bytes other fact = absurd fact
-
--- a file of few bytes was read
-reads_same : (tells : Bool) (file : Which) (name : List ℕ) (old new : ShelfState) (bytes : List ℕ) (result : Result Named Outcome) → ((n : List ℕ) → new.held n ≡ old.held n) → new.mode ≡ Closed → old.faults ≤ new.faults → (IsTrue tells → (old.held name ≡ Some bytes) × (length bytes ≤ 67108864)) → IfOk result (λ named. ReadAs bytes named.graph named.input_names named.output_names) → IfErr result (IsStopOf file bytes) → ReadsNetlist tells file name old new result
-reads_same tells file name old new bytes (Ok named) files closed faults found is stop = record {
-  files = files;
-  closed = closed;
-  found = record {
-    circuit = is.circuit;
-    held = λ t. record { bytes = bytes; there = (found t).0; short = (found t).1; is = is.is };
-    acyclic = circuit_acyclic bytes is.circuit named.input_names named.output_names is.is;
-    few = (few_ports bytes is.circuit named.input_names named.output_names is.is).1;
-    computes = is.computes;
-    numbered = is.numbered;
-  };
-  ended = λ t. tt;
-  reading = tt;
-  faults = faults;
-  failed = λ e. cc;
-}
-reads_same tells file name old new bytes (Err o) files closed faults found is stop = record {
-  files = files;
-  closed = tt;
-  found = tt;
-  ended = λ t. stop_ends file (old.held name) bytes (found t).0 (found t).1 o stop;
-  reading = stop_is_of_reading file bytes o stop;
-  faults = faults;
-  failed = λ e. let same : o ≡ ReadFault = cc in absurd (subst (IsStopOf file bytes) same stop);
-}
-
-pub reads_bytes : (tells : Bool) (file : Which) (name : List ℕ) (old new : ShelfState) (bytes read : List ℕ) (result : Result Named Outcome) → read ≡ bytes → ((n : List ℕ) → new.held n ≡ old.held n) → new.mode ≡ Closed → old.faults ≤ new.faults → (IsTrue tells → (old.held name ≡ Some bytes) × (length bytes ≤ 67108864)) → IfOk result (λ named. ReadAs read named.graph named.input_names named.output_names) → IfErr result (IsStopOf file read) → ReadsNetlist tells file name old new result
-reads_bytes tells file name old new bytes read result same files closed faults found is stop =
-    reads_same tells file name old new read result files closed faults (λ t. subst (λ b. (old.held name ≡ Some b) × (length b ≤ 67108864)) (sym same) (found t)) is stop
+-- a check decides what its words ask for
+pub check_decides : (tells : Bool) (command : Command) (check : CheckWords) (old new : ShelfState) (result : Result Ending Outcome) → command ≡ asked_check check → Checks tells check old new result → Decides tells command old new result
+check_decides tells command check old new result is checks =
+    subst (λ command. Decides tells command old new result) (sym is) (decides result checks)
+  where
+    decides : (result : Result Ending Outcome) → Checks tells check old new result → Decides tells (asked_check check) old new result
+    decides (Ok ending) checks = record {
+      files = λ t n other. checks.files n;
+      left = λ t words asks. leaves old.held new.held words ending.outcome checks.judged.unmatched checks.judged.no_match checks.judged.no_pair checks.files;
+      right = λ t words asks. right_of_check old.held words ending.outcome (checks.right t words asks);
+      by_words = λ words asks. follows_files words ending.outcome (reads_of words (asked_check check) tt asks) checks.judged.no_pair checks.judged.no_trial;
+      sound = checks.sound;
+      report = λ words asks.
+          let report = checks.report words asks in
+          inr (inl (record {
+            first = report.first;
+            second = report.second;
+            no_rows = checks.judged.no_rows;
+            of_files = λ t. inl (report.of_files t);
+            same = report.same;
+          }));
+      ending = record { asked = checks.judged.asked; read = checks.judged.read; unwritten = checks.judged.unwritten };
+      early = tt;
+      failed = λ e. cc;
+      unwritten = λ e. cc;
+    }
+    decides (Err o) checks =
+        stopped tells (asked_check check) old new (Err o) o tt refl checks.files (λ t words asks. right_of_check old.held words o (checks.right t words asks)) checks.early (λ e. checks.failed (cc e))

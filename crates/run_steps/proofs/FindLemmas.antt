@@ -9,13 +9,14 @@ use Rattle.shelf_core.specs.State.{ShelfState}
 use Rattle.shelf_core.specs.declared.outside.ShelfStop.{ShelfStop}
 use Rattle.shelf_core.specs.declared.outside.ShelfStop.TheVariants.{Failed, Memory}
 use Rattle.account_check.specs.declared.verdict.Verdict.TheVariants as verdict
-use Rattle.run_steps.specs.Files.{HoldsFirst, WritesFile}
-use Rattle.run_steps.specs.Report.{HasMatching, report_on}
+use Rattle.run_steps.specs.Writing.{HoldsFirst, WritesFile}
+use Rattle.check_steps.specs.Lines.{HasMatching, report_on}
 use Rattle.run_steps.specs.Stops.{unwritten}
-use Rattle.run_steps.specs.Steps.{Concludes, Finds, IsAnswered, IsCutOf, IsMatchIfAny, IsStopOfMatch, IsStopWithin, IsUnwritten, graphs_of}
-use Rattle.run_steps.specs.declared.outcome.Ending.{Ending}
-use Rattle.run_steps.specs.declared.outcome.Outcome.{Outcome}
-use Rattle.run_steps.specs.declared.outcome.Outcome.TheVariants as outcome
+use Rattle.run_steps.specs.Steps.{Concludes, Finds, IsAnswered, IsCutOf, IsStopOfMatch, IsStopWithin, IsUnwritten}
+use Rattle.check_steps.specs.Judged.{IsMatchIfAny, graphs_of}
+use Rattle.check_steps.specs.declared.outcome.Ending.{Ending}
+use Rattle.check_steps.specs.declared.outcome.Outcome.{Outcome}
+use Rattle.check_steps.specs.declared.outcome.Outcome.TheVariants as outcome
 use Rattle.shelf_core.proofs.FaultLemmas.{rose_later}
 use Rattle.run_steps.proofs.OutcomeLemmas.{no_fault, of_answer}
 

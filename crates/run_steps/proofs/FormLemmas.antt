@@ -1,9 +1,10 @@
 -- Words have one form, and one reading in it.
 use Rattle.std.proofs.Common.{◌≡◌, ℕ, ◌⊎◌, inl, inr, List, [], length, get_or, refl, sym, ◌∙◌, ap, arith}
-use Rattle.run_steps.specs.Words.{AskForPair, AsksCheck, AsksInfo, AsksMatch, AsksTrial, AskNothing, ReadFiles, Sought, check_words}
-use Rattle.run_steps.specs.Commands.{Ask, IsReadingCommand, IsTrialCommand, sought_by, wanted_by}
-use Rattle.run_steps.specs.declared.words.Command.{Command}
-use Rattle.run_steps.specs.declared.words.Command.TheVariants.{Check, Match, Info, Make, Trial}
+use Rattle.check_steps.specs.Words.{AskForPair, AsksCheck, AsksInfo, AsksMatch, AsksTrial, AskNothing, ReadFiles, Sought, check_words}
+use Rattle.check_steps.specs.Asks.{Ask, sought_by, wanted_by}
+use Rattle.run_steps.specs.Commands.{IsReadingCommand, IsTrialCommand}
+use Rattle.check_steps.specs.declared.words.Command.{Command}
+use Rattle.check_steps.specs.declared.words.Command.TheVariants.{Check, Match, Info, Make, Trial}
 
 pub names_one : (words : List (List ℕ)) (f g t f' g' t' : List ℕ) → AsksCheck words f g t → AsksCheck words f' g' t' → (f' ≡ f) × (g' ≡ g) × (t' ≡ t)
 names_one words f g t f' g' t' one other = let e = one.form in let e' = other.form in (cc, cc, cc)

@@ -3,18 +3,20 @@ use Rattle.std.proofs.Common.{◌≡◌, ℕ, inl, inr, Bool, List, Option, Resu
 use Rattle.circuits.specs.Netlists.{Net}
 use Rattle.net_file.specs.declared.named.Named.{Named}
 use Rattle.shelf_core.specs.State.{ShelfState}
-use Rattle.run_steps.specs.Held.{HoldsGraph}
-use Rattle.run_steps.specs.Outcomes.{FollowsWords, IsRight, IsSound, Leaves}
+use Rattle.check_steps.specs.Held.{HoldsGraph}
+use Rattle.run_steps.specs.Outcomes.{FollowsWords, IsRight, Leaves}
+use Rattle.check_steps.specs.Checks.{IsSound}
 use Rattle.run_steps.proofs.CheckLemmas.{follows_files, stopped}
 use Rattle.run_steps.proofs.OutcomeLemmas.{no_fault, of_stop, stop_line}
 use Rattle.run_steps.specs.Info.{with_itself}
-use Rattle.run_steps.specs.Steps.{Decides, InformsOf, IsEnding, IsReadFrom, IsStopWithin, netlist_of}
+use Rattle.run_steps.specs.Steps.{Decides, InformsOf, IsEnding, IsStopWithin}
+use Rattle.check_steps.specs.Reading.{IsReadFrom, netlist_of}
 use Rattle.run_steps.specs.Commands.{asked_info}
-use Rattle.run_steps.specs.Words.{AsksInfo}
-use Rattle.run_steps.specs.declared.words.Info.{Info as InfoWords}
-use Rattle.run_steps.specs.declared.outcome.Ending.{Ending}
-use Rattle.run_steps.specs.declared.outcome.Outcome.{Outcome}
-use Rattle.run_steps.specs.declared.outcome.Outcome.TheVariants.{Informed}
+use Rattle.check_steps.specs.Words.{AsksInfo}
+use Rattle.check_steps.specs.declared.words.Info.{Info as InfoWords}
+use Rattle.check_steps.specs.declared.outcome.Ending.{Ending}
+use Rattle.check_steps.specs.declared.outcome.Outcome.{Outcome}
+use Rattle.check_steps.specs.declared.outcome.Outcome.TheVariants.{Informed}
 
 -- what ends such a run is right
 

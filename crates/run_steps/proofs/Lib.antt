@@ -1,16 +1,11 @@
 pub mod AnswerLemmas
 pub mod CheckLemmas
-pub mod CircuitLemmas
 pub mod FindLemmas
+pub mod FormLemmas
 pub mod InfoLemmas
-pub mod JudgingLemmas
 pub mod MakingLemmas
 pub mod MatchLemmas
 pub mod OutcomeLemmas
 pub mod PairLemmas
-pub mod Soundness
 pub mod TryingLemmas
-pub mod FormLemmas
-pub mod WordLemmas
-pub mod Reading
 pub mod WritingLemmas

@@ -6,23 +6,26 @@ use Rattle.shelf_core.specs.declared.outside.ShelfStop.{ShelfStop}
 use Rattle.gen_pair.specs.declared.pair.GenPair.{GenPair}
 use Rattle.net_print.specs.BlifLines.{blif_text}
 use Rattle.net_print.specs.Files.{aig_text}
-use Rattle.run_steps.specs.Files.{WritesFile}
+use Rattle.run_steps.specs.Writing.{WritesFile}
 use Rattle.run_steps.specs.Make.{HoldsPair, HoldsPartOfPair, IsDrawn}
-use Rattle.run_steps.specs.Outcomes.{FollowsWords, IsRight, IsSound, Leaves, MayBeCut}
-use Rattle.run_steps.specs.Report.{IsOneLine, line_of}
+use Rattle.run_steps.specs.Outcomes.{FollowsWords, IsRight, Leaves, MayBeCut}
+use Rattle.check_steps.specs.Checks.{IsSound}
+use Rattle.check_steps.specs.Lines.{IsOneLine, line_of}
 use Rattle.run_steps.specs.Steps.{Decides, IsEnding, IsUnwritten, WritesPair, WritesText}
-use Rattle.run_steps.specs.Commands.{asked_make, wanted_by}
+use Rattle.run_steps.specs.Commands.{asked_make}
+use Rattle.check_steps.specs.Asks.{wanted_by}
 use Rattle.run_steps.specs.Stops.{unwritten}
-use Rattle.run_steps.specs.Words.{AsksMake}
-use Rattle.run_steps.specs.declared.words.Make.{Make as MakeWords}
-use Rattle.run_steps.specs.declared.outcome.Ending.{Ending}
-use Rattle.run_steps.specs.declared.outcome.Outcome.{Outcome}
-use Rattle.run_steps.specs.declared.outcome.Outcome.TheVariants.{Made, ReadFault, WriteFault, Memory}
+use Rattle.check_steps.specs.Words.{AsksMake}
+use Rattle.check_steps.specs.declared.words.Make.{Make as MakeWords}
+use Rattle.check_steps.specs.declared.outcome.Ending.{Ending}
+use Rattle.check_steps.specs.declared.outcome.Outcome.{Outcome}
+use Rattle.check_steps.specs.declared.outcome.Outcome.TheVariants.{Made, ReadFault, WriteFault, Memory}
 use Rattle.run_steps.proofs.FormLemmas.{make_or_trial}
 use Rattle.shelf_core.proofs.FaultLemmas.{rose_later}
 use Rattle.run_steps.proofs.CheckLemmas.{follows_memory, follows_unwritten}
 use Rattle.run_steps.proofs.FindLemmas.{err_same, failed_is, is_unwritten}
-use Rattle.run_steps.proofs.OutcomeLemmas.{early, early_unwritten, of_unwritten}
+use Rattle.check_steps.proofs.EndLemmas.{early}
+use Rattle.run_steps.proofs.OutcomeLemmas.{early_unwritten, of_unwritten}
 use Rattle.run_steps.proofs.PairLemmas.{first_read, second_read}
 
 -- a text was written

@@ -11,19 +11,23 @@ use Rattle.shelf_core.specs.State.{ShelfState}
 use Rattle.account_check.specs.Verdicts.{IsAccepted as Proves}
 use Rattle.account_check.specs.declared.verdict.Verdict.{Verdict}
 use Rattle.account_check.specs.declared.verdict.Verdict.TheVariants as verdict
-use Rattle.run_steps.specs.Held.{HoldsGraph}
+use Rattle.check_steps.specs.Held.{HoldsGraph}
 use Rattle.run_steps.specs.Match.{HoldsPart, IsProved, IsSought, NamesAccount}
 use Rattle.run_steps.specs.Make.{HoldsPair, HoldsPartOfPair, NamesPair, WriteFiles}
-use Rattle.run_steps.specs.Outcomes.{FollowsWords, IsRight, IsSound, Leaves, LeavesFiles, MayBeCut}
-use Rattle.run_steps.specs.Commands.{Ask, IsWritingCommand, IsNotWritten, asked_match, sought_by, wanted_by}
-use Rattle.run_steps.specs.Steps.{Decides, Finds, IsAnswered, IsCutOf, IsEarly, IsEnding, IsReadFrom, IsStopOfMatch, IsStopWithin, graphs_of, netlist_of}
-use Rattle.run_steps.specs.Words.{AsksMatch, ReadFiles, check_words}
-use Rattle.run_steps.specs.declared.words.Match.{Match as MatchWords}
-use Rattle.run_steps.specs.declared.words.Command.{Command}
-use Rattle.run_steps.specs.declared.words.Command.TheVariants.{Match, Make}
-use Rattle.run_steps.specs.declared.outcome.Ending.{Ending}
-use Rattle.run_steps.specs.declared.outcome.Outcome.{Outcome}
-use Rattle.run_steps.specs.declared.outcome.Outcome.TheVariants.{Matched, NoMatching, Informed, Made, ReadFault, WriteFault, Memory}
+use Rattle.run_steps.specs.Outcomes.{FollowsWords, IsRight, Leaves, LeavesFiles, MayBeCut}
+use Rattle.check_steps.specs.Checks.{IsSound}
+use Rattle.check_steps.specs.Asks.{Ask, sought_by, wanted_by}
+use Rattle.run_steps.specs.Commands.{IsWritingCommand, IsNotWritten, asked_match}
+use Rattle.run_steps.specs.Steps.{Decides, Finds, IsAnswered, IsCutOf, IsEnding, IsStopOfMatch, IsStopWithin}
+use Rattle.check_steps.specs.Reading.{IsEarly, IsReadFrom, netlist_of}
+use Rattle.check_steps.specs.Judged.{graphs_of}
+use Rattle.check_steps.specs.Words.{AsksMatch, ReadFiles, check_words}
+use Rattle.check_steps.specs.declared.words.Match.{Match as MatchWords}
+use Rattle.check_steps.specs.declared.words.Command.{Command}
+use Rattle.check_steps.specs.declared.words.Command.TheVariants.{Match, Make}
+use Rattle.check_steps.specs.declared.outcome.Ending.{Ending}
+use Rattle.check_steps.specs.declared.outcome.Outcome.{Outcome}
+use Rattle.check_steps.specs.declared.outcome.Outcome.TheVariants.{Matched, NoMatching, Informed, Made, ReadFault, WriteFault, Memory}
 use Rattle.run_steps.proofs.CheckLemmas.{follows_files, follows_unwritten, leaves_early}
 use Rattle.run_steps.proofs.OutcomeLemmas.{early_unwritten, no_fault, of_answer, of_stop, of_unwritten, stop_line}
 use Rattle.run_steps.proofs.FormLemmas.{names_one, reads_of, check_of}

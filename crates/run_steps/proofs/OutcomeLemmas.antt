@@ -7,9 +7,11 @@ use Rattle.query_core.specs.Ledgers.{Ledgered}
 use Rattle.account_check.specs.Verdicts.{IsAccepted as Proves}
 use Rattle.account_check.specs.declared.verdict.Verdict.TheVariants as verdict
 use Rattle.run_steps.specs.Info.{IsSpentOf}
-use Rattle.run_steps.specs.Steps.{IsAnswered, IsEarly, IsOfReading, IsStopWithin, IsUnwritten}
-use Rattle.run_steps.specs.declared.outcome.Outcome.{Outcome}
-use Rattle.run_steps.specs.declared.outcome.Outcome.TheVariants.{Matched, NoMatching, Spent, Absent, TooLarge, Malformed, ReadFault, WriteFault, Memory}
+use Rattle.run_steps.specs.Steps.{IsAnswered, IsStopWithin, IsUnwritten}
+use Rattle.check_steps.specs.Reading.{IsEarly, IsOfReading}
+use Rattle.check_steps.specs.declared.outcome.Outcome.{Outcome}
+use Rattle.check_steps.specs.declared.outcome.Outcome.TheVariants.{Matched, NoMatching, Spent, ReadFault, WriteFault, Memory}
+use Rattle.check_steps.proofs.EndLemmas.{EndsReading, early, of_reading}
 
 -- the variants of a write that was refused, of a search without an answer, and of an answer
 
@@ -31,39 +33,6 @@ of_answer P graphs account o answer matched none =
     ]
 
 -- what ends a run early, and what does so before a write
-
-abbrev pub EndsReading : Outcome → Type 0
-EndsReading (Spent ledger) = Unit {0}
-EndsReading (Absent which) = Unit {0}
-EndsReading (TooLarge which) = Unit {0}
-EndsReading (Malformed which kind at) = Unit {0}
-EndsReading ReadFault = Unit {0}
-EndsReading Memory = Unit {0}
-EndsReading other = ⊥
-
-abbrev pub EndsRun : Outcome → Type 0
-EndsRun WriteFault = Unit {0}
-EndsRun other = EndsReading other
-
-ends_run : (o : Outcome) → EndsReading o → EndsRun o
-ends_run WriteFault is = absurd is
-ends_run other is = is
-
-pub early : (o : Outcome) → EndsRun o → IsEarly o
-early o is = record {
-  line = record {
-    unmatched = λ matching has. elim has [ inl e ↦ subst EndsRun e is | inr e ↦ subst EndsRun e is ];
-    no_rows = λ e. subst EndsRun e is;
-  };
-  no_refusal = λ e. subst EndsRun e is;
-  no_match = λ e. subst EndsRun e is;
-  no_pair = λ e. subst EndsRun e is;
-  no_trial = λ number account e. subst EndsRun e is;
-  asked = λ e. subst EndsRun e is;
-}
-
-pub of_reading : (o : Outcome) → EndsReading o → IsOfReading o
-of_reading o is = record { early = early o (ends_run o is); unwritten = λ e. subst EndsReading e is }
 
 pub early_unwritten : (o : Outcome) → IsUnwritten o → IsEarly o
 early_unwritten o is = of_unwritten IsEarly o is (early WriteFault tt) (early Memory tt)

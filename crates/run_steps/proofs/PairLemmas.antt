@@ -27,7 +27,7 @@ use Rattle.print_laws.proofs.NumberLines.{IsLine-decimal}
 use Rattle.print_laws.proofs.OperandOrder.{computes_too}
 use Rattle.print_laws.proofs.PrintedMeaning.{printed_computes}
 use Rattle.print_laws.proofs.SizeLemmas.{aig_short, blif_short}
-use Rattle.run_steps.specs.Held.{Netlist}
+use Rattle.check_steps.specs.Held.{Netlist}
 use Rattle.run_steps.specs.Make.{HoldsComputed, IsDrawn}
 
 -- the name of a port is one that a symbol can give: a letter and digits

@@ -15,12 +15,12 @@ use Rattle.account_core.specs.Ports.{HaveAsMany}
 use Rattle.net_core.specs.Sides.{Graphs}
 use Rattle.net_core.specs.declared.matching.Matching.{Matching}
 use Rattle.run_steps.specs.Make.{IsPairOf}
-use Rattle.run_steps.specs.Report.{line_of}
+use Rattle.check_steps.specs.Lines.{line_of}
 use Rattle.run_steps.specs.Steps.{IsAnswered, IsProvedMatch, IsStopOfTrial, IsStopWithin, Tries}
 use Rattle.run_steps.proofs.OutcomeLemmas.{of_answer, of_stop}
-use Rattle.run_steps.specs.declared.outcome.Ending.{Ending}
-use Rattle.run_steps.specs.declared.outcome.Outcome.{Outcome}
-use Rattle.run_steps.specs.declared.outcome.Outcome.TheVariants.{Tried, Memory}
+use Rattle.check_steps.specs.declared.outcome.Ending.{Ending}
+use Rattle.check_steps.specs.declared.outcome.Outcome.{Outcome}
+use Rattle.check_steps.specs.declared.outcome.Outcome.TheVariants.{Tried, Memory}
 
 -- the two netlists of a pair have as many ports, and a match
 

@@ -5,7 +5,7 @@ use Rattle.std.specs.Result.{IsErrAnd}
 use Rattle.std.proofs.lemmas.List.{append-nil, length-take-le, take-append-drop, take-take, take_all, take_at, take-append-le, take_min, drop-append-le, drop-take, drop_at}
 use Rattle.std.proofs.lemmas.Result.{err_from_is_err_and, on_ok_weaker, on_err_weaker}
 use Rattle.std.proofs.lemmas.Slice.{between_is}
-use Rattle.run_steps.specs.Files.{HoldsFirst, WritesFile, WritesOn}
+use Rattle.run_steps.specs.Writing.{HoldsFirst, WritesFile, WritesOn}
 use Rattle.shelf_core.proofs.FaultLemmas.{rose_later}
 use Rattle.shelf_core.specs.Calls.{Appends, Closes, Creates}
 use Rattle.shelf_core.specs.State.{ShelfState, grown}

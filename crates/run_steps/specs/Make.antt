@@ -9,8 +9,8 @@ use Rattle.gen_pair.specs.Names.{HasNames}
 use Rattle.gen_pair.specs.Pairs.{ArePairOf, HasSizes}
 use Rattle.net_print.specs.BlifLines.{blif_text}
 use Rattle.net_print.specs.Files.{aig_text}
-use Rattle.run_steps.specs.Held.{Netlist, HoldsNetlist}
-use Rattle.run_steps.specs.Words.{AsksMake, AsksMatch, Sought, Wanted}
+use Rattle.check_steps.specs.Held.{Netlist, HoldsNetlist}
+use Rattle.check_steps.specs.Words.{AsksMake, AsksMatch, Sought, Wanted}
 
 -- The pair of a number: two graphs of 64 inputs, 32 outputs and 2,000 gates, and a match of them.
 pub record IsPairOf (number : ℕ) (first second : Net) (matching : Matching) : Type 0 where

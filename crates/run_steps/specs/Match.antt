@@ -6,10 +6,10 @@ use Rattle.account_check.specs.declared.verdict.Verdict.{Verdict}
 use Rattle.net_core.specs.Sides.{Graphs}
 use Rattle.net_core.specs.declared.matching.Matching.{Matching}
 use Rattle.query_core.specs.Ledgers.{Ledgered}
-use Rattle.run_steps.specs.Check.{IsAccepted}
-use Rattle.run_steps.specs.Held.{Netlist, HoldsNetlist, HoldsGraph}
+use Rattle.check_steps.specs.Check.{IsAccepted}
+use Rattle.check_steps.specs.Held.{Netlist, HoldsNetlist, HoldsGraph}
 use Rattle.run_steps.specs.Info.{IsSpentOf}
-use Rattle.run_steps.specs.Words.{AsksMatch, Sought, check_words}
+use Rattle.check_steps.specs.Words.{AsksMatch, Sought, check_words}
 
 -- The words ask for a match of two files that are these netlists.
 pub record IsSought (held : List ℕ → Option (List ℕ)) (words : List (List ℕ)) (first second : Netlist) : Type 0 where

@@ -1,58 +1,19 @@
 -- What the program answers, said of the words and of the files that are held.
-use Rattle.std.specs.Prelude.{◌≡◌, ◌≢◌, ℕ, ◌⊎◌, List, Option, None}
+use Rattle.std.specs.Prelude.{◌≡◌, ◌≢◌, ℕ, ◌⊎◌, List, Option}
 use Rattle.circuits.specs.Netlists.{Net}
 use Rattle.account_check.specs.declared.verdict.Verdict.TheVariants as verdict
 use Rattle.net_core.specs.declared.matching.Matching.{Matching}
 use Rattle.query_core.specs.Ledgers.{Ledgered}
-use Rattle.run_steps.specs.Check.{IsAccepted, IsRejected, IsMatchOfFiles, LacksAccount, LacksMatch}
-use Rattle.run_steps.specs.Held.{Netlist, HoldsNetlist, HoldsGraph, HoldsFault, HoldsTooMuch}
+use Rattle.check_steps.specs.Check.{IsAccepted, IsRejected}
+use Rattle.check_steps.specs.Held.{Netlist, HoldsNetlist, HoldsGraph}
 use Rattle.run_steps.specs.Info.{IsSpentOf, with_itself}
 use Rattle.run_steps.specs.Match.{HasNoMatch, HoldsPart, IsMatchFound, IsProved, IsSpentOnTwo}
 use Rattle.run_steps.specs.Make.{HoldsPair, HoldsPartOfPair}
 use Rattle.run_steps.specs.Trial.{IsSpentOnPair, IsSpentOnPairOf, IsTried}
-use Rattle.run_steps.specs.Words.{AskForPair, AsksInfo, AskNothing, AsksTrial, NameThree, ReadFiles}
-use Rattle.run_steps.specs.declared.outcome.Which.{Which}
-use Rattle.run_steps.specs.declared.outcome.Which.TheVariants.{First, Second, Account}
-use Rattle.run_steps.specs.declared.outcome.Outcome.{Outcome}
-use Rattle.run_steps.specs.declared.outcome.Outcome.TheVariants.{AcceptedMatch, AcceptedRefusal, Rejected, Matched, NoMatching, Spent, Usage, Absent, TooLarge, Malformed, Informed, Made, Tried, ReadFault, WriteFault, Memory}
-
--- What a file that is no netlist ends the run with, where a name holds it: `file` says which one it is. Faults of the
--- outside and running out of memory say nothing of it.
-abbrev pub EndsAt : Which → Option (List ℕ) → Outcome → Type 0
-EndsAt file content (Absent which) = (which ≡ file) × (content ≡ None)
-EndsAt file content (TooLarge which) = (which ≡ file) × HoldsTooMuch content
-EndsAt file content (Malformed which kind at) = (which ≡ file) × HoldsFault content kind at
-EndsAt file content ReadFault = Unit {0}
-EndsAt file content Memory = Unit {0}
-EndsAt file content other = ⊥
-
--- The words ask for a check or a match, and its first file ends it.
-pub record EndsAtFirst (held : List ℕ → Option (List ℕ)) (words : List (List ℕ)) (outcome : Outcome) : Type 0 where
-  pub first_name : List ℕ
-  pub second_name : List ℕ
-  pub account_name : List ℕ
-  pub asks : NameThree words first_name second_name account_name
-  pub ends : EndsAt First (held first_name) outcome
-
--- The words ask for a check or a match, its first file is a netlist, and its second one ends it.
-pub record EndsAtSecond (held : List ℕ → Option (List ℕ)) (words : List (List ℕ)) (outcome : Outcome) : Type 0 where
-  pub first_name : List ℕ
-  pub second_name : List ℕ
-  pub account_name : List ℕ
-  pub asks : NameThree words first_name second_name account_name
-  pub first : Netlist
-  pub first_held : HoldsNetlist (held first_name) first
-  pub ends : EndsAt Second (held second_name) outcome
-
--- The words ask for what is known of a file, which ends the run.
-pub record EndsAtOnly (held : List ℕ → Option (List ℕ)) (words : List (List ℕ)) (outcome : Outcome) : Type 0 where
-  pub file_name : List ℕ
-  pub budget : ℕ
-  pub asks : AsksInfo words file_name budget
-  pub ends : EndsAt First (held file_name) outcome
-
-abbrev pub EndsEarly : (List ℕ → Option (List ℕ)) → List (List ℕ) → Outcome → Type 0
-EndsEarly held words outcome = EndsAtFirst held words outcome ⊎ EndsAtSecond held words outcome ⊎ EndsAtOnly held words outcome
+use Rattle.check_steps.specs.Words.{AskForPair, AsksInfo, AskNothing, AsksTrial, ReadFiles}
+use Rattle.check_steps.specs.declared.outcome.Outcome.{Outcome}
+use Rattle.check_steps.specs.declared.outcome.Outcome.TheVariants.{AcceptedMatch, AcceptedRefusal, Rejected, Matched, NoMatching, Spent, Usage, Absent, TooLarge, Malformed, Informed, Made, Tried, ReadFault, WriteFault, Memory}
+use Rattle.check_steps.specs.Ends.{EndsEarly, IsAbsent}
 
 -- The words ask for what is known of a file that is a netlist.
 pub record IsAskedOf (held : List ℕ → Option (List ℕ)) (words : List (List ℕ)) : Type 0 where
@@ -88,10 +49,6 @@ IsOfTrial number outcome =
     ((account : List ℕ) × (outcome ≡ Tried number account))
     ⊎ ((ledger : Ledgered) × (outcome ≡ Spent ledger) × IsSpentOnPairOf number ledger)
 
--- there is no such file when its turn comes
-abbrev pub IsAbsent : (List ℕ → Option (List ℕ)) → List (List ℕ) → Which → Type 0
-IsAbsent held words which = EndsEarly held words (Absent which) ⊎ ((which ≡ Account) × LacksAccount held words)
-
 -- what an outcome says of the words and the files; the faults and the running out of memory say nothing of them
 abbrev pub IsRight : (List ℕ → Option (List ℕ)) → List (List ℕ) → Outcome → Type 0
 IsRight held words (Matched matching) = IsMatchFound held words matching
@@ -108,12 +65,6 @@ IsRight held words (Absent which) = IsAbsent held words which
 IsRight held words (TooLarge which) = EndsEarly held words (TooLarge which)
 IsRight held words (Malformed which kind at) = EndsEarly held words (Malformed which kind at)
 IsRight held words other = Unit {0}
-
--- Whoever wrote the account, a matching that is accepted is a match of the files' netlists, and where a refusal is accepted
--- they have no match.
-pub record IsSound (held : List ℕ → Option (List ℕ)) (words : List (List ℕ)) (outcome : Outcome) : Type 0 where
-  pub matches : (matching : Matching) → outcome ≡ AcceptedMatch matching → IsMatchOfFiles held words matching
-  pub refuses : outcome ≡ AcceptedRefusal → LacksMatch held words
 
 -- the report was put whole
 pub record IsTold (outcome : Outcome) : Type 0 where

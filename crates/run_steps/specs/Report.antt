@@ -1,70 +1,15 @@
 -- What the program prints.
-use Rattle.std.specs.Prelude.{◌≡◌, ◌≢◌, ℕ, ◌⊎◌, Bool, IsTrue, List, [], ◌∷◌, ◌++◌, codes, Option}
+use Rattle.std.specs.Prelude.{◌≡◌, ◌≢◌, ℕ, ◌⊎◌, Bool, IsTrue, List, Option}
 use Rattle.circuits.specs.Circuits.{Circuit}
-use Rattle.std.specs.Fmt.{decimal}
-use Rattle.net_file.specs.Kinds.{kind_number}
-use Rattle.net_core.specs.declared.matching.Matching.{Matching}
 use Rattle.net_file.specs.declared.named.Named.{Named}
-use Rattle.query_core.specs.Ledgers.{learned_in}
-use Rattle.port_report.specs.Reports.{PortNames, table_text, rejected_text}
-use Rattle.account_check.specs.Words.{word_of}
-use Rattle.run_steps.specs.Check.{IsAsked}
-use Rattle.run_steps.specs.Held.{Netlist, HoldsNetlist}
+use Rattle.check_steps.specs.Check.{IsAsked}
+use Rattle.check_steps.specs.Held.{Netlist, HoldsNetlist}
 use Rattle.run_steps.specs.Match.{IsSought}
 use Rattle.run_steps.specs.Info.{IsInfoText}
-use Rattle.run_steps.specs.Words.{AsksInfo}
-use Rattle.run_steps.specs.declared.outcome.Which.{Which}
-use Rattle.run_steps.specs.declared.outcome.Which.TheVariants.{First, Second, Account}
-use Rattle.run_steps.specs.declared.outcome.Outcome.{Outcome}
-use Rattle.run_steps.specs.declared.outcome.Outcome.TheVariants.{AcceptedMatch, AcceptedRefusal, Rejected, Matched, NoMatching, Spent, Usage, Absent, TooLarge, Malformed, Informed, Made, Tried, ReadFault, WriteFault, Memory}
-
--- the word for a file
-abbrev pub file_word : Which → List ℕ
-file_word First = codes "first"
-file_word Second = codes "second"
-file_word Account = codes "account"
-
--- the line of a pair that was tried: its number, that it is matched and the account accepted, and its numbers of inputs,
--- outputs and gates
-abbrev pub tried_line : ℕ → List ℕ
-tried_line number = codes "trial " ++ decimal number ++ codes " matched accepted 64 32 2000" ++ 10 ∷ []
-
--- the line that names an outcome; a failed write has none, and what is known of a netlist is more than a line
-abbrev pub line_of : Outcome → List ℕ
-line_of (AcceptedMatch matching) = codes "accepted match" ++ 10 ∷ []
-line_of AcceptedRefusal = codes "accepted refusal" ++ 10 ∷ []
-line_of (Rejected line why) = rejected_text line (word_of why)
-line_of (Matched matching) = codes "matched" ++ 10 ∷ []
-line_of NoMatching = codes "no matching" ++ 10 ∷ []
-line_of (Spent ledger) = codes "spent " ++ decimal (learned_in ledger) ++ 10 ∷ []
-line_of Informed = []
-line_of Made = codes "made 64 32 2000" ++ 10 ∷ []
-line_of (Tried number account) = tried_line number
-line_of Usage = codes "usage" ++ 10 ∷ []
-line_of (Absent file) = codes "absent " ++ file_word file ++ 10 ∷ []
-line_of (TooLarge file) = codes "too large " ++ file_word file ++ 10 ∷ []
-line_of (Malformed file kind at) = codes "malformed " ++ file_word file ++ 32 ∷ decimal (kind_number kind) ++ 32 ∷ decimal at ++ 10 ∷ []
-line_of ReadFault = codes "read fault" ++ 10 ∷ []
-line_of WriteFault = []
-line_of Memory = codes "out of memory" ++ 10 ∷ []
-
--- the outcome has this matching
-abbrev pub HasMatching : Outcome → Matching → Type 0
-HasMatching outcome matching = (outcome ≡ AcceptedMatch matching) ⊎ (outcome ≡ Matched matching)
-
--- The report of the outcome is its line.
-pub record IsOneLine (outcome : Outcome) : Type 0 where
-  pub unmatched : (matching : Matching) → HasMatching outcome matching → ⊥
-  pub no_rows : outcome ≢ Informed
-
--- the report of an outcome of two netlists: its line, and after that of a match its port table
-abbrev pub report_on : PortNames → PortNames → Outcome → List ℕ
-report_on first second (AcceptedMatch matching) = line_of (AcceptedMatch matching) ++ table_text first second matching
-report_on first second (Matched matching) = line_of (Matched matching) ++ table_text first second matching
-report_on first second other = line_of other
-
-abbrev pub port_names : Netlist → PortNames
-port_names netlist = record { inputs = netlist.input_names; outputs = netlist.output_names }
+use Rattle.check_steps.specs.Words.{AsksInfo}
+use Rattle.check_steps.specs.declared.outcome.Outcome.{Outcome}
+use Rattle.check_steps.specs.declared.outcome.Outcome.TheVariants.{Informed}
+use Rattle.check_steps.specs.Lines.{line_of, IsOneLine, report_on, port_names}
 
 -- the words ask for a check or a match of two files that are these netlists
 abbrev pub NameNetlists : (List ℕ → Option (List ℕ)) → List (List ℕ) → Netlist → Netlist → Type 0

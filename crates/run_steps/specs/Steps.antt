@@ -1,88 +1,35 @@
 -- What the steps of a run do.
-use Rattle.std.specs.Prelude.{◌≡◌, ◌≢◌, ℕ, ◌⊎◌, ◌≤◌, Bool, false, IsTrue, List, [], ◌++◌, length, take, Option, None, Some, Result, Ok, Err, IfOk, IfErr, OnOk, OnErr}
+use Rattle.std.specs.Prelude.{◌≡◌, ◌≢◌, ℕ, ◌⊎◌, ◌≤◌, Bool, false, IsTrue, List, [], ◌++◌, take, Option, Some, Result, Err, IfOk, IfErr, OnOk, OnErr}
 use Rattle.circuits.specs.Circuits.{Circuit}
 use Rattle.circuits.specs.Functions.{Computes}
-use Rattle.circuits.specs.Levels.{IsAcyclic, IsOrderOf}
+use Rattle.circuits.specs.Levels.{IsOrderOf}
 use Rattle.circuits.specs.Matches.{IsMatchOfFunctions, HaveNpnpEqualFunctions}
-use Rattle.circuits.specs.Netlists.{Net}
 use Rattle.shelf_core.specs.Fault.{Rose}
 use Rattle.shelf_core.specs.State.{ShelfState, SinkState, Closed}
 use Rattle.net_core.specs.Sides.{Graphs}
 use Rattle.net_core.specs.declared.matching.Matching.{Matching}
 use Rattle.net_file.specs.declared.named.Named.{Named}
 use Rattle.query_core.specs.Ledgers.{Ledgered}
-use Rattle.account_check.specs.Verdicts.{IsAccepted as Proves, IsRejected as IsBadAt}
+use Rattle.account_check.specs.Verdicts.{IsAccepted as Proves}
 use Rattle.account_check.specs.declared.verdict.Verdict.{Verdict}
 use Rattle.account_check.specs.declared.verdict.Verdict.TheVariants as verdict
 use Rattle.port_report.specs.Reports.{names_of}
-use Rattle.run_steps.specs.Circuits.{IsCircuit, IsCircuitFault}
-use Rattle.run_steps.specs.Files.{HoldsFirst}
+use Rattle.run_steps.specs.Writing.{HoldsFirst}
 use Rattle.run_steps.specs.Info.{IsInfoText, IsSpentOf, with_itself}
-use Rattle.run_steps.specs.Held.{Netlist, HoldsNetlist}
 use Rattle.run_steps.specs.Make.{IsCutFrom}
 use Rattle.run_steps.specs.Trial.{IsSpentOnPairOf, IsTrialOf}
-use Rattle.run_steps.specs.Outcomes.{EndsAt, FollowsWords, IsRight, IsSound, IsTold, Leaves}
-use Rattle.run_steps.specs.Report.{HasMatching, IsOneLine, IsReport, line_of, report_on}
-use Rattle.run_steps.specs.declared.outcome.Which.{Which}
-use Rattle.run_steps.specs.declared.outcome.Which.TheVariants.{Account}
-use Rattle.run_steps.specs.declared.outcome.Outcome.{Outcome}
-use Rattle.run_steps.specs.declared.outcome.Outcome.TheVariants.{AcceptedMatch, AcceptedRefusal, Rejected, Matched, NoMatching, Spent, Usage, Absent, Malformed, Informed, Made, Tried, ReadFault, WriteFault, Memory}
-use Rattle.run_steps.specs.declared.words.Command.{Command}
-use Rattle.run_steps.specs.declared.files.ReadStop.{ReadStop}
-use Rattle.run_steps.specs.declared.files.ReadStop.TheVariants as stop
-use Rattle.run_steps.specs.declared.outcome.Ending.{Ending}
-use Rattle.run_steps.specs.Commands.{Ask, IsNotWritten, IsWritingCommand}
-
--- an outcome that ends a run early: it has a line, and is no answer and none of the words alone
-pub record IsEarly (outcome : Outcome) : Type 0 where
-  pub line : IsOneLine outcome
-  pub no_refusal : outcome ≢ AcceptedRefusal
-  pub no_match : outcome ≢ NoMatching
-  pub no_pair : outcome ≢ Made
-  pub no_trial : (number : ℕ) (account : List ℕ) → outcome ≢ Tried number account
-  pub asked : outcome ≢ Usage
-
--- an outcome that comes of the words alone, or of a write, is none of a netlist that is read
-pub record IsOfReading (outcome : Outcome) : Type 0 where
-  pub early : IsEarly outcome
-  pub unwritten : outcome ≢ WriteFault
-
--- what an outcome says of the bytes of a file that is no netlist
-abbrev pub IsStopOf : Which → List ℕ → Outcome → Type 0
-IsStopOf file bytes (Malformed which kind at) = (which ≡ file) × IsCircuitFault bytes kind at
-IsStopOf file bytes Memory = Unit {0}
-IsStopOf file bytes other = ⊥
-
--- The bytes were read as this graph with these names of its ports: the graph computes the netlist that the file is.
-pub record ReadAs (bytes : List ℕ) (graph : Net) (input_names output_names : List (List ℕ)) : Type 0 where
-  pub circuit : Circuit
-  pub is : IsCircuit bytes circuit input_names output_names
-  pub computes : Computes graph circuit
-  pub numbered : IsOrderOf circuit graph
-
--- a circuit with the names that its graph was read with
-abbrev pub netlist_of : Circuit → Named → Netlist
-netlist_of circuit named = record { circuit = circuit; input_names = named.input_names; output_names = named.output_names }
-
--- What a name holds was read as this graph with these names.
-pub record IsReadFrom (tells : Bool) (content : Option (List ℕ)) (named : Named) : Type 0 where
-  pub circuit : Circuit
-  pub held : IsTrue tells → HoldsNetlist content (netlist_of circuit named)
-  pub acyclic : IsAcyclic circuit
-  pub few : length circuit.outputs ≤ 1024
-  pub computes : Computes named.graph circuit
-  pub numbered : IsOrderOf circuit named.graph
-
--- Reading the netlist under a name, or ending the run where none stands there.
-pub record ReadsNetlist (tells : Bool) (file : Which) (name : List ℕ) (old new : ShelfState) (result : Result Named Outcome) : Type 0 where
-  -- no file changes, and none is open after an answer
-  pub files : (n : List ℕ) → new.held n ≡ old.held n
-  pub closed : OnOk result (new.mode ≡ Closed)
-  pub found : IfOk result (IsReadFrom tells (old.held name))
-  pub ended : IsTrue tells → IfErr result (EndsAt file (old.held name))
-  pub reading : IfErr result IsOfReading
-  pub faults : old.faults ≤ new.faults
-  pub failed : result ≡ Err ReadFault → Rose old.faults new.faults
+use Rattle.run_steps.specs.Outcomes.{FollowsWords, IsRight, IsTold, Leaves}
+use Rattle.check_steps.specs.Lines.{line_of, report_on}
+use Rattle.run_steps.specs.Report.{IsReport}
+use Rattle.check_steps.specs.Checks.{IsSound, ended}
+use Rattle.check_steps.specs.declared.outcome.Outcome.{Outcome}
+use Rattle.check_steps.specs.declared.outcome.Outcome.TheVariants.{Matched, NoMatching, Spent, Usage, Informed, Tried, ReadFault, WriteFault, Memory}
+use Rattle.check_steps.specs.declared.words.Command.{Command}
+use Rattle.check_steps.specs.declared.outcome.Ending.{Ending}
+use Rattle.check_steps.specs.Asks.{Ask}
+use Rattle.run_steps.specs.Commands.{IsNotWritten, IsWritingCommand}
+use Rattle.check_steps.specs.Reading.{IsEarly}
+use Rattle.check_steps.specs.Judged.{graphs_of}
 
 -- what ends a run that asks about two graphs: the budget is spent on them, or memory ran out
 abbrev pub IsStopWithin : Graphs → ℕ → Outcome → Type 0
@@ -97,51 +44,6 @@ pub record InformsOf (named : Named) (budget : ℕ) (result : Result Ending Outc
       → IsOrderOf circuit named.graph
       → IsInfoText circuit named ending.report.items))
   pub stopped : IfErr result (IsStopWithin (with_itself named.graph) budget)
-
--- the graphs of two netlists
-abbrev pub graphs_of : Named → Named → Graphs
-graphs_of first second = record { first = first.graph; second = second.graph }
-
--- what an outcome says of two graphs and of what the account's name holds
-abbrev pub IsVerdict : Graphs → Option (List ℕ) → Outcome → Type 0
-IsVerdict graphs content (AcceptedMatch matching) =
-    (account : List ℕ) × (content ≡ Some account) × Proves graphs account (verdict.Match matching)
-IsVerdict graphs content AcceptedRefusal =
-    (account : List ℕ) × (content ≡ Some account) × Proves graphs account verdict.None
-IsVerdict graphs content (Rejected line why) =
-    (account : List ℕ) × (content ≡ Some account) × IsBadAt graphs account line why
-IsVerdict graphs content (Absent file) = (file ≡ Account) × (content ≡ None)
-IsVerdict graphs content other = ⊥
-
--- a matching that is accepted or found is a match of the graphs
-abbrev pub IsMatchIfAny : Net → Net → Outcome → Type 0
-IsMatchIfAny f g outcome =
-    (matching : Matching) → HasMatching outcome matching → IsMatchOfFunctions f g matching.inputs matching.outputs
-
--- where a refusal is accepted, no signed bijections make the graphs' functions equal
-abbrev pub IsUnequalIfRefused : Net → Net → Outcome → Type 0
-IsUnequalIfRefused f g outcome = outcome ≡ AcceptedRefusal → HaveNpnpEqualFunctions f g → ⊥
-
--- an outcome that two netlists and an account were judged by
-pub record IsJudged (outcome : Outcome) : Type 0 where
-  pub asked : outcome ≢ Usage
-  pub no_rows : outcome ≢ Informed
-  pub read : outcome ≢ ReadFault
-  pub unwritten : outcome ≢ WriteFault
-  pub no_match : outcome ≢ NoMatching
-  pub no_pair : outcome ≢ Made
-  pub no_trial : (number : ℕ) (account : List ℕ) → outcome ≢ Tried number account
-  pub unmatched : (matching : Matching) → outcome ≢ Matched matching
-
--- Judging two graphs by what the account's name holds.
-pub record Judges (tells : Bool) (graphs : Graphs) (content : Option (List ℕ)) (old new : ShelfState) (result : Result Outcome ReadStop) : Type 0 where
-  pub files : (n : List ℕ) → new.held n ≡ old.held n
-  pub right : IsTrue tells → IfOk result (IsVerdict graphs content)
-  pub matches : IfOk result (IsMatchIfAny graphs.first graphs.second)
-  pub refuses : IfOk result (IsUnequalIfRefused graphs.first graphs.second)
-  pub judged : IfOk result IsJudged
-  pub faults : old.faults ≤ new.faults
-  pub failed : result ≡ Err stop.ReadFault → Rose old.faults new.faults
 
 -- an answer for two graphs, with an account that is accepted: a match, or that there is none
 abbrev pub IsAnswered : Graphs → List ℕ → Outcome → Type 0
@@ -246,11 +148,6 @@ pub record IsEnding (outcome : Outcome) : Type 0 where
   pub asked : outcome ≢ Usage
   pub read : outcome ≢ ReadFault
   pub unwritten : outcome ≢ WriteFault
-
--- how a run ends
-abbrev pub ended : Result Ending Outcome → Outcome
-ended (Ok ending) = ending.outcome
-ended (Err outcome) = outcome
 
 -- Deciding by the files that a command names.
 pub record Decides (tells : Bool) (command : Command) (old new : ShelfState) (result : Result Ending Outcome) : Type 0 where

@@ -8,7 +8,7 @@ use Rattle.net_core.specs.declared.matching.Matching.{Matching}
 use Rattle.query_core.specs.Ledgers.{Ledgered}
 use Rattle.run_steps.specs.Info.{IsSpentOf}
 use Rattle.run_steps.specs.Make.{IsPairOf}
-use Rattle.run_steps.specs.Words.{AsksTrial}
+use Rattle.check_steps.specs.Words.{AsksTrial}
 
 -- The account is accepted for the pair of a number: it proves that a matching is a match of the two, which it is.
 pub record IsTrialOf (number : ℕ) (account : List ℕ) : Type 0 where

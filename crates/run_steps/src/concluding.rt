@@ -6,9 +6,9 @@ ghost use Rattle.shelf_core.specs.State.{Closed};
 ghost use Rattle.run_steps.specs.Steps.{Concludes};
 ghost use Rattle.run_steps.specs.Stops.{unwritten};
 
-use crate::outcome::{Ending, Outcome};
 use crate::write_account;
 use account_write::Account;
+use check_steps::{Ending, Outcome};
 use shelf_core::{Shelf, ShelfStop};
 use std::alloc::Global;
 

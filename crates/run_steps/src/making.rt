@@ -9,9 +9,8 @@ ghost use Rattle.run_steps.specs.Steps.{Decides, WritesPair, WritesText};
 ghost use Rattle.run_steps.specs.Commands.{asked_make};
 
 use crate::concluding::unwritten;
-use crate::outcome::{Ending, Outcome};
-use crate::report::report_line;
-use crate::{Make, write_text};
+use crate::write_text;
+use check_steps::{Ending, Make, Outcome, report_line};
 use gen_pair::{GenPair, make};
 use net_core::Graphs;
 use net_print::{AigParts, BlifParts};

@@ -3,7 +3,7 @@
 ghost use Rattle.std.specs.Prelude.{◌≡◌, ◌≤◌, [], OnOk, drop, vec_len};
 ghost use Rattle.account_write.specs.Records.{account_of, records_of};
 ghost use Rattle.shelf_core.specs.State.{Closed, Writing};
-ghost use Rattle.run_steps.specs.Files.{WritesFile, WritesOn};
+ghost use Rattle.run_steps.specs.Writing.{WritesFile, WritesOn};
 
 use account_write::{Account, last_line};
 use shelf_core::{Shelf, ShelfStop};

@@ -1,8 +1,8 @@
 -- The netlists were read, and a match of them was sought.
 use Rattle.std.proofs.Common.{ℕ, List, inr, ◌∙◌, subst, arith}
-use Rattle.run_steps.specs.Outcomes.{EndsAt}
-use Rattle.run_steps.specs.Steps.{IsReadFrom, netlist_of}
-use Rattle.run_steps.specs.declared.outcome.Which.TheVariants.{Second}
+use Rattle.check_steps.specs.Ends.{EndsAt}
+use Rattle.check_steps.specs.Reading.{IsReadFrom, netlist_of}
+use Rattle.check_steps.specs.declared.outcome.Which.TheVariants.{Second}
 use Rattle.run_steps.proofs.CheckLemmas.{right_at_first, right_at_second, stopped}
 use Rattle.shelf_core.proofs.FaultLemmas.{rose_later}
 use Rattle.run_steps.proofs.FindLemmas.{finds_from}

@@ -1,8 +1,9 @@
 -- An answer was found, and its account was written; or nothing was.
 use Rattle.std.proofs.Common.{inr, refl, subst}
 use Rattle.account_write.specs.Records.{account_of, records_of}
-use Rattle.run_steps.specs.Steps.{IsAnswered, IsStopWithin, graphs_of}
-use Rattle.run_steps.specs.declared.outcome.Outcome.TheVariants.{Memory}
+use Rattle.run_steps.specs.Steps.{IsAnswered, IsStopWithin}
+use Rattle.check_steps.specs.Judged.{graphs_of}
+use Rattle.check_steps.specs.declared.outcome.Outcome.TheVariants.{Memory}
 use Rattle.run_steps.proofs.FindLemmas.{not_solved, solved, match_of_answer}
 use Rattle.npnp.proofs.ResultLemmas.{err_is}
 use Rattle.npnp.proofs.matching.find_of.Goals as goal

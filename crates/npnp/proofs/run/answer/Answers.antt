@@ -1,6 +1,7 @@
 -- The words name the files that were read.
 use Rattle.std.proofs.Common.{inl, inr, Err, ap, sym, ◌∙◌}
-use Rattle.run_steps.specs.Outcomes.{FollowsWords, IsRight, IsSound, Leaves}
+use Rattle.run_steps.specs.Outcomes.{FollowsWords, IsRight, Leaves}
+use Rattle.check_steps.specs.Checks.{IsSound}
 use Rattle.run_steps.proofs.MatchLemmas.{may_be_cut, not_written, writes_of}
 use Rattle.run_steps.proofs.CheckLemmas.{follows_memory, follows_nothing}
 use Rattle.run_steps.proofs.FormLemmas.{known_form, trial_command}

@@ -1,8 +1,8 @@
 -- What is told is what was answered.
 use Rattle.std.proofs.Common.{inl, inr, refl, sym, subst, ◌∙◌}
 use Rattle.run_steps.specs.Outcomes.{IsOfTrial, IsRight, IsTold, Leaves}
-use Rattle.run_steps.specs.Report.{line_of}
-use Rattle.run_steps.specs.declared.outcome.Outcome.TheVariants.{AcceptedMatch, AcceptedRefusal, Rejected, Matched, NoMatching, Spent, Made, Tried, Absent, TooLarge, Malformed, Memory}
+use Rattle.check_steps.specs.Lines.{line_of}
+use Rattle.check_steps.specs.declared.outcome.Outcome.TheVariants.{AcceptedMatch, AcceptedRefusal, Rejected, Matched, NoMatching, Spent, Made, Tried, Absent, TooLarge, Malformed, Memory}
 use Rattle.run_steps.proofs.MatchLemmas.{kept, may_be_cut}
 use Rattle.run_steps.proofs.CheckLemmas.{exactly, exactly_informed, exactly_none, of_match, reached, told_read, report_of_same}
 use Rattle.npnp.proofs.TellingLemmas.{answered_as, sound_memory}

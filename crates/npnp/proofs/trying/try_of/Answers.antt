@@ -3,7 +3,8 @@ use Rattle.std.proofs.Common.{◌∙◌, refl, sym, subst}
 use Rattle.circuits.specs.Matches.{HaveNpnpEqualFunctions}
 use Rattle.account_core.specs.Ports.{HaveAsMany}
 use Rattle.net_core.specs.Sides.{Graphs}
-use Rattle.run_steps.specs.Steps.{IsProvedMatch, IsStopWithin, graphs_of}
+use Rattle.run_steps.specs.Steps.{IsProvedMatch, IsStopWithin}
+use Rattle.check_steps.specs.Judged.{graphs_of}
 use Rattle.run_steps.proofs.TryingLemmas.{as_many, equal, no_room, none_some, stopped, tried}
 use Rattle.npnp.proofs.ResultLemmas.{err_is}
 use Rattle.npnp.proofs.trying.try_of.Goals as goal

@@ -2,7 +2,7 @@
 use Rattle.std.proofs.Common.{◌+◌, Ok, Err, arith, subst, sym}
 use Rattle.std.specs.List.{between}
 use Rattle.shelf_core.specs.Calls.{Appends}
-use Rattle.run_steps.specs.Files.{WritesOn}
+use Rattle.run_steps.specs.Writing.{WritesOn}
 use Rattle.run_steps.proofs.WritingLemmas.{not_written_on, written_piece}
 use Rattle.run_steps.proofs.writing.append_pieces.Goals as goal
 

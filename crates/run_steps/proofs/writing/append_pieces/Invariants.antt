@@ -1,5 +1,5 @@
 use Rattle.std.proofs.Common.{◌≤◌, ◌-◌, Ok, drop, length}
-use Rattle.run_steps.specs.Files.{WritesOn}
+use Rattle.run_steps.specs.Writing.{WritesOn}
 use Rattle.run_steps.proofs.writing.append_pieces.Given as goal
 
 -- the first n bytes were written

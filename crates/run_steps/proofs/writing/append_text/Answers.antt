@@ -1,7 +1,7 @@
 -- A part more is printed, and the pieces that stand there are appended.
 use Rattle.std.proofs.Common.{◌++◌, Ok, [], ap, subst, ◌∙◌}
 use Rattle.std.proofs.lemmas.List.{append-nil}
-use Rattle.run_steps.specs.Files.{WritesOn}
+use Rattle.run_steps.specs.Writing.{WritesOn}
 use Rattle.run_steps.proofs.WritingLemmas.{not_written_on, written_as, written_before, written_out_of_memory, written_then}
 use Rattle.run_steps.proofs.writing.append_text.Goals as goal
 

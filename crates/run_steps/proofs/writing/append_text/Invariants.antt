@@ -1,5 +1,5 @@
 use Rattle.std.proofs.Common.{◌++◌, Ok}
-use Rattle.run_steps.specs.Files.{WritesOn}
+use Rattle.run_steps.specs.Writing.{WritesOn}
 use Rattle.run_steps.proofs.writing.append_text.Given as goal
 
 -- what stands in the buffer and the parts that are left are still to be written

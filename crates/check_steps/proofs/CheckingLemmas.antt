@@ -1,0 +1,76 @@
+-- What one file, or the verdict on an account, says of a check.
+use Rattle.std.proofs.Common.{◌≡◌, inl, inr, ℕ, Bool, IsTrue, List, Option, Result, Err, sym, subst}
+use Rattle.shelf_core.specs.Fault.{Rose}
+use Rattle.shelf_core.specs.State.{ShelfState}
+use Rattle.net_core.specs.Sides.{Graphs}
+use Rattle.check_steps.specs.Check.{IsAsked}
+use Rattle.check_steps.specs.Checks.{AskFor, Checks, IsOfCheck}
+use Rattle.check_steps.specs.Ends.{EndsAt, EndsEarly}
+use Rattle.check_steps.specs.Held.{HoldsGraph, HoldsNetlist, Netlist}
+use Rattle.check_steps.specs.Judged.{IsVerdict}
+use Rattle.check_steps.specs.Reading.{IsOfReading}
+use Rattle.check_steps.specs.Stops.{outcome_of}
+use Rattle.check_steps.specs.Words.{AsksCheck, AsksInfo, NameThree}
+use Rattle.check_steps.specs.declared.files.ReadStop.{ReadStop}
+use Rattle.check_steps.specs.declared.files.ReadStop.TheVariants as stop
+use Rattle.check_steps.specs.declared.outcome.Ending.{Ending}
+use Rattle.check_steps.specs.declared.outcome.Outcome.{Outcome}
+use Rattle.check_steps.specs.declared.outcome.Outcome.TheVariants.{AcceptedMatch, AcceptedRefusal, Rejected, Absent, TooLarge, Malformed, ReadFault, Memory}
+use Rattle.check_steps.specs.declared.outcome.Which.{Which}
+use Rattle.check_steps.specs.declared.outcome.Which.TheVariants.{First, Second}
+use Rattle.check_steps.specs.declared.words.Check.{Check}
+
+early_end : (held : List ℕ → Option (List ℕ)) (words : List (List ℕ)) (file : Which) (content : Option (List ℕ)) (o : Outcome) → EndsAt file content o → EndsEarly held words o → IsOfCheck held words o
+early_end held words file content (Absent which) ends early = inl early
+early_end held words file content (TooLarge which) ends early = early
+early_end held words file content (Malformed which kind at) ends early = early
+early_end held words file content ReadFault ends early = tt
+early_end held words file content Memory ends early = tt
+early_end held words file content other ends early = absurd ends
+
+pub at_first : (held : List ℕ → Option (List ℕ)) (words : List (List ℕ)) (f g t : List ℕ) → NameThree words f g t → (o : Outcome) → EndsAt First (held f) o → IsOfCheck held words o
+at_first held words f g t asks o ends =
+    early_end held words First (held f) o ends (inl (record { first_name = f; second_name = g; account_name = t; asks = asks; ends = ends }))
+
+pub at_second : (held : List ℕ → Option (List ℕ)) (words : List (List ℕ)) (f g t : List ℕ) (first : Netlist) → NameThree words f g t → HoldsNetlist (held f) first → (o : Outcome) → EndsAt Second (held g) o → IsOfCheck held words o
+at_second held words f g t first asks there o ends =
+    early_end held words Second (held g) o ends (inr (inl (record { first_name = f; second_name = g; account_name = t; asks = asks; first = first; first_held = there; ends = ends })))
+
+pub at_only : (held : List ℕ → Option (List ℕ)) (words : List (List ℕ)) (file : List ℕ) (budget : ℕ) → AsksInfo words file budget → (o : Outcome) → EndsAt First (held file) o → IsOfCheck held words o
+at_only held words file budget asks o ends =
+    early_end held words First (held file) o ends (inr (inr (record { file_name = file; budget = budget; asks = asks; ends = ends })))
+
+pub by_verdict : (held : List ℕ → Option (List ℕ)) (words : List (List ℕ)) (f g t : List ℕ) (graphs : Graphs) → AsksCheck words f g t → HoldsGraph (held f) graphs.first → HoldsGraph (held g) graphs.second → (o : Outcome) → IsVerdict graphs (held t) o → IsOfCheck held words o
+by_verdict held words f g t graphs asks first second (AcceptedMatch matching) fact = record { graphs = graphs; account = fact.0; has = record { first_name = f; second_name = g; account_name = t; asks = asks; first_held = first; second_held = second; there = fact.1 }; accepted = fact.2 }
+by_verdict held words f g t graphs asks first second AcceptedRefusal fact = record { graphs = graphs; account = fact.0; has = record { first_name = f; second_name = g; account_name = t; asks = asks; first_held = first; second_held = second; there = fact.1 }; accepted = fact.2 }
+by_verdict held words f g t graphs asks first second (Rejected line why) fact = record { graphs = graphs; account = fact.0; has = record { first_name = f; second_name = g; account_name = t; asks = asks; first_held = first; second_held = second; there = fact.1 }; rejected = fact.2 }
+by_verdict held words f g t graphs asks first second (Absent which) fact = inr (fact.0, record { first = first.netlist; second = second.netlist; account_name = t; asked = record { first_name = f; second_name = g; asks = asks; first_held = first.holds; second_held = second.holds }; absent = fact.1 })
+by_verdict held words f g t graphs asks first second other fact = absurd fact
+
+-- what a refusal of a read says of a check
+pub stop_end : (held : List ℕ → Option (List ℕ)) (words : List (List ℕ)) (s : ReadStop) → IsOfCheck held words (outcome_of s)
+stop_end held words stop.ReadFault = tt
+stop_end held words stop.Memory = tt
+
+-- the words ask for a check of two files that were read
+pub asks_both : (held : List ℕ → Option (List ℕ)) (content : Option (List ℕ)) (words : List (List ℕ)) (f g t : List ℕ) (first second : Netlist) → content ≡ held g → AsksCheck words f g t → HoldsNetlist (held f) first → HoldsNetlist content second → IsAsked held words first second t
+asks_both held content words f g t first second same asks holds other = record {
+  first_name = f;
+  second_name = g;
+  asks = asks;
+  first_held = holds;
+  second_held = subst (λ content. HoldsNetlist content second) same other;
+}
+
+-- the files were read up to an outcome that ends the check
+pub check_stopped : (tells : Bool) (check : Check) (old new : ShelfState) (result : Result Ending Outcome) (o : Outcome) → result ≡ Err o → ((n : List ℕ) → new.held n ≡ old.held n) → (IsTrue tells → (words : List (List ℕ)) → AskFor words check → IsOfCheck old.held words o) → IsOfReading o → (o ≡ ReadFault → Rose old.faults new.faults) → Checks tells check old new result
+check_stopped tells check old new result o same files right reading failed =
+    subst (λ r. Checks tells check old new r) (sym same) (record {
+      files = files;
+      right = right;
+      sound = λ t words asks. tt;
+      report = λ words asks. tt;
+      judged = tt;
+      early = reading;
+      failed = λ e. failed (cc e);
+    })

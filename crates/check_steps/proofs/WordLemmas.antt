@@ -1,0 +1,132 @@
+-- Words that were read by their places.
+use Rattle.std.proofs.Common.{◌≡◌, ◌≢◌, inl, inr, ℕ, ◌<◌, ◌≤◌, ◌↔◌, ◌==◌, ◌||◌, not, Bool, true, false, IsTrue, List, [], ◌∷◌, length, drop, Option, None, Some, IfNone, IfSome, get_or, refl, sym, ◌∙◌, ap, subst, arith}
+use Rattle.std.specs.List.{between}
+use Rattle.std.specs.Prelude.{codes}
+use Rattle.std.specs.Str.{bytes_eq}
+use Rattle.std.proofs.lemmas.Bool.{false≢true}
+use Rattle.std.proofs.lemmas.Bool.Decides.{eqb_tells}
+use Rattle.std.proofs.lemmas.Slice.{between_to_end}
+use Rattle.std.proofs.lemmas.Slice.Eq.{bytes_eq-Decides}
+use Rattle.check_steps.specs.Asks.{sought_by, wanted_by}
+use Rattle.check_steps.specs.declared.words.Match.{Match as MatchWords}
+use Rattle.check_steps.specs.Words.{AreBudgetAndSeed, AreNames, AreTwoNames, AsksInfo, AsksMake, AsksMatch, HaveInfoForm, IsNumber, Wanted}
+use Rattle.check_steps.specs.declared.words.Info.{Info as InfoWords}
+use Rattle.check_steps.specs.declared.words.Make.{Make as MakeWords}
+
+-- a text of which a test said that it isn't empty
+pub not_empty : (text : List ℕ) (empty : Bool) → empty ≡ (length text == 0) → empty ≡ false → text ≢ []
+not_empty text empty test refused e = false≢true (sym refused ∙ test ∙ ap (λ t. length t == 0) e)
+
+-- four words that were read by their places
+pub four : {X : Type 0} (xs : List X) (a b c d : X) → 4 ≤ length xs → length xs < 5 → a ≡ get_or xs 0 a → b ≡ get_or xs 1 b → c ≡ get_or xs 2 c → d ≡ get_or xs 3 d → xs ≡ a ∷ b ∷ c ∷ d ∷ []
+four (x ∷ y ∷ z ∷ w ∷ []) a b c d low high ea eb ec ed = cc
+four xs a b c d low high ea eb ec ed = absurd (omega arith)
+
+pub two : {X : Type 0} (xs : List X) (a b : X) → 2 ≤ length xs → length xs < 3 → a ≡ get_or xs 0 a → b ≡ get_or xs 1 b → xs ≡ a ∷ b ∷ []
+two (x ∷ y ∷ []) a b low high ea eb = cc
+two xs a b low high ea eb = absurd (omega arith)
+
+pub three : {X : Type 0} (xs : List X) (a b c : X) → 3 ≤ length xs → length xs < 4 → a ≡ get_or xs 0 a → b ≡ get_or xs 1 b → c ≡ get_or xs 2 c → xs ≡ a ∷ b ∷ c ∷ []
+three (x ∷ y ∷ z ∷ []) a b c low high ea eb ec = cc
+three xs a b c low high ea eb ec = absurd (omega arith)
+
+-- what a name makes of words of the form
+pub asks_if : (words : List (List ℕ)) (file : List ℕ) (budget : ℕ) (result : Option InfoWords) → HaveInfoForm words file budget → IfSome result (λ info. (info.file.now ≡ file) × (info.budget ≡ budget) × (file ≢ [])) → IfSome result (λ info. AsksInfo words info.file.now info.budget)
+asks_if words file budget None form is = tt
+asks_if words file budget (Some info) form is = record {
+  form = subst (λ file. HaveInfoForm words file info.budget) (sym is.0) (subst (HaveInfoForm words file) (sym is.1) form);
+  named = λ e. is.2 (sym is.0 ∙ e);
+}
+
+four_up : {X : Type 0} (xs : List X) (a b c d : X) → 4 ≤ length xs → a ≡ get_or xs 0 a → b ≡ get_or xs 1 b → c ≡ get_or xs 2 c → d ≡ get_or xs 3 d → xs ≡ a ∷ b ∷ c ∷ d ∷ drop 4 xs
+four_up (x ∷ y ∷ z ∷ w ∷ rest) a b c d low ea eb ec ed = cc
+four_up xs a b c d low ea eb ec ed = absurd (omega arith)
+
+pub four_after : {X : Type 0} (xs : List X) (a b c d : X) → 4 ≤ length xs → a ≡ get_or xs 0 a → b ≡ get_or xs 1 b → c ≡ get_or xs 2 c → d ≡ get_or xs 3 d → xs ≡ a ∷ b ∷ c ∷ d ∷ between 4 (length xs) xs
+four_after xs a b c d low ea eb ec ed = four_up xs a b c d low ea eb ec ed ∙ ap (λ rest. a ∷ b ∷ c ∷ d ∷ rest) (sym (between_to_end xs 4 (length xs) (omega arith)))
+
+-- what names and numbers make of words of the form
+pub asks_match : (words : List (List ℕ)) (first second account : List ℕ) (numbers : List (List ℕ)) (result : Option MatchWords)
+    → words ≡ codes "match" ∷ first ∷ second ∷ account ∷ numbers
+    → IfSome result (λ asked. (asked.first.now ≡ first) × (asked.second.now ≡ second) × (asked.account.now ≡ account))
+    → IfSome result (λ asked. AreNames first second account)
+    → IfSome result (λ asked. AreBudgetAndSeed numbers asked.budget asked.seed)
+    → IfSome result (λ asked. AsksMatch words (sought_by asked))
+asks_match words first second account numbers None form are names_are numbers_are = tt
+asks_match words first second account numbers (Some asked) form are names_are numbers_are = record {
+  numbers = numbers;
+  form = form ∙ ap (λ name. codes "match" ∷ name ∷ second ∷ account ∷ numbers) (sym are.0) ∙ ap (λ name. codes "match" ∷ asked.first.now ∷ name ∷ account ∷ numbers) (sym are.1) ∙ ap (λ name. codes "match" ∷ asked.first.now ∷ asked.second.now ∷ name ∷ numbers) (sym are.2);
+  names = subst (λ name. AreNames name asked.second.now asked.account.now) (sym are.0) (subst (λ name. AreNames first name asked.account.now) (sym are.1) (subst (AreNames first second) (sym are.2) names_are));
+  numbers_are = numbers_are;
+}
+
+is_nothing : (text : List ℕ) → true ≡ (length text == 0) → text ≡ []
+is_nothing [] e = refl
+is_nothing (x ∷ text) e = elim (eqb_tells (length (x ∷ text)) 0) [ inl (t, same) ↦ absurd (omega (arith, same)) | inr (t, other) ↦ absurd (false≢true (sym t ∙ sym e)) ]
+
+names_if : (first second account : List ℕ) (a b c d e : Bool) → a ≡ (length first == 0) → b ≡ (length second == 0) → c ≡ (length account == 0) → d ≡ bytes_eq account first → e ≡ bytes_eq account second
+    → IsTrue (not ((((a || b) || c) || d) || e)) → AreNames first second account
+names_if first second account false false false false false ea eb ec ed ee t = record {
+  first_named = not_empty first false ea refl;
+  second_named = not_empty second false eb refl;
+  account_named = not_empty account false ec refl;
+  not_first = λ same. false≢true (ed ∙ (bytes_eq-Decides account first).1 same);
+  not_second = λ same. false≢true (ee ∙ (bytes_eq-Decides account second).1 same);
+}
+names_if first second account a b c d e ea eb ec ed ee t = absurd (false≢true t)
+
+only_names : (first second account : List ℕ) (a b c d e : Bool) → a ≡ (length first == 0) → b ≡ (length second == 0) → c ≡ (length account == 0) → d ≡ bytes_eq account first → e ≡ bytes_eq account second
+    → AreNames first second account → IsTrue (not ((((a || b) || c) || d) || e))
+only_names first second account true b c d e ea eb ec ed ee are = absurd (are.first_named (is_nothing first ea))
+only_names first second account false true c d e ea eb ec ed ee are = absurd (are.second_named (is_nothing second eb))
+only_names first second account false false true d e ea eb ec ed ee are = absurd (are.account_named (is_nothing account ec))
+only_names first second account false false false true e ea eb ec ed ee are = absurd (are.not_first ((bytes_eq-Decides account first).0 (sym ed)))
+only_names first second account false false false false true ea eb ec ed ee are = absurd (are.not_second ((bytes_eq-Decides account second).0 (sym ee)))
+only_names first second account false false false false false ea eb ec ed ee are = refl
+
+pub names_tested : (first second account : List ℕ) (a b c d e : Bool) → a ≡ (length first == 0) → b ≡ (length second == 0) → c ≡ (length account == 0) → d ≡ bytes_eq account first → e ≡ bytes_eq account second
+    → IsTrue (not ((((a || b) || c) || d) || e)) ↔ AreNames first second account
+names_tested first second account a b c d e ea eb ec ed ee = (names_if first second account a b c d e ea eb ec ed ee, only_names first second account a b c d e ea eb ec ed ee)
+
+-- what a number and two names make of words of the form
+pub asks_make : (words : List (List ℕ)) (word first second : List ℕ) (number : ℕ) (result : Option MakeWords)
+    → words ≡ codes "make" ∷ word ∷ first ∷ second ∷ []
+    → IsNumber word number
+    → IfSome result (λ made. (made.number ≡ number) × (made.first.now ≡ first) × (made.second.now ≡ second))
+    → IfSome result (λ made. AreTwoNames first second)
+    → IfSome result (λ made. AsksMake words (wanted_by made))
+asks_make words word first second number None form is are names = tt
+asks_make words word first second number (Some made) form is are names = record {
+  word = word;
+  form = form ∙ ap (λ name. codes "make" ∷ word ∷ name ∷ second ∷ []) (sym are.1) ∙ ap (λ name. codes "make" ∷ word ∷ made.first.now ∷ name ∷ []) (sym are.2);
+  number_is = subst (IsNumber word) (sym are.0) is;
+  names = subst (λ name. AreTwoNames name made.second.now) (sym are.1) (subst (AreTwoNames first) (sym are.2) names);
+}
+
+-- where the second word is no number, no pair is asked for
+pub not_make : (words : List (List ℕ)) (word : List ℕ) → get_or words 1 [] ≡ word → ((value : ℕ) → IsNumber word value → ⊥) → (wanted : Wanted) → AsksMake words wanted → ⊥
+not_make words word is none wanted asks =
+    let same : asks.word ≡ word = sym (ap (λ (words : List (List ℕ)). get_or words 1 []) asks.form) ∙ is in
+    none wanted.number (subst (λ w. IsNumber w wanted.number) same asks.number_is)
+
+-- what nothing says
+pub none_says : {X : Type 0} (P : Type 0) (result : Option X) → P → IfNone result P
+none_says P None holds = holds
+none_says P (Some x) holds = tt
+
+two_names_if : (first second : List ℕ) (a b c : Bool) → a ≡ (length first == 0) → b ≡ (length second == 0) → c ≡ bytes_eq second first → IsTrue (not ((a || b) || c)) → AreTwoNames first second
+two_names_if first second false false false ea eb ec t = record {
+  first_named = not_empty first false ea refl;
+  second_named = not_empty second false eb refl;
+  apart = λ same. false≢true (ec ∙ (bytes_eq-Decides second first).1 same);
+}
+two_names_if first second a b c ea eb ec t = absurd (false≢true t)
+
+only_two_names : (first second : List ℕ) (a b c : Bool) → a ≡ (length first == 0) → b ≡ (length second == 0) → c ≡ bytes_eq second first → AreTwoNames first second → IsTrue (not ((a || b) || c))
+only_two_names first second true b c ea eb ec are = absurd (are.first_named (is_nothing first ea))
+only_two_names first second false true c ea eb ec are = absurd (are.second_named (is_nothing second eb))
+only_two_names first second false false true ea eb ec are = absurd (are.apart ((bytes_eq-Decides second first).0 (sym ec)))
+only_two_names first second false false false ea eb ec are = refl
+
+pub two_names_tested : (first second : List ℕ) (a b c : Bool) → a ≡ (length first == 0) → b ≡ (length second == 0) → c ≡ bytes_eq second first → IsTrue (not ((a || b) || c)) ↔ AreTwoNames first second
+two_names_tested first second a b c ea eb ec = (two_names_if first second a b c ea eb ec, only_two_names first second a b c ea eb ec)

@@ -1,0 +1,16 @@
+-- Closing changes no file.
+use Rattle.std.proofs.Common.{rules, arith, ◌∙◌}
+use Rattle.check_steps.proofs.judging.judge_open.Goals as goal
+
+pub returns : goal.returns
+returns g c =
+    let judged = c.in_ok-outcome.ensures.judges in
+    record {
+      files = λ n. c.close.ensures.files n ∙ c.judge_by.ensures.judges.files n;
+      right = judged.right;
+      matches = judged.matches;
+      refuses = judged.refuses;
+      judged = judged.judged;
+      faults = omega (arith, c.judge_by.ensures.judges.faults, c.close.ensures.faults);
+      failed = search rules;
+    }

@@ -1,0 +1,22 @@
+-- The exit status of each outcome.
+use Rattle.std.specs.Prelude.{ℕ}
+use Rattle.check_steps.specs.declared.outcome.Outcome.{Outcome}
+use Rattle.check_steps.specs.declared.outcome.Outcome.TheVariants.{AcceptedMatch, AcceptedRefusal, Rejected, Matched, NoMatching, Spent, Usage, Absent, TooLarge, Malformed, Informed, Made, Tried, ReadFault, WriteFault, Memory}
+
+abbrev pub status_of : Outcome → ℕ
+status_of (AcceptedMatch matching) = 0
+status_of AcceptedRefusal = 1
+status_of (Rejected line why) = 2
+status_of (Matched matching) = 0
+status_of NoMatching = 1
+status_of Informed = 0
+status_of Made = 0
+status_of (Tried number account) = 0
+status_of (Spent ledger) = 3
+status_of Usage = 4
+status_of (Absent which) = 5
+status_of (TooLarge which) = 5
+status_of (Malformed which kind at) = 5
+status_of ReadFault = 6
+status_of WriteFault = 6
+status_of Memory = 7

@@ -1,0 +1,20 @@
+//! What a check runs, from its words to its report: netlists and an account are read from a shelf, and the account is
+//! judged. Nothing here searches or draws anything.
+#![tactic(auto)]
+
+mod checking;
+mod files;
+mod judging;
+mod netlists;
+mod outcome;
+mod report;
+mod words;
+
+pub use checking::check_files;
+pub use files::{File, PIECE, ReadStop, read_file, zeros};
+pub use netlists::read_netlist;
+pub use outcome::{Ending, Outcome, Which};
+pub use report::{report_line, report_named};
+pub use words::{
+    Check, Command, DEFAULT_BUDGET, DEFAULT_SEED, Info, Make, Match, Trial, command_asked,
+};

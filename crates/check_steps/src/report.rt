@@ -1,0 +1,115 @@
+//! The report of a run: what the program prints on its standard output.
+
+ghost use Rattle.std.specs.Prelude.{◌≡◌, [], ◌∷◌, ◌++◌, OnOk, IfOk, codes};
+ghost use Rattle.std.specs.Fmt.{decimal};
+ghost use Rattle.port_report.specs.Reports.{names_of};
+ghost use Rattle.check_steps.specs.Lines.{file_word, line_of, report_on, tried_line};
+ghost use Rattle.check_steps.specs.Judged.{IsMatchIfAny};
+
+use crate::outcome::{Outcome, Which};
+use net_file::{Named, NetKind};
+use port_report::{put_match, put_rejected};
+use std::alloc::{AllocError, Global};
+use text_core::put_decimal;
+
+/// The report of an outcome of two netlists: a line that names it, and after that of a match a line for each input
+/// and each output of the first netlist that says where it goes.
+pub fn report_named(
+    alloc: Global,
+    first: &Named,
+    second: &Named,
+    outcome: &Outcome,
+) -> Result<Vec<u8>, AllocError>
+    requires { IsMatchIfAny first.now.graph second.now.graph outcome.now }
+    ensures { IfOk result (λ text. text.items ≡ report_on (names_of first.now) (names_of second.now) outcome.now) }
+{
+    let mut text = report_line(alloc, outcome)?;
+    if let Outcome::AcceptedMatch(matching) | Outcome::Matched(matching) = outcome {
+        put_match(first, second, matching, &mut text)?;
+    }
+    Ok(text)
+}
+
+/// The line that names an outcome, by itself. A failed write has none.
+pub fn report_line(alloc: Global, outcome: &Outcome) -> Result<Vec<u8>, AllocError>
+    ensures { IfOk result (λ text. text.items ≡ line_of outcome.now) }
+{
+    let mut text = Vec::new(alloc);
+    put_line(outcome, &mut text)?;
+    Ok(text)
+}
+
+// Writes the line that names an outcome at the end of `out`.
+fn put_line(outcome: &Outcome, out: &mut Vec<u8>) -> Result<(), AllocError>
+    ensures { OnOk result (out.new.items ≡ out.old.items ++ line_of outcome.now) }
+{
+    match outcome {
+        Outcome::AcceptedMatch(_) => out.extend_from_slice(b"accepted match\n"),
+        Outcome::AcceptedRefusal => out.extend_from_slice(b"accepted refusal\n"),
+        Outcome::Rejected { line, why } => put_rejected(*line, why.word(), out),
+        Outcome::Matched(_) => out.extend_from_slice(b"matched\n"),
+        Outcome::NoMatching => out.extend_from_slice(b"no matching\n"),
+        Outcome::Spent(ledger) => put_spent(ledger.learned(), out),
+        Outcome::Informed => Ok(()),
+        Outcome::Made => out.extend_from_slice(b"made 64 32 2000\n"),
+        Outcome::Tried { number, .. } => put_tried(*number, out),
+        Outcome::Usage => out.extend_from_slice(b"usage\n"),
+        Outcome::Absent(which) => put_file(b"absent ", *which, out),
+        Outcome::TooLarge(which) => put_file(b"too large ", *which, out),
+        Outcome::Malformed { which, kind, at } => put_malformed(*which, *kind, *at, out),
+        Outcome::ReadFault => out.extend_from_slice(b"read fault\n"),
+        Outcome::WriteFault => Ok(()),
+        Outcome::Memory => out.extend_from_slice(b"out of memory\n"),
+    }
+}
+
+// Writes the line of a spent budget: how many clauses were learned.
+fn put_spent(learned: u64, out: &mut Vec<u8>) -> Result<(), AllocError>
+    ensures { OnOk result (out.new.items ≡ out.old.items ++ codes "spent " ++ decimal learned ++ 10 ∷ []) }
+{
+    out.extend_from_slice(b"spent ")?;
+    put_decimal(learned, out)?;
+    out.extend_from_slice(b"\n")
+}
+
+// Writes the line of a pair that was tried: its number, the answer, the verdict on the account, and the numbers of inputs,
+// outputs and gates of one netlist, which are those of every pair.
+fn put_tried(number: u64, out: &mut Vec<u8>) -> Result<(), AllocError>
+    ensures { OnOk result (out.new.items ≡ out.old.items ++ tried_line number) }
+{
+    out.extend_from_slice(b"trial ")?;
+    put_decimal(number, out)?;
+    out.extend_from_slice(b" matched accepted 64 32 2000\n")
+}
+
+// Writes a line that ends in the word for a file.
+fn put_file(what: &[u8], which: Which, out: &mut Vec<u8>) -> Result<(), AllocError>
+    ensures { OnOk result (out.new.items ≡ out.old.items ++ what.now ++ file_word which ++ 10 ∷ []) }
+{
+    out.extend_from_slice(what)?;
+    put_word(which, out)?;
+    out.extend_from_slice(b"\n")
+}
+
+// Writes the line of a malformed netlist: which file it is, the fault's number, and its offset.
+fn put_malformed(which: Which, kind: NetKind, at: u64, out: &mut Vec<u8>) -> Result<(), AllocError>
+    ensures { OnOk result (out.new.items ≡ out.old.items ++ line_of (Outcome.Malformed which kind at)) }
+{
+    out.extend_from_slice(b"malformed ")?;
+    put_word(which, out)?;
+    out.extend_from_slice(b" ")?;
+    put_decimal(u64::from(kind.number()), out)?;
+    out.extend_from_slice(b" ")?;
+    put_decimal(at, out)?;
+    out.extend_from_slice(b"\n")
+}
+
+fn put_word(which: Which, out: &mut Vec<u8>) -> Result<(), AllocError>
+    ensures { OnOk result (out.new.items ≡ out.old.items ++ file_word which) }
+{
+    match which {
+        Which::First => out.extend_from_slice(b"first"),
+        Which::Second => out.extend_from_slice(b"second"),
+        Which::Account => out.extend_from_slice(b"account"),
+    }
+}

@@ -1,9 +1,0 @@
--- What the bytes of the file are, said of what the name holds.
-use Rattle.std.proofs.Common.{rules, subst}
-use Rattle.run_steps.specs.Files.{Tells}
-use Rattle.run_steps.proofs.CheckLemmas.{reads_bytes}
-use Rattle.run_steps.proofs.netlists.read_netlist.Goals as goal
-
-pub returns-in-Bytes : goal.returns-in-Bytes
-returns-in-Bytes g c =
-    reads_bytes _ _ c.args.name.now _ _ c.in-Bytes.bytes.items c.deref.result.now _ (search rules) c.read_file.ensures.files c.in_ok-read_file.ensures.closed c.read_file.ensures.faults (λ tells. subst (λ file. Tells 67108864 ((g.S.Shelf.state c.args.shelf.now).held c.args.name.now) file) c.in-Bytes.is (c.in_ok-read_file.ensures.found tells)) c.parse_netlist.ensures.netlist c.parse_netlist.ensures.stop
