@@ -1,6 +1,6 @@
 -- What one file, or the verdict on an account, says of a check.
 use Rattle.std.proofs.Common.{◌≡◌, inl, inr, ℕ, Bool, IsTrue, List, Option, Result, Err, sym, subst}
-use Rattle.shelf_core.specs.Fault.{Rose}
+use Rattle.shelf_core.specs.Fault.{NoCallFollows, Rose}
 use Rattle.shelf_core.specs.State.{ShelfState}
 use Rattle.net_core.specs.Sides.{Graphs}
 use Rattle.check_steps.specs.Check.{IsAsked}
@@ -63,8 +63,8 @@ asks_both held content words f g t first second same asks holds other = record {
 }
 
 -- the files were read up to an outcome that ends the check
-pub check_stopped : (tells : Bool) (check : Check) (old new : ShelfState) (result : Result Ending Outcome) (o : Outcome) → result ≡ Err o → ((n : List ℕ) → new.held n ≡ old.held n) → (IsTrue tells → (words : List (List ℕ)) → AskFor words check → IsOfCheck old.held words o) → IsOfReading o → (o ≡ ReadFault → Rose old.faults new.faults) → Checks tells check old new result
-check_stopped tells check old new result o same files right reading failed =
+pub check_stopped : (tells : Bool) (check : Check) (old new : ShelfState) (result : Result Ending Outcome) (o : Outcome) → result ≡ Err o → ((n : List ℕ) → new.held n ≡ old.held n) → (IsTrue tells → (words : List (List ℕ)) → AskFor words check → IsOfCheck old.held words o) → IsOfReading o → NoCallFollows old new → (o ≡ ReadFault → Rose old.faults new.faults) → Checks tells check old new result
+check_stopped tells check old new result o same files right reading last failed =
     subst (λ r. Checks tells check old new r) (sym same) (record {
       files = files;
       right = right;
@@ -72,5 +72,6 @@ check_stopped tells check old new result o same files right reading failed =
       report = λ words asks. tt;
       judged = tt;
       early = reading;
+      last = last;
       failed = λ e. failed (cc e);
     })

@@ -1,6 +1,7 @@
 -- How far the check of an account has come, piece by piece.
 use Rattle.std.proofs.Common.{◌≡◌, ◌≢◌, ℕ, ◌+◌, ◌-◌, ◌<◌, ◌≤◌, Bool, IsTrue, List, [], ◌++◌, length, take, Option, Some, Result, Ok, Err, IfOk, refl, sym, ap, subst, ◌∙◌, inl, inr, arith, append_assoc, append-nil, length-append, length-take-le}
 use Rattle.std.proofs.lemmas.List.{nil_from_length}
+use Rattle.std.proofs.lemmas.Result.{on_ok_weaker}
 use Rattle.net_core.specs.Graph.{IsGraph}
 use Rattle.net_core.specs.Sides.{Graphs}
 use Rattle.shelf_core.specs.Calls.{Reads}
@@ -13,7 +14,7 @@ use Rattle.account_check.specs.declared.verdict.CheckStop.{CheckStop}
 use Rattle.account_check.specs.declared.verdict.CheckStop.TheVariants as check
 use Rattle.account_check.specs.declared.verdict.Why.{Why}
 use Rattle.account_check.proofs.RefusalLemmas.{right_refusal}
-use Rattle.check_steps.specs.Judging.{FeedsNext, FeedsRest, JudgesRest, halt_of}
+use Rattle.check_steps.specs.Judging.{FeedsNext, FeedsRest, IfAnswered, JudgesRest, halt_of}
 use Rattle.check_steps.specs.Judged.{IsJudged, IsMatchIfAny, IsUnequalIfRefused, IsVerdict, Judges}
 use Rattle.check_steps.specs.Files.{HasUnread}
 use Rattle.check_steps.specs.ReadStops.{stop_of}
@@ -23,14 +24,14 @@ use Rattle.check_steps.specs.declared.judging.Halt.{Halt}
 use Rattle.check_steps.specs.declared.judging.Halt.TheVariants as halt
 use Rattle.check_steps.specs.declared.outcome.Outcome.{Outcome}
 use Rattle.check_steps.specs.declared.outcome.Outcome.TheVariants.{Rejected}
-use Rattle.shelf_core.proofs.FaultLemmas.{rose_later}
+use Rattle.shelf_core.proofs.FaultLemmas.{if_ok, none_before, none_failed, one_call, rose_after}
 
 -- Of the `size` unread bytes of an account, all but `left` were read, and their whole lines are valid, for any two circuits
 -- that the check is of.
 pub record IsFeeding (tells : Bool) (start now : ShelfState) (before after : Progress) (size left : ℕ) : Type 0 where
   pub unread : HasUnread tells now left
   pub files : (n : List ℕ) → now.held n ≡ start.held n
-  pub faults : start.faults ≤ now.faults
+  pub clean : now.faults ≡ start.faults
   pub taken : (graphs : Graphs) → HasTaken graphs [] before
       → (bytes : List ℕ) × HasTaken graphs bytes after × (length bytes + left ≡ size) × (IsTrue tells → bytes ++ now.unread ≡ start.unread)
 
@@ -56,7 +57,8 @@ judged_by tells graphs old new result first second rest = record {
   matches = rest.matches;
   refuses = refuses result rest.verdict;
   judged = rest.judged;
-  faults = rest.faults;
+  clean = rest.clean;
+  last = rest.last;
   failed = rest.failed;
 }
   where
@@ -79,7 +81,8 @@ settled_by tells graphs old new progress done result feeds verdict matches judge
   verdict = told result (verdict feeds.taken.0 feeds.taken.1);
   matches = matches feeds.taken.0 feeds.taken.1;
   judged = judged;
-  faults = feeds.faults;
+  clean = if_ok result feeds.clean;
+  last = feeds.last;
   failed = λ is. absurd (no_fault is);
 }
   where
@@ -95,7 +98,8 @@ stopped_by tells graphs old new progress fed halted feeds is = record {
   verdict = tt;
   matches = tt;
   judged = tt;
-  faults = feeds.faults;
+  clean = tt;
+  last = feeds.last;
   failed = λ e. feeds.failed (is ∙ ap (λ (s : ReadStop). Err (halt.Stop s)) (same e));
 }
   where
@@ -114,7 +118,8 @@ rejected_by tells graphs old new progress fed line reason feeds is =
         | inr same ↦ cc
       ];
       judged = record { asked = λ e. cc; no_rows = λ e. cc; read = λ e. cc; unwritten = λ e. cc; no_match = λ e. cc; no_pair = λ e. cc; no_trial = λ number account e. cc; unmatched = λ matching e. cc };
-      faults = feeds.faults;
+      clean = subst (λ answer. IfAnswered answer (new.faults ≡ old.faults)) is feeds.clean;
+      last = feeds.last;
       failed = λ e. cc;
     }
 
@@ -132,7 +137,7 @@ feeding_on tells start old new before now after size left count so_far next grap
         told = λ told. omega (arith, ap length (more.taken.3 told), length-append more.taken.0 new.unread, more.taken.1, so_far.unread.told told);
       };
       files = λ n. more.files n ∙ so_far.files n;
-      faults = omega (arith, more.faults, so_far.faults);
+      clean = more.clean ∙ so_far.clean;
       taken = λ g has. taken g (so_far.taken g has);
     }
   where
@@ -160,7 +165,8 @@ fed_all tells start now before after size left so_far none graphs begun =
         λ told. sym (append-nil held.0) ∙ (ap (λ l. held.0 ++ l) (sym (nil_from_length now.unread (omega (arith, so_far.unread.told told, none)))) ∙ held.3 told),
       );
       bad = λ line reason e. cc;
-      faults = so_far.faults;
+      clean = so_far.clean;
+      last = none_failed start now so_far.clean;
       failed = λ e. cc;
     }
 
@@ -177,10 +183,15 @@ fed_part tells start old new before now after size left halted result so_far nex
       mode = more.mode;
       taken = tt;
       bad = λ line reason e. bad held (more.bad line reason (as_next line reason e));
-      faults = omega (arith, more.faults, so_far.faults);
-      failed = λ e. rose_later start.faults old.faults new.faults so_far.faults more.faults (more.failed (as_fault e));
+      clean = clean halted more.clean;
+      last = none_before start old new so_far.clean more.last;
+      failed = λ e. rose_after start.faults old.faults new.faults so_far.clean (more.failed (as_fault e));
     })
   where
+    clean : (h : Halt) → IfAnswered {T = ℕ} (Err h) (new.faults ≡ old.faults) → IfAnswered {T = Unit {0}} (Err h) (new.faults ≡ start.faults)
+    clean (halt.Bad line reason) e = e ∙ so_far.clean
+    clean (halt.Stop s) e = tt
+
     as_next : (line : ℕ) (reason : Why) → ◌≡◌ {A = Result (Unit {0}) Halt} (Err halted) (Err (halt.Bad line reason)) → ◌≡◌ {A = Result ℕ Halt} (Err halted) (Err (halt.Bad line reason))
     as_next line reason e = let same : halted ≡ halt.Bad line reason = cc in ap (λ (h : Halt). Err h) same
 
@@ -205,7 +216,8 @@ fed_next tells graphs bytes old new buffer after count progress reads some room 
   left = (reads.some some room, reads.left);
   taken = (take count after, length-take-le count after within, feeds, reads.bytes);
   bad = λ line reason e. cc;
-  faults = reads.faults;
+  clean = reads.clean;
+  last = one_call old new reads.counted;
   failed = λ e. cc;
 }
 
@@ -220,12 +232,17 @@ fed_badly tells graphs bytes old new buffer after count progress check_stop resu
       left = tt;
       taken = tt;
       bad = λ line reason e. (take count after, bad_by graphs (bytes ++ take count after) progress check_stop line reason feeds (same line reason e), reads.bytes);
-      faults = reads.faults;
+      clean = clean check_stop;
+      last = one_call old new reads.counted;
       failed = λ e. absurd (no_fault check_stop e);
     })
   where
     same : (line : ℕ) (reason : Why) → ◌≡◌ {A = Result ℕ Halt} (Err (halt_of check_stop)) (Err (halt.Bad line reason)) → halt_of check_stop ≡ halt.Bad line reason
     same line reason e = cc
+
+    clean : (s : CheckStop) → IfAnswered {T = ℕ} (Err (halt_of s)) (new.faults ≡ old.faults)
+    clean (check.Rejected line reason) = reads.clean
+    clean check.Memory = tt
 
     no_fault : (s : CheckStop) → ◌≡◌ {A = Result ℕ Halt} (Err (halt_of s)) (Err (halt.Stop stop.ReadFault)) → ⊥
     no_fault (check.Rejected line reason) e = cc
@@ -242,7 +259,8 @@ fed_nothing tells graphs bytes old new buffer after progress shelf_stop result r
       left = tt;
       taken = tt;
       bad = λ line reason e. cc;
-      faults = reads.faults;
+      clean = tt;
+      last = one_call old new reads.counted;
       failed = λ e. reads.failed (failed shelf_stop e);
     })
   where
@@ -251,14 +269,15 @@ fed_nothing tells graphs bytes old new buffer after progress shelf_stop result r
     failed Memory e = cc
 
 -- what is judged of the account once it is open
-pub judged_open : (tells : Bool) (graphs : Graphs) (content : Option (List ℕ)) (old open' new : ShelfState) (result : Result Outcome ReadStop) → ((n : List ℕ) → open'.held n ≡ old.held n) → old.faults ≤ open'.faults → (IsTrue tells → content ≡ Some open'.unread)
+pub judged_open : (tells : Bool) (graphs : Graphs) (content : Option (List ℕ)) (old open' new : ShelfState) (result : Result Outcome ReadStop) → ((n : List ℕ) → open'.held n ≡ old.held n) → open'.faults ≡ old.faults → (IsTrue tells → content ≡ Some open'.unread)
     → Judges tells graphs (Some open'.unread) open' new result → Judges tells graphs content old new result
-judged_open tells graphs content old open' new result files faults same judges = record {
+judged_open tells graphs content old open' new result files clean same judges = record {
   files = λ n. judges.files n ∙ files n;
   right = λ told. subst (λ c. IfOk result (IsVerdict graphs c)) (sym (same told)) (judges.right told);
   matches = judges.matches;
   refuses = judges.refuses;
   judged = judges.judged;
-  faults = omega (arith, faults, judges.faults);
-  failed = λ e. rose_later old.faults open'.faults new.faults faults judges.faults (judges.failed e);
+  clean = on_ok_weaker result (λ later. later ∙ clean) judges.clean;
+  last = none_before old open' new clean judges.last;
+  failed = λ e. rose_after old.faults open'.faults new.faults clean (judges.failed e);
 }

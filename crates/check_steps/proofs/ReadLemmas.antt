@@ -2,6 +2,7 @@
 use Rattle.std.proofs.Common.{◌≡◌, ℕ, ◌≤◌, Bool, IsTrue, List, length, Option, Some, Result, Ok, Err, IfOk, IfErr, refl, sym, subst}
 use Rattle.check_steps.specs.Ends.{EndsAt}
 use Rattle.net_file.specs.declared.named.Named.{Named}
+use Rattle.shelf_core.proofs.FaultLemmas.{none_failed}
 use Rattle.shelf_core.specs.State.{ShelfState, Closed}
 use Rattle.check_steps.specs.Reading.{ReadAs, IsOfReading, IsStopOf, ReadsNetlist}
 use Rattle.check_steps.specs.Stops.{outcome_of}
@@ -33,8 +34,8 @@ stop_is_of_reading file bytes Memory fact = of_reading Memory tt
 stop_is_of_reading file bytes other fact = absurd fact
 
 -- a file of few bytes was read
-reads_same : (tells : Bool) (file : Which) (name : List ℕ) (old new : ShelfState) (bytes : List ℕ) (result : Result Named Outcome) → ((n : List ℕ) → new.held n ≡ old.held n) → new.mode ≡ Closed → old.faults ≤ new.faults → (IsTrue tells → (old.held name ≡ Some bytes) × (length bytes ≤ 67108864)) → IfOk result (λ named. ReadAs bytes named.graph named.input_names named.output_names) → IfErr result (IsStopOf file bytes) → ReadsNetlist tells file name old new result
-reads_same tells file name old new bytes (Ok named) files closed faults found is stop = record {
+reads_same : (tells : Bool) (file : Which) (name : List ℕ) (old new : ShelfState) (bytes : List ℕ) (result : Result Named Outcome) → ((n : List ℕ) → new.held n ≡ old.held n) → new.mode ≡ Closed → new.faults ≡ old.faults → (IsTrue tells → (old.held name ≡ Some bytes) × (length bytes ≤ 67108864)) → IfOk result (λ named. ReadAs bytes named.graph named.input_names named.output_names) → IfErr result (IsStopOf file bytes) → ReadsNetlist tells file name old new result
+reads_same tells file name old new bytes (Ok named) files closed clean found is stop = record {
   files = files;
   closed = closed;
   found = record {
@@ -47,19 +48,21 @@ reads_same tells file name old new bytes (Ok named) files closed faults found is
   };
   ended = λ t. tt;
   reading = tt;
-  faults = faults;
+  clean = clean;
+  last = none_failed old new clean;
   failed = λ e. cc;
 }
-reads_same tells file name old new bytes (Err o) files closed faults found is stop = record {
+reads_same tells file name old new bytes (Err o) files closed clean found is stop = record {
   files = files;
   closed = tt;
   found = tt;
   ended = λ t. stop_ends file (old.held name) bytes (found t).0 (found t).1 o stop;
   reading = stop_is_of_reading file bytes o stop;
-  faults = faults;
+  clean = tt;
+  last = none_failed old new clean;
   failed = λ e. let same : o ≡ ReadFault = cc in absurd (subst (IsStopOf file bytes) same stop);
 }
 
-pub reads_bytes : (tells : Bool) (file : Which) (name : List ℕ) (old new : ShelfState) (bytes read : List ℕ) (result : Result Named Outcome) → read ≡ bytes → ((n : List ℕ) → new.held n ≡ old.held n) → new.mode ≡ Closed → old.faults ≤ new.faults → (IsTrue tells → (old.held name ≡ Some bytes) × (length bytes ≤ 67108864)) → IfOk result (λ named. ReadAs read named.graph named.input_names named.output_names) → IfErr result (IsStopOf file read) → ReadsNetlist tells file name old new result
-reads_bytes tells file name old new bytes read result same files closed faults found is stop =
-    reads_same tells file name old new read result files closed faults (λ t. subst (λ b. (old.held name ≡ Some b) × (length b ≤ 67108864)) (sym same) (found t)) is stop
+pub reads_bytes : (tells : Bool) (file : Which) (name : List ℕ) (old new : ShelfState) (bytes read : List ℕ) (result : Result Named Outcome) → read ≡ bytes → ((n : List ℕ) → new.held n ≡ old.held n) → new.mode ≡ Closed → new.faults ≡ old.faults → (IsTrue tells → (old.held name ≡ Some bytes) × (length bytes ≤ 67108864)) → IfOk result (λ named. ReadAs read named.graph named.input_names named.output_names) → IfErr result (IsStopOf file read) → ReadsNetlist tells file name old new result
+reads_bytes tells file name old new bytes read result same files closed clean found is stop =
+    reads_same tells file name old new read result files closed clean (λ t. subst (λ b. (old.held name ≡ Some b) × (length b ≤ 67108864)) (sym same) (found t)) is stop

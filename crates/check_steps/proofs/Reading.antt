@@ -1,5 +1,5 @@
 -- How far the reading of a file has come.
-use Rattle.std.proofs.Common.{◌≡◌, ℕ, ◌+◌, ◌≤◌, Bool, IsTrue, List, ◌++◌, length}
+use Rattle.std.proofs.Common.{◌≡◌, ℕ, ◌+◌, Bool, IsTrue, List, ◌++◌, length}
 use Rattle.shelf_core.specs.State.{ShelfState}
 use Rattle.check_steps.specs.Files.{HasUnread}
 
@@ -8,4 +8,4 @@ pub record IsUnderWay (tells : Bool) (start now : ShelfState) (done : List ℕ) 
   pub done_is : length done + left ≡ size
   pub bytes : IsTrue tells → done ++ now.unread ≡ start.unread
   pub files : (n : List ℕ) → now.held n ≡ start.held n
-  pub faults : start.faults ≤ now.faults
+  pub clean : now.faults ≡ start.faults

@@ -1,6 +1,6 @@
 -- What a check does, and what its outcome says of the words and the files.
 use Rattle.std.specs.Prelude.{◌≡◌, ℕ, Bool, IsTrue, List, Option, Result, Ok, Err, IfOk, IfErr}
-use Rattle.shelf_core.specs.Fault.{Rose}
+use Rattle.shelf_core.specs.Fault.{NoCallFollows, Rose}
 use Rattle.shelf_core.specs.State.{ShelfState}
 use Rattle.net_core.specs.declared.matching.Matching.{Matching}
 use Rattle.account_check.specs.declared.verdict.Verdict.TheVariants as verdict
@@ -69,5 +69,6 @@ pub record Checks (tells : Bool) (check : Check) (old new : ShelfState) (result 
   -- whatever the shelf tells, the outcome is that of an account, or came before both netlists were read
   pub judged : IfOk result (λ ending. IsJudged ending.outcome)
   pub early : IfErr result IsOfReading
-  -- a fault has its cause outside
+  -- a fault has its cause outside, and no call follows it
+  pub last : NoCallFollows old new
   pub failed : result ≡ Err ReadFault → Rose old.faults new.faults

@@ -1,6 +1,6 @@
 -- What reading a file whole does.
 use Rattle.std.specs.Prelude.{◌≡◌, ℕ, ◌+◌, ◌<◌, ◌≤◌, Bool, IsTrue, List, ◌++◌, length, Option, None, Some, Result, Err, IfOk, OnOk}
-use Rattle.shelf_core.specs.Fault.{Rose}
+use Rattle.shelf_core.specs.Fault.{NoCallFollows, Rose}
 use Rattle.shelf_core.specs.State.{ShelfState, Closed, Reading}
 use Rattle.check_steps.specs.declared.files.File.{File}
 use Rattle.check_steps.specs.declared.files.File.TheVariants.{Absent, TooLong, Bytes}
@@ -31,7 +31,8 @@ pub record ReadsFile (tells : Bool) (limit : ℕ) (held : Option (List ℕ)) (ol
   pub closed : OnOk result (new.mode ≡ Closed)
   pub found : IsTrue tells → IfOk result (Tells limit held)
   pub short : IfOk result (IsWithin limit)
-  pub faults : old.faults ≤ new.faults
+  pub clean : OnOk result (new.faults ≡ old.faults)
+  pub last : NoCallFollows old new
   pub failed : result ≡ Err ReadFault → Rose old.faults new.faults
 
 -- Reading once, and adding what came to what was there.
@@ -43,5 +44,6 @@ pub record ReadsPiece (tells : Bool) (old new : ShelfState) (before after : List
   pub grown : IfOk result (λ count. length after ≡ length before + count)
   pub bytes : IsTrue tells → IfOk result (λ count. after ++ new.unread ≡ before ++ old.unread)
   pub unread : IsTrue tells → IfOk result (λ count. count + length new.unread ≡ length old.unread)
-  pub faults : old.faults ≤ new.faults
+  pub clean : OnOk result (new.faults ≡ old.faults)
+  pub last : NoCallFollows old new
   pub failed : result ≡ Err ReadFault → Rose old.faults new.faults

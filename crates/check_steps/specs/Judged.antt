@@ -1,8 +1,8 @@
 -- What an account says of two graphs.
-use Rattle.std.specs.Prelude.{◌≡◌, ◌≢◌, ℕ, ◌≤◌, Bool, IsTrue, List, Option, None, Some, Result, Err, IfOk}
+use Rattle.std.specs.Prelude.{◌≡◌, ◌≢◌, ℕ, Bool, IsTrue, List, Option, None, Some, Result, Err, IfOk, OnOk}
 use Rattle.circuits.specs.Matches.{IsMatchOfFunctions, HaveNpnpEqualFunctions}
 use Rattle.circuits.specs.Netlists.{Net}
-use Rattle.shelf_core.specs.Fault.{Rose}
+use Rattle.shelf_core.specs.Fault.{NoCallFollows, Rose}
 use Rattle.shelf_core.specs.State.{ShelfState}
 use Rattle.net_core.specs.Sides.{Graphs}
 use Rattle.net_core.specs.declared.matching.Matching.{Matching}
@@ -58,5 +58,6 @@ pub record Judges (tells : Bool) (graphs : Graphs) (content : Option (List ℕ))
   pub matches : IfOk result (IsMatchIfAny graphs.first graphs.second)
   pub refuses : IfOk result (IsUnequalIfRefused graphs.first graphs.second)
   pub judged : IfOk result IsJudged
-  pub faults : old.faults ≤ new.faults
+  pub clean : OnOk result (new.faults ≡ old.faults)
+  pub last : NoCallFollows old new
   pub failed : result ≡ Err stop.ReadFault → Rose old.faults new.faults

@@ -1,6 +1,6 @@
 -- How an account is checked as it is read.
-use Rattle.std.specs.Prelude.{◌≡◌, ℕ, ◌+◌, ◌<◌, ◌≤◌, Bool, IsTrue, List, ◌++◌, length, Some, Result, Err, IfOk, OnOk}
-use Rattle.shelf_core.specs.Fault.{Rose}
+use Rattle.std.specs.Prelude.{◌≡◌, ℕ, ◌+◌, ◌<◌, Bool, IsTrue, List, ◌++◌, length, Some, Result, Ok, Err, IfOk, OnOk}
+use Rattle.shelf_core.specs.Fault.{NoCallFollows, Rose}
 use Rattle.shelf_core.specs.State.{ShelfState, Reading}
 use Rattle.net_core.specs.Sides.{Graphs}
 use Rattle.account_check.specs.declared.verdict.CheckStop.{CheckStop}
@@ -20,6 +20,12 @@ abbrev pub halt_of : CheckStop → Halt
 halt_of (check.Rejected line why) = halt.Bad line why
 halt_of check.Memory = halt.Stop stop.Memory
 
+-- a fact, unless the shelf failed or memory ran out
+abbrev pub IfAnswered : {T : Type 0} → Result T Halt → Type 0 → Type 0
+IfAnswered (Ok value) P = P
+IfAnswered (Err (halt.Bad line why)) P = P
+IfAnswered (Err (halt.Stop stop)) P = Unit {0}
+
 -- Reading once, after these bytes, and checking what came: it is all right, or a line is bad whatever comes after it.
 pub record FeedsNext (tells : Bool) (graphs : Graphs) (bytes : List ℕ) (old new : ShelfState) (progress : Progress)
     (result : Result ℕ Halt) : Type 0 where
@@ -31,7 +37,8 @@ pub record FeedsNext (tells : Bool) (graphs : Graphs) (bytes : List ℕ) (old ne
   pub bad : (line : ℕ) (why : Why) → result ≡ Err (halt.Bad line why)
       → (piece : List ℕ) × ((more : List ℕ) → IsBadAt graphs ((bytes ++ piece) ++ more) line why)
       × (IsTrue tells → piece ++ new.unread ≡ old.unread)
-  pub faults : old.faults ≤ new.faults
+  pub clean : IfAnswered result (new.faults ≡ old.faults)
+  pub last : NoCallFollows old new
   pub failed : result ≡ Err (halt.Stop stop.ReadFault) → Rose old.faults new.faults
 
 -- Checking all unread bytes of an account, of which none was checked yet: all its whole lines are valid, or a line is bad.
@@ -42,7 +49,8 @@ pub record FeedsRest (tells : Bool) (graphs : Graphs) (old new : ShelfState) (pr
   pub taken : OnOk result ((account : List ℕ) × HasTaken graphs account progress × (IsTrue tells → account ≡ old.unread))
   pub bad : (line : ℕ) (why : Why) → result ≡ Err (halt.Bad line why)
       → (account : List ℕ) × IsBadAt graphs account line why × (IsTrue tells → account ≡ old.unread)
-  pub faults : old.faults ≤ new.faults
+  pub clean : IfAnswered result (new.faults ≡ old.faults)
+  pub last : NoCallFollows old new
   pub failed : result ≡ Err (halt.Stop stop.ReadFault) → Rose old.faults new.faults
 
 -- What the unread bytes of an account come to.
@@ -53,5 +61,6 @@ pub record JudgesRest (tells : Bool) (graphs : Graphs) (old new : ShelfState) (r
       × (IsTrue tells → account ≡ old.unread))
   pub matches : IfOk result (IsMatchIfAny graphs.first graphs.second)
   pub judged : IfOk result IsJudged
-  pub faults : old.faults ≤ new.faults
+  pub clean : OnOk result (new.faults ≡ old.faults)
+  pub last : NoCallFollows old new
   pub failed : result ≡ Err stop.ReadFault → Rose old.faults new.faults

@@ -4,7 +4,7 @@ use Rattle.circuits.specs.Circuits.{Circuit}
 use Rattle.circuits.specs.Functions.{Computes}
 use Rattle.circuits.specs.Levels.{IsAcyclic, IsOrderOf}
 use Rattle.circuits.specs.Netlists.{Net}
-use Rattle.shelf_core.specs.Fault.{Rose}
+use Rattle.shelf_core.specs.Fault.{NoCallFollows, Rose}
 use Rattle.shelf_core.specs.State.{ShelfState, Closed}
 use Rattle.net_file.specs.declared.named.Named.{Named}
 use Rattle.check_steps.specs.Circuits.{IsCircuit, IsCircuitFault}
@@ -63,5 +63,6 @@ pub record ReadsNetlist (tells : Bool) (file : Which) (name : List ℕ) (old new
   pub found : IfOk result (IsReadFrom tells (old.held name))
   pub ended : IsTrue tells → IfErr result (EndsAt file (old.held name))
   pub reading : IfErr result IsOfReading
-  pub faults : old.faults ≤ new.faults
+  pub clean : OnOk result (new.faults ≡ old.faults)
+  pub last : NoCallFollows old new
   pub failed : result ≡ Err ReadFault → Rose old.faults new.faults

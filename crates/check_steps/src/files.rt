@@ -1,7 +1,7 @@
 //! Whole files from a shelf.
 
 ghost use Rattle.std.specs.Prelude.{◌≡◌, ℕ, ◌<◌, ◌≤◌, List, IsTrue, IfOk, OnOk, Some, Err, length, replicate};
-ghost use Rattle.shelf_core.specs.Fault.{Rose};
+ghost use Rattle.shelf_core.specs.Fault.{NoCallFollows, Rose};
 ghost use Rattle.shelf_core.specs.State.{Closed, Reading};
 ghost use Rattle.check_steps.specs.Files.{HasUnread, ReadsFile, ReadsPiece};
 
@@ -106,7 +106,8 @@ fn read_rest<S: Shelf>(
     ensures size { IfOk result (λ bytes. length bytes.items ≡ size) }
     ensures reading { OnOk result ((S.state shelf.new).mode ≡ Reading) }
     ensures files { (n : List ℕ) → (S.state shelf.new).held n ≡ (S.state shelf.old).held n }
-    ensures faults { (S.state shelf.old).faults ≤ (S.state shelf.new).faults }
+    ensures clean { OnOk result ((S.state shelf.new).faults ≡ (S.state shelf.old).faults) }
+    ensures last { NoCallFollows (S.state shelf.old) (S.state shelf.new) }
     ensures failed { result ≡ Err ReadStop.ReadFault
         → Rose (S.state shelf.old).faults (S.state shelf.new).faults }
 {

@@ -3,7 +3,7 @@
 ghost use Rattle.std.specs.Prelude.{◌≡◌, ◌≢◌, ℕ, ◌++◌, ◌↔◌, ◌⊎◌, List, IsTrue, Some, Err, map, string_bytes};
 ghost use Rattle.net_core.specs.declared.matching.Matching.{Matching};
 ghost use Rattle.net_file.specs.declared.fault.NetKind.{NetKind};
-ghost use Rattle.shelf_core.specs.Fault.{Rose};
+ghost use Rattle.shelf_core.specs.Fault.{NoCallFollows, NoPutFollows, Rose};
 ghost use Rattle.shelf_core.specs.State.{Closed};
 ghost use Rattle.account_check.specs.declared.verdict.Why.{Why as Reason};
 ghost use Rattle.check_steps.specs.declared.outcome.Outcome.{Outcome as AnyOutcome};
@@ -151,14 +151,19 @@ pub fn run<S: Shelf, K: Sink>(
         → shelf.new ≡ shelf.old }
 
     // A fault has its cause outside, in this call: the output; or the shelf, where the words name files that are read, or
-    // files that are written.
+    // files that are written, and then nothing is put.
     ensures read_fault { result ≡ Outcome.ReadFault
         → ReadFiles (map string_bytes words.now)
         × Rose (S.state shelf.old).faults (S.state shelf.new).faults }
     ensures write_fault { result ≡ Outcome.WriteFault
         → Rose (K.state out.old).faults (K.state out.new).faults
         ⊎ (WriteFiles (map string_bytes words.now)
-        × Rose (S.state shelf.old).faults (S.state shelf.new).faults) }
+        × Rose (S.state shelf.old).faults (S.state shelf.new).faults
+        × (out.new ≡ out.old)) }
+
+    // After a call of the shelf that failed no further one is made, and after a put that failed nothing is put.
+    ensures no_call_follows { NoCallFollows (S.state shelf.old) (S.state shelf.new) }
+    ensures no_put_follows { NoPutFollows (K.state out.old) (K.state out.new) }
 
     // No file changes but the account of a match, and that one only where there is an answer, and the two files of a pair. A
     // failed write or running out of memory may leave a first part of an account that is accepted, or of the pair's first
@@ -209,6 +214,7 @@ fn answer<S: Shelf, W: Watch>(alloc: Global, words: &[String], shelf: &mut S, wa
     ensures write_fault { result.outcome ≡ Outcome.WriteFault
         → WriteFiles (map string_bytes words.now)
         × Rose (S.state shelf.old).faults (S.state shelf.new).faults }
+    ensures no_call_follows { NoCallFollows (S.state shelf.old) (S.state shelf.new) }
     ensures by_words { FollowsWords (map string_bytes words.now) result.outcome }
     ensures usage { result.outcome ≡ Outcome.Usage → AskNothing (map string_bytes words.now) }
     ensures trial_no_call { (number : ℕ) → AsksTrial (map string_bytes words.now) number
@@ -268,7 +274,9 @@ fn tell<K: Sink>(ending: Ending, out: &mut K) -> Outcome
         ⊎ WritesPart (K.state out.old) (K.state out.new) (line_of Outcome.Memory) }
     ensures same { IsTold result → result ≡ ending.outcome }
     ensures write_fault { result ≡ Outcome.WriteFault
-        → (ending.outcome ≡ Outcome.WriteFault) ⊎ Rose (K.state out.old).faults (K.state out.new).faults }
+        → ((ending.outcome ≡ Outcome.WriteFault) × (out.new ≡ out.old))
+        ⊎ Rose (K.state out.old).faults (K.state out.new).faults }
+    ensures no_put_follows { NoPutFollows (K.state out.old) (K.state out.new) }
 {
     let Ending { outcome, report } = ending;
     match outcome {

@@ -1,6 +1,6 @@
 -- The words and the files determine what is answered.
 use Rattle.std.proofs.Common.{◌≡◌, ◌≢◌, ℕ, ◌↔◌, ◌⊎◌, inl, inr, Bool, IsTrue, List, length, Option, None, Some, Result, Ok, Err, refl, sym, ◌∙◌, ap, subst, arith}
-use Rattle.shelf_core.specs.Fault.{Rose}
+use Rattle.shelf_core.specs.Fault.{NoCallFollows, Rose}
 use Rattle.circuits.specs.Levels.{IsOrderOf}
 use Rattle.circuits.specs.Netlists.{Net}
 use Rattle.circuits.proofs.OneOrder.{one_order}
@@ -529,8 +529,8 @@ pub leaves_early : (before after : List ℕ → Option (List ℕ)) (words : List
 leaves_early before after words o early same = leaves before after words o (λ matching e. early.line.unmatched matching (inr e)) early.no_match early.no_pair same
 
 -- the files were read up to an outcome that ends the run
-pub stopped : (tells : Bool) (command : Command) (old new : ShelfState) (result : Result Ending Outcome) (o : Outcome) → IsReadingCommand command → result ≡ Err o → ((n : List ℕ) → new.held n ≡ old.held n) → (IsTrue tells → (words : List (List ℕ)) → Ask words command → IsRight old.held words o) → IsOfReading o → (o ≡ ReadFault → Rose old.faults new.faults) → Decides tells command old new result
-stopped tells command old new result o reader same files right reading failed =
+pub stopped : (tells : Bool) (command : Command) (old new : ShelfState) (result : Result Ending Outcome) (o : Outcome) → IsReadingCommand command → result ≡ Err o → ((n : List ℕ) → new.held n ≡ old.held n) → (IsTrue tells → (words : List (List ℕ)) → Ask words command → IsRight old.held words o) → IsOfReading o → NoCallFollows old new → (o ≡ ReadFault → Rose old.faults new.faults) → Decides tells command old new result
+stopped tells command old new result o reader same files right reading last failed =
     subst (λ r. Decides tells command old new r) (sym same) (record {
       files = λ t n other. files n;
       left = λ t words asks. leaves_early old.held new.held words o reading.early files;
@@ -540,6 +540,7 @@ stopped tells command old new result o reader same files right reading failed =
       report = λ words asks. tt;
       ending = tt;
       early = reading.early;
+      last = last;
       failed = λ e. failed (cc e);
       unwritten = λ e. absurd (reading.unwritten (cc e));
     })
@@ -570,8 +571,9 @@ check_decides tells command check old new result is checks =
           }));
       ending = record { asked = checks.judged.asked; read = checks.judged.read; unwritten = checks.judged.unwritten };
       early = tt;
+      last = checks.last;
       failed = λ e. cc;
       unwritten = λ e. cc;
     }
     decides (Err o) checks =
-        stopped tells (asked_check check) old new (Err o) o tt refl checks.files (λ t words asks. right_of_check old.held words o (checks.right t words asks)) checks.early (λ e. checks.failed (cc e))
+        stopped tells (asked_check check) old new (Err o) o tt refl checks.files (λ t words asks. right_of_check old.held words o (checks.right t words asks)) checks.early checks.last (λ e. checks.failed (cc e))

@@ -1,5 +1,5 @@
 -- What was found for two netlists, and whether its account was written.
-use Rattle.std.proofs.Common.{◌≡◌, ◌⊎◌, ℕ, ◌≤◌, inl, inr, Bool, List, Option, Result, Ok, Err, IfErr, refl, sym, ◌∙◌, ap, subst, arith}
+use Rattle.std.proofs.Common.{◌≡◌, ◌⊎◌, ℕ, inl, inr, Bool, List, Option, Result, Ok, Err, IfErr, refl, sym, ◌∙◌, ap, subst}
 use Rattle.net_core.specs.Sides.{Graphs}
 use Rattle.circuits.specs.Matches.{IsMatchOfFunctions}
 use Rattle.net_core.specs.declared.matching.Matching.{Matching}
@@ -17,7 +17,7 @@ use Rattle.check_steps.specs.Judged.{IsMatchIfAny, graphs_of}
 use Rattle.check_steps.specs.declared.outcome.Ending.{Ending}
 use Rattle.check_steps.specs.declared.outcome.Outcome.{Outcome}
 use Rattle.check_steps.specs.declared.outcome.Outcome.TheVariants as outcome
-use Rattle.shelf_core.proofs.FaultLemmas.{rose_later}
+use Rattle.shelf_core.proofs.FaultLemmas.{none_before, none_failed, rose_after}
 use Rattle.run_steps.proofs.OutcomeLemmas.{no_fault, of_answer}
 
 pub err_same : {X : Type 0} (o p : Outcome) (r : Result X Outcome) → r ≡ Err o → r ≡ Err p → o ≡ p
@@ -42,7 +42,7 @@ not_concluded tells name text ending old new stop o is writes = record {
   whole = λ t. tt;
   stopped = subst IsUnwritten (sym is) (is_unwritten stop);
   part = writes.part;
-  faults = writes.faults;
+  last = writes.last;
   failed = λ e. writes.failed (ap Err (failed_is stop (sym is ∙ err_same o outcome.WriteFault (Err o) refl e)));
 }
 
@@ -54,7 +54,7 @@ concluded tells name text ending old new writes = record {
   whole = writes.whole;
   stopped = tt;
   part = λ t. tt;
-  faults = writes.faults;
+  last = writes.last;
   failed = λ e. cc;
 }
 
@@ -66,7 +66,7 @@ not_solved tells first second name budget state o result is stop =
       answer = tt;
       report = tt;
       stopped = inl (stop, λ t. refl);
-      faults = omega arith;
+      last = none_failed state state refl;
       failed = λ e. absurd ((no_fault (graphs_of first second) budget o stop).1 (err_same o outcome.WriteFault (Err o) refl e));
     })
 
@@ -98,7 +98,7 @@ solved tells first second name account budget ending old new (Ok other) answer r
   answer = (account, subst (λ (e : Ending). IsAnswered (graphs_of first second) account e.outcome) (sym concludes.same) answer, concludes.whole);
   report = subst (λ (e : Ending). e.report.items ≡ report_on (names_of first) (names_of second) e.outcome) (sym concludes.same) report;
   stopped = tt;
-  faults = concludes.faults;
+  last = concludes.last;
   failed = λ e. cc;
 }
 solved tells first second name account budget ending old new (Err o) answer report concludes = record {
@@ -106,17 +106,17 @@ solved tells first second name account budget ending old new (Err o) answer repo
   answer = tt;
   report = tt;
   stopped = inr (concludes.stopped, λ t. cut_of (graphs_of first second) account ending.outcome (old.held name) (new.held name) answer (concludes.part t));
-  faults = concludes.faults;
+  last = concludes.last;
   failed = concludes.failed;
 }
 
 -- files that were read before don't change what is found
-pub finds_from : (tells : Bool) (first second : Named) (name : List ℕ) (budget : ℕ) (old middle new : ShelfState) (result : Result Ending Outcome) → ((n : List ℕ) → middle.held n ≡ old.held n) → old.faults ≤ middle.faults → Finds tells first second name budget middle new result → Finds tells first second name budget old new result
-finds_from tells first second name budget old middle new result same faults found = record {
+pub finds_from : (tells : Bool) (first second : Named) (name : List ℕ) (budget : ℕ) (old middle new : ShelfState) (result : Result Ending Outcome) → ((n : List ℕ) → middle.held n ≡ old.held n) → middle.faults ≡ old.faults → Finds tells first second name budget middle new result → Finds tells first second name budget old new result
+finds_from tells first second name budget old middle new result same clean found = record {
   others = λ t n other. found.others t n other ∙ same n;
   answer = found.answer;
   report = found.report;
   stopped = subst (λ content. IfErr result (IsStopOfMatch tells (graphs_of first second) budget content (new.held name))) (same name) found.stopped;
-  faults = omega (arith, faults, found.faults);
-  failed = λ e. rose_later old.faults middle.faults new.faults faults found.faults (found.failed e);
+  last = none_before old middle new clean found.last;
+  failed = λ e. rose_after old.faults middle.faults new.faults clean (found.failed e);
 }

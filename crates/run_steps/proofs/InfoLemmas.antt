@@ -4,6 +4,7 @@ use Rattle.circuits.specs.Netlists.{Net}
 use Rattle.net_file.specs.declared.named.Named.{Named}
 use Rattle.shelf_core.specs.State.{ShelfState}
 use Rattle.check_steps.specs.Held.{HoldsGraph}
+use Rattle.shelf_core.proofs.FaultLemmas.{none_failed}
 use Rattle.run_steps.specs.Outcomes.{FollowsWords, IsRight, Leaves}
 use Rattle.check_steps.specs.Checks.{IsSound}
 use Rattle.run_steps.proofs.CheckLemmas.{follows_files, stopped}
@@ -28,10 +29,11 @@ stop_right held words file budget graph asks there o stop =
 -- a run that reports what is known of the file that was read
 pub informs : (tells : Bool) (info : InfoWords) (old new : ShelfState) (named : Named) (result : Result Ending Outcome)
     → ((n : List ℕ) → new.held n ≡ old.held n)
+    → new.faults ≡ old.faults
     → IsReadFrom tells (old.held info.file.now) named
     → InformsOf named info.budget result
     → Decides tells (asked_info info) old new result
-informs tells info old new named (Ok ending) files read is =
+informs tells info old new named (Ok ending) files clean read is =
     let rows = is.rows in
     record {
       files = λ t n other. files n;
@@ -59,11 +61,13 @@ informs tells info old new named (Ok ending) files read is =
       ));
       ending = subst IsEnding (sym rows.0) (record { asked = λ e. cc; read = λ e. cc; unwritten = λ e. cc });
       early = tt;
+      last = none_failed old new clean;
       failed = λ e. cc;
       unwritten = λ e. cc;
     }
-informs tells info old new named (Err o) files read is =
+informs tells info old new named (Err o) files clean read is =
     stopped tells (asked_info info) old new (Err o) o tt refl files
     (λ t words asks. stop_right old.held words info.file.now info.budget named.graph asks (record { netlist = netlist_of read.circuit named; holds = read.held t; numbered = read.numbered }) o is.stopped)
     (stop_line (with_itself named.graph) info.budget o is.stopped)
+    (none_failed old new clean)
     (λ e. absurd ((no_fault (with_itself named.graph) info.budget o is.stopped).0 e))

@@ -7,5 +7,6 @@ pub mod MakingLemmas
 pub mod MatchLemmas
 pub mod OutcomeLemmas
 pub mod PairLemmas
+mod PartLemmas
 pub mod TryingLemmas
 pub mod WritingLemmas

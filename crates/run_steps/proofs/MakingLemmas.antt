@@ -1,5 +1,5 @@
 -- Two texts written one after the other, and what a pair says of the words and the files.
-use Rattle.std.proofs.Common.{◌≡◌, ◌≢◌, ℕ, inl, inr, Bool, IsTrue, List, Some, Result, Ok, Err, refl, sym, ◌∙◌, ap, subst, arith}
+use Rattle.std.proofs.Common.{◌≡◌, ◌≢◌, ℕ, inl, inr, Bool, IsTrue, List, Some, Result, Ok, Err, refl, sym, ◌∙◌, ap, subst}
 use Rattle.circuits.proofs.MatchLaws.{match_from_functions}
 use Rattle.shelf_core.specs.State.{ShelfState, Closed}
 use Rattle.shelf_core.specs.declared.outside.ShelfStop.{ShelfStop}
@@ -21,7 +21,7 @@ use Rattle.check_steps.specs.declared.outcome.Ending.{Ending}
 use Rattle.check_steps.specs.declared.outcome.Outcome.{Outcome}
 use Rattle.check_steps.specs.declared.outcome.Outcome.TheVariants.{Made, ReadFault, WriteFault, Memory}
 use Rattle.run_steps.proofs.FormLemmas.{make_or_trial}
-use Rattle.shelf_core.proofs.FaultLemmas.{rose_later}
+use Rattle.shelf_core.proofs.FaultLemmas.{none_before, none_failed, rose_after}
 use Rattle.run_steps.proofs.CheckLemmas.{follows_memory, follows_unwritten}
 use Rattle.run_steps.proofs.FindLemmas.{err_same, failed_is, is_unwritten}
 use Rattle.check_steps.proofs.EndLemmas.{early}
@@ -36,7 +36,8 @@ text_written tells name text old new closed writes = record {
   whole = writes.whole;
   stopped = tt;
   part = λ t. tt;
-  faults = writes.faults;
+  clean = writes.clean;
+  last = writes.last;
   failed = λ e. cc;
 }
 
@@ -48,7 +49,8 @@ text_refused tells name text old new stop o is writes = record {
   whole = λ t. tt;
   stopped = subst IsUnwritten (sym is) (is_unwritten stop);
   part = writes.part;
-  faults = writes.faults;
+  clean = tt;
+  last = writes.last;
   failed = λ e. writes.failed (ap Err (failed_is stop (sym is ∙ err_same o WriteFault (Err o) refl e)));
 }
 
@@ -60,7 +62,7 @@ first_refused tells a b first second old new o result is one =
       whole = λ t apart. tt;
       stopped = one.stopped;
       part = λ t apart. inl (one.part t, one.others t b apart);
-      faults = one.faults;
+      last = one.last;
       failed = one.failed;
     })
 
@@ -71,7 +73,7 @@ second_after tells a b first second old between new (Ok x) one other = record {
   whole = λ t apart. (other.others t a (λ e. apart (sym e)) ∙ one.whole t, other.whole t);
   stopped = tt;
   part = λ t apart. tt;
-  faults = omega (arith, one.faults, other.faults);
+  last = none_before old between new one.clean other.last;
   failed = λ e. cc;
 }
 second_after tells a b first second old between new (Err o) one other = record {
@@ -83,8 +85,8 @@ second_after tells a b first second old between new (Err o) one other = record {
     other.others t a (λ e. apart (sym e)) ∙ one.whole t,
     elim (other.part t) [ inl same ↦ inl (same ∙ one.others t b apart) | inr cut ↦ inr cut ],
   );
-  faults = omega (arith, one.faults, other.faults);
-  failed = λ e. rose_later old.faults between.faults new.faults one.faults other.faults (other.failed e);
+  last = none_before old between new one.clean other.last;
+  failed = λ e. rose_after old.faults between.faults new.faults one.clean (other.failed e);
 }
 
 -- what an outcome of a pair says by the words alone
@@ -145,6 +147,7 @@ module _ (tells : Bool) (asked : MakeWords) (pair : GenPair) (drawn : IsDrawn as
     );
     ending = subst IsEnding (sym is) (record { asked = λ e. cc; read = λ e. cc; unwritten = λ e. cc });
     early = tt;
+    last = writes.last;
     failed = λ e. cc;
     unwritten = λ e. cc;
   }
@@ -160,6 +163,7 @@ module _ (tells : Bool) (asked : MakeWords) (pair : GenPair) (drawn : IsDrawn as
         report = λ words asks. tt;
         ending = tt;
         early = early_unwritten o writes.stopped;
+        last = writes.last;
         failed = λ e. absurd (of_unwritten (λ end. end ≢ ReadFault) o writes.stopped (λ e. cc) (λ e. cc) (cc e));
         unwritten = λ e. (tt, writes.failed (ap Err (cc e)));
       })
@@ -176,6 +180,7 @@ no_pair tells asked state result is =
       report = λ words asks. tt;
       ending = tt;
       early = early Memory tt;
+      last = none_failed state state refl;
       failed = λ e. cc;
       unwritten = λ e. cc;
     })

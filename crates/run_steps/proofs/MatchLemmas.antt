@@ -29,6 +29,7 @@ use Rattle.check_steps.specs.declared.outcome.Ending.{Ending}
 use Rattle.check_steps.specs.declared.outcome.Outcome.{Outcome}
 use Rattle.check_steps.specs.declared.outcome.Outcome.TheVariants.{Matched, NoMatching, Informed, Made, ReadFault, WriteFault, Memory}
 use Rattle.run_steps.proofs.CheckLemmas.{follows_files, follows_unwritten, leaves_early}
+use Rattle.run_steps.proofs.PartLemmas.{whole_by_end}
 use Rattle.run_steps.proofs.OutcomeLemmas.{early_unwritten, no_fault, of_answer, of_stop, of_unwritten, stop_line}
 use Rattle.run_steps.proofs.FormLemmas.{names_one, reads_of, check_of}
 
@@ -51,6 +52,7 @@ part_of held words proved is =
       accepted = is.accepted.accepted;
       count = length account;
       part = ap held (sym named.2) ∙ (has.there ∙ ap Some (sym (take_all (length account) account (omega arith))));
+      unfinished = λ lines last. take_all (length account) account (omega arith);
     }
 
 -- a whole pair is its first part
@@ -207,6 +209,7 @@ module _ (tells : Bool) (asked : MatchWords) (old new : ShelfState) (first secon
           accepted = proves;
           count = first_part.0;
           part = first_part.1;
+          unfinished = λ lines last. whole_by_end first_part.0 account proves.records lines proves.account last;
         }))
       ]
 
@@ -255,6 +258,7 @@ module _ (tells : Bool) (asked : MatchWords) (old new : ShelfState) (first secon
         }));
         ending = of_answer IsEnding graphs account ending.outcome answer (λ matching proves matches. record { asked = λ e. cc; read = λ e. cc; unwritten = λ e. cc }) (λ proves unequal. record { asked = λ e. cc; read = λ e. cc; unwritten = λ e. cc });
         early = tt;
+        last = found.last;
         failed = λ e. cc;
         unwritten = λ e. cc;
       }
@@ -269,6 +273,7 @@ module _ (tells : Bool) (asked : MatchWords) (old new : ShelfState) (first secon
         report = λ words asks. tt;
         ending = tt;
         early = stop.0;
+        last = found.last;
         failed = λ e. absurd (stop.1 (cc e));
         unwritten = λ e. (tt, found.failed (cc e));
       }

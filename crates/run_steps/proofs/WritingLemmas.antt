@@ -6,7 +6,7 @@ use Rattle.std.proofs.lemmas.List.{append-nil, length-take-le, take-append-drop,
 use Rattle.std.proofs.lemmas.Result.{err_from_is_err_and, on_ok_weaker, on_err_weaker}
 use Rattle.std.proofs.lemmas.Slice.{between_is}
 use Rattle.run_steps.specs.Writing.{HoldsFirst, WritesFile, WritesOn}
-use Rattle.shelf_core.proofs.FaultLemmas.{rose_later}
+use Rattle.shelf_core.proofs.FaultLemmas.{none_before, one_call, rose_after}
 use Rattle.shelf_core.specs.Calls.{Appends, Closes, Creates}
 use Rattle.shelf_core.specs.State.{ShelfState, grown}
 use Rattle.shelf_core.specs.declared.outside.ShelfStop.{ShelfStop}
@@ -55,7 +55,8 @@ written_one tells piece left old new result appends = record {
   part = λ t there is. on_err_weaker result
       (λ (k, grows). let first = first_of piece left k in (first.0, grows ∙ (ap (λ content. grown content (take k piece)) is ∙ ap (λ bytes. Some (there ++ bytes)) first.1)))
       (appends.part t);
-  faults = appends.faults;
+  clean = appends.clean;
+  last = one_call old new appends.counted;
   failed = appends.failed;
 }
 
@@ -88,8 +89,9 @@ written_then tells pending middle left old now new result first then = record {
             ∙ ap (λ bytes. there ++ bytes) (first_after one.0 middle two.0 ∙ ap (take (length one.0 + two.0)) (sym one.1)))),
       ))
       (then.part t (there ++ one.0) one.2);
-  faults = omega (arith, first.faults, then.faults);
-  failed = λ e. rose_later old.faults now.faults new.faults first.faults then.faults (then.failed e);
+  clean = on_ok_weaker result (λ later. later ∙ first.clean) then.clean;
+  last = none_before old now new first.clean then.last;
+  failed = λ e. rose_after old.faults now.faults new.faults first.clean (then.failed e);
 }
   where
     held : IsTrue tells → (there : List ℕ) (is : old.held old.name ≡ Some there) → (piece : List ℕ) × (pending ≡ piece ++ middle) × (now.held now.name ≡ Some (there ++ piece))
@@ -112,7 +114,8 @@ written_before tells pending left more old new result writes = record {
   named = writes.named;
   whole = λ t there is. on_ok_weaker result (λ one. (one.0, ap (λ bytes. bytes ++ more) one.1 ∙ append_assoc one.0 left more, one.2)) (writes.whole t there is);
   part = λ t there is. on_err_weaker result (λ one. let first = first_of pending more one.0 in (first.0, one.1 ∙ ap (λ bytes. Some (there ++ bytes)) first.1)) (writes.part t there is);
-  faults = writes.faults;
+  clean = writes.clean;
+  last = writes.last;
   failed = writes.failed;
 }
 
@@ -130,7 +133,8 @@ written_out_of_memory tells pending left other old new result is writes =
       part = λ t there held.
           let one = writes.whole t there held in
           (length one.0, one.2 ∙ ap (λ bytes. Some (there ++ bytes)) (sym (take_at one.0 left (length one.0) refl) ∙ ap (take (length one.0)) (sym one.1)));
-      faults = writes.faults;
+      clean = tt;
+      last = writes.last;
       failed = λ e. cc;
     })
 
@@ -146,7 +150,8 @@ not_written_on tells pending left other old new stop result is writes =
       named = writes.named;
       whole = λ t there held. tt;
       part = writes.part;
-      faults = writes.faults;
+      clean = tt;
+      last = writes.last;
       failed = writes.failed;
     })
 
@@ -179,7 +184,8 @@ not_created tells name text old new stop result is creates =
       others = λ t n other. creates.others n other;
       whole = λ t. tt;
       part = λ t. elim (creates.kept t) [ inl same ↦ inl same | inr empty ↦ inr (0, empty) ];
-      faults = creates.faults;
+      clean = tt;
+      last = one_call old new creates.counted;
       failed = λ e. creates.failed e;
     })
 
@@ -199,8 +205,9 @@ not_written tells name text old made new stop result is creates writes =
       part = λ t.
           let first = writes.part t [] (made_empty tells name old made creates t) in
           inr (first.0, ap new.held (sym (creates.named t)) ∙ first.1);
-      faults = omega (arith, creates.faults, writes.faults);
-      failed = λ e. rose_later old.faults made.faults new.faults creates.faults writes.faults (writes.failed e);
+      clean = tt;
+      last = none_before old made new creates.clean writes.last;
+      failed = λ e. rose_after old.faults made.faults new.faults creates.clean (writes.failed e);
     })
 
 -- it was filled, and closed or not
@@ -213,8 +220,9 @@ closed tells name text old made full new result creates writes closes = record {
   others = λ t n other. closes.files n ∙ (writes.others t n (λ e. other (e ∙ creates.named t)) ∙ creates.others n other);
   whole = λ t. on_ok_always result (there t);
   part = λ t. on_err_always result (inr (whole_first text (new.held name) (there t)));
-  faults = omega (arith, creates.faults, writes.faults, closes.faults);
-  failed = λ e. rose_later old.faults full.faults new.faults (omega (arith, creates.faults, writes.faults)) closes.faults (closes.failed e);
+  clean = on_ok_weaker result (λ later. later ∙ writes.clean ∙ creates.clean) closes.clean;
+  last = none_before old full new (writes.clean ∙ creates.clean) (one_call full new closes.counted);
+  failed = λ e. rose_after old.faults full.faults new.faults (writes.clean ∙ creates.clean) (closes.failed e);
 }
   where
     there : IsTrue tells → new.held name ≡ Some text

@@ -1,6 +1,7 @@
 -- What a match says of the words and of the files, which are held before the run and afterwards.
-use Rattle.std.specs.Prelude.{◌≡◌, ℕ, List, take, Option, Some}
+use Rattle.std.specs.Prelude.{◌≡◌, ℕ, List, [], ◌∷◌, ◌++◌, codes, take, Option, Some}
 use Rattle.circuits.specs.Matches.{IsMatch, AreNpnpEqual}
+use Rattle.account_file.specs.Lines.{whole_lines}
 use Rattle.account_check.specs.Verdicts.{IsAccepted as Proves}
 use Rattle.account_check.specs.declared.verdict.Verdict.{Verdict}
 use Rattle.net_core.specs.Sides.{Graphs}
@@ -65,6 +66,8 @@ pub record HoldsPart (held : List ℕ → Option (List ℕ)) (words : List (List
   pub accepted : Proves graphs account proved
   pub count : ℕ
   pub part : held sought.account ≡ Some (take count account)
+  -- its last line is `end` only where it is the whole account
+  pub unfinished : (lines : List (List ℕ)) → whole_lines (take count account) ≡ lines ++ codes "end" ∷ [] → take count account ≡ account
 
 -- the words ask for a match whose account has this name
 abbrev pub NamesAccount : List (List ℕ) → List ℕ → Type 0

@@ -1,10 +1,10 @@
 -- What the steps of a run do.
-use Rattle.std.specs.Prelude.{◌≡◌, ◌≢◌, ℕ, ◌⊎◌, ◌≤◌, Bool, false, IsTrue, List, [], ◌++◌, take, Option, Some, Result, Err, IfOk, IfErr, OnOk, OnErr}
+use Rattle.std.specs.Prelude.{◌≡◌, ◌≢◌, ℕ, ◌⊎◌, Bool, false, IsTrue, List, [], ◌++◌, take, Option, Some, Result, Err, IfOk, IfErr, OnOk, OnErr}
 use Rattle.circuits.specs.Circuits.{Circuit}
 use Rattle.circuits.specs.Functions.{Computes}
 use Rattle.circuits.specs.Levels.{IsOrderOf}
 use Rattle.circuits.specs.Matches.{IsMatchOfFunctions, HaveNpnpEqualFunctions}
-use Rattle.shelf_core.specs.Fault.{Rose}
+use Rattle.shelf_core.specs.Fault.{NoCallFollows, NoPutFollows, Rose}
 use Rattle.shelf_core.specs.State.{ShelfState, SinkState, Closed}
 use Rattle.net_core.specs.Sides.{Graphs}
 use Rattle.net_core.specs.declared.matching.Matching.{Matching}
@@ -77,7 +77,7 @@ pub record Concludes (tells : Bool) (name text : List ℕ) (ending : Ending) (ol
   pub whole : IsTrue tells → OnOk result (new.held name ≡ Some text)
   pub stopped : IfErr result IsUnwritten
   pub part : IsTrue tells → OnErr result ((new.held name ≡ old.held name) ⊎ HoldsFirst text (new.held name))
-  pub faults : old.faults ≤ new.faults
+  pub last : NoCallFollows old new
   pub failed : result ≡ Err WriteFault → Rose old.faults new.faults
 
 -- what the account's name holds is as before, or the first bytes of an account of two graphs that is accepted
@@ -102,7 +102,7 @@ pub record Finds (tells : Bool) (first second : Named) (account_name : List ℕ)
   pub report : IfOk result (λ ending. ending.report.items ≡ report_on (names_of first) (names_of second) ending.outcome)
   pub stopped : IfErr result
       (IsStopOfMatch tells (graphs_of first second) budget (old.held account_name) (new.held account_name))
-  pub faults : old.faults ≤ new.faults
+  pub last : NoCallFollows old new
   pub failed : result ≡ Err WriteFault → Rose old.faults new.faults
 
 -- Writing a text under a name, or ending the run where it wasn't written.
@@ -112,7 +112,8 @@ pub record WritesText (tells : Bool) (name text : List ℕ) (old new : ShelfStat
   pub whole : IsTrue tells → OnOk result (new.held name ≡ Some text)
   pub stopped : IfErr result IsUnwritten
   pub part : IsTrue tells → OnErr result (IsCutFrom text (old.held name) (new.held name))
-  pub faults : old.faults ≤ new.faults
+  pub clean : OnOk result (new.faults ≡ old.faults)
+  pub last : NoCallFollows old new
   pub failed : result ≡ Err WriteFault → Rose old.faults new.faults
 
 -- Writing two texts under two names, one after the other.
@@ -127,7 +128,7 @@ pub record WritesPair (tells : Bool) (first_name second_name first second : List
   pub part : IsTrue tells → second_name ≢ first_name → OnErr result
       ((IsCutFrom first (old.held first_name) (new.held first_name) × (new.held second_name ≡ old.held second_name))
       ⊎ ((new.held first_name ≡ Some first) × IsCutFrom second (old.held second_name) (new.held second_name)))
-  pub faults : old.faults ≤ new.faults
+  pub last : NoCallFollows old new
   pub failed : result ≡ Err WriteFault → Rose old.faults new.faults
 
 -- what ends the trial of a pair: the budget is spent on it, or memory ran out
@@ -174,7 +175,8 @@ pub record Decides (tells : Bool) (command : Command) (old new : ShelfState) (re
       → IfOk result (λ ending. IsReport tells old.held words ending.outcome ending.report.items)
   pub ending : IfOk result (λ ending. IsEnding ending.outcome)
   pub early : IfErr result IsEarly
-  -- a fault has its cause outside
+  -- a fault has its cause outside, and no call follows it
+  pub last : NoCallFollows old new
   pub failed : result ≡ Err ReadFault → Rose old.faults new.faults
   pub unwritten : result ≡ Err WriteFault → IsWritingCommand command × Rose old.faults new.faults
 
@@ -191,4 +193,5 @@ pub record PutsText (tells : Bool) (text : List ℕ) (asked : Outcome) (old new 
   pub whole : IsTrue tells → IsTold result → new.written ≡ old.written ++ text
   pub part : IsTrue tells → WritesPart old new text
   pub same : IsTold result → result ≡ asked
+  pub last : NoPutFollows old new
   pub failed : result ≡ WriteFault → Rose old.faults new.faults

@@ -1,6 +1,6 @@
 -- What writing a text under a name does.
-use Rattle.std.specs.Prelude.{◌≡◌, ◌≢◌, ◌⊎◌, ℕ, ◌≤◌, Bool, IsTrue, List, ◌++◌, take, Option, Some, Result, Err, OnOk, OnErr}
-use Rattle.shelf_core.specs.Fault.{Rose}
+use Rattle.std.specs.Prelude.{◌≡◌, ◌≢◌, ◌⊎◌, ℕ, Bool, IsTrue, List, ◌++◌, take, Option, Some, Result, Err, OnOk, OnErr}
+use Rattle.shelf_core.specs.Fault.{NoCallFollows, Rose}
 use Rattle.shelf_core.specs.State.{ShelfState, Writing}
 use Rattle.shelf_core.specs.declared.outside.ShelfStop.{ShelfStop}
 use Rattle.shelf_core.specs.declared.outside.ShelfStop.TheVariants.{Failed}
@@ -17,7 +17,8 @@ pub record WritesFile (tells : Bool) (name text : List ℕ) (old new : ShelfStat
   pub whole : IsTrue tells → OnOk result (new.held name ≡ Some text)
   -- after a refusal the file is as it was, or a first part of the text
   pub part : IsTrue tells → OnErr result ((new.held name ≡ old.held name) ⊎ HoldsFirst text (new.held name))
-  pub faults : old.faults ≤ new.faults
+  pub clean : OnOk result (new.faults ≡ old.faults)
+  pub last : NoCallFollows old new
   pub failed : result ≡ Err Failed → Rose old.faults new.faults
 
 -- Writing to the open file the next bytes of what is still to be written of a text: `pending` before, and `left` afterwards.
@@ -32,5 +33,6 @@ pub record WritesOn (tells : Bool) (pending left : List ℕ) (old new : ShelfSta
       → OnOk result ((piece : List ℕ) × (pending ≡ piece ++ left) × (new.held old.name ≡ Some (there ++ piece)))
   pub part : IsTrue tells → (there : List ℕ) → old.held old.name ≡ Some there
       → OnErr result ((count : ℕ) × (new.held old.name ≡ Some (there ++ take count pending)))
-  pub faults : old.faults ≤ new.faults
+  pub clean : OnOk result (new.faults ≡ old.faults)
+  pub last : NoCallFollows old new
   pub failed : result ≡ Err Failed → Rose old.faults new.faults

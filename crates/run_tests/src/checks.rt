@@ -5,7 +5,7 @@ ghost use Rattle.shelf_core.specs.State.{Closed, Reading, Writing};
 
 use crate::alterations::{Altered, check_altered};
 use crate::files::{A, AND, AND_OR, B, C17, C17_MOVED, EMPTY, OR, TABLE, WIRE, XOR};
-use crate::runs::{CHECK, Row, check_rows, expect, line, status_of};
+use crate::runs::{CHECK, MATCH, Row, check_rows, expect, line, run_on, status_of};
 use shelf_core::{SafeSink, Shelf, ShelfStop};
 use std::test::Fail;
 
@@ -292,7 +292,7 @@ fn refuses_words_of_no_form(rt: HostRuntime) -> Result<(), Fail> {
 }
 
 /// First netlists that are malformed, each with the number of its fault and the place.
-static MALFORMED: [(&[u8], &[u8]); 27] = [
+static MALFORMED: [(&[u8], &[u8]); 31] = [
     (b"aag 4294967295 0 0 0 0\n", b"6 0"),
     (b"aag 4294967296 0 0 0 0\n", b"1 0"),
     (b"aag 1025 1025 0 0 0\n", b"4 0"),
@@ -317,7 +317,14 @@ static MALFORMED: [(&[u8], &[u8]); 27] = [
     (b".gate nand2 a=x\n", b"20 0"),
     (b".model m\n.model n\n", b"23 9"),
     (b".inputs a a\n.outputs a\n", b"29 10"),
+    (b".inputs a\n.outputs y\n1 1\n", b"27 21"),
+    (b".inputs a\n.outputs y\n.names a y\n11 1\n", b"24 32"),
+    (b".inputs a\n.outputs y\n.names a y\n2 1\n", b"25 32"),
     (b".inputs a\n.outputs y\n.names a y\n1 1\n0 0\n", b"26 36"),
+    (
+        b".inputs a\n.outputs y\n.names a y\n1 1\n.names a y\n1 1\n",
+        b"30 45",
+    ),
     (b".inputs a\n.outputs y\n.names a b y\n11 1\n", b"31 30"),
     (b".inputs a\n.outputs y\n.names a y y\n11 1\n", b"32 21"),
 ];
@@ -328,6 +335,8 @@ fn refuses_malformed_netlists_at_their_place(rt: HostRuntime) -> Result<(), Fail
         let report = line(rt.alloc(), b"malformed first ", *fault)?;
         let files = [*first, B, TABLE];
         expect(&rt, rt.alloc(), CHECK, files, 5, report.as_slice())?;
+        let ended = run_on(rt.alloc(), MATCH, [*first, B], Some(TABLE))?;
+        assert_eq!(&rt; ended.outcome(), (5, report.as_slice(), Some(TABLE)));
     }
     Ok(())
 }
@@ -356,6 +365,7 @@ impl Shelf for TooLong {
       left = 67108865;
       unread = [];
       faults = 0;
+      latest = 0;
     } };
 
     fn open(&mut self, _name: &str) -> Result<Option<u64>, ShelfStop> {

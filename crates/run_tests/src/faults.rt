@@ -101,17 +101,40 @@ fn writes_the_account_where_nothing_can_be_printed(rt: HostRuntime) -> Result<()
     Ok(())
 }
 
+/// The account of a match of two netlists without ports.
+const OF_EMPTY: &[u8] = b"npnp 1\nmatch\nend\n";
+
+/// What is known of the first netlist.
+const INFO: &[&str] = &["info", "A"];
+
+/// Words that ask for files to be read, and how many calls that makes: open, read and close of each.
+static READING: [(&[&str], u64); 2] = [(CHECK, 9), (INFO, 3)];
+
+/// Runs on two netlists without ports and their account, where the calls that read fail in turn, each the last one of its run.
+fn expect_read_faults(
+    rt: &impl Abort,
+    alloc: Global,
+    words: &[&str],
+    calls: u64,
+) -> Result<(), Fail> {
+    for call in 0..calls {
+        let failing = Failing { call, ..NONE };
+        let ended = run_failing(alloc, words, [EMPTY, EMPTY], Some(OF_EMPTY), failing)?;
+        assert_eq!(rt;
+            (ended.outcome(), ended.calls),
+            (
+                (6, b"read fault\n".as_slice(), Some(OF_EMPTY)),
+                call.saturating_add(1)
+            )
+        );
+    }
+    Ok(())
+}
+
 #[test]
 fn calls_nothing_after_a_fault(rt: HostRuntime) -> Result<(), Fail> {
-    // open, read and close of each of three files
-    for call in 0..9 {
-        let failing = Failing { call, ..NONE };
-        let files = [EMPTY, EMPTY];
-        let ended = run_failing(rt.alloc(), CHECK, files, Some(EMPTY), failing)?;
-        assert_eq!(rt;
-            (ended.status, ended.report.as_slice(), ended.calls),
-            (6, b"read fault\n".as_slice(), call + 1)
-        );
+    for (words, calls) in READING.iter() {
+        expect_read_faults(&rt, rt.alloc(), *words, *calls)?;
     }
     Ok(())
 }
@@ -144,13 +167,18 @@ fn reads_no_more_than_the_first_bad_line(rt: HostRuntime) -> Result<(), Fail> {
     Ok(())
 }
 
+/// Words of which the report can't be printed, with how many calls of the shelf they make.
+static UNPRINTED: [(&[&str], u64); 3] = [(CHECK, 9), (INFO, 3), (&["make", "7", "A", "B"], 6)];
+
 #[test]
 fn ends_where_nothing_can_be_printed(rt: HostRuntime) -> Result<(), Fail> {
     let failing = Failing { put: 0, ..NONE };
-    let ended = run_failing(rt.alloc(), CHECK, [A, B], None, failing)?;
-    assert_eq!(rt;
-        (ended.status, ended.report.as_slice()),
-        (6, b"".as_slice())
-    );
+    for (words, calls) in UNPRINTED.iter() {
+        let ended = run_failing(rt.alloc(), *words, [EMPTY, EMPTY], Some(OF_EMPTY), failing)?;
+        assert_eq!(&rt;
+            (ended.outcome(), ended.calls),
+            ((6, b"".as_slice(), Some(OF_EMPTY)), *calls)
+        );
+    }
     Ok(())
 }

@@ -68,9 +68,11 @@ fn rejects_altered_lines(rt: HostRuntime) -> Result<(), Fail> {
 }
 
 /// Facts of AND and exclusive or that aren't there, or aren't shown.
-static FACTS: [Altered; 9] = [
+static FACTS: [Altered; 11] = [
     (1, b"fails b 1 up 0 =01\n", b"2 id"),
     (1, b"fails b 0 up 2 =01\n", b"2 id"),
+    // one more than a number may be
+    (1, b"fails b 0 up 18446744073709551616 =01\n", b"2 number"),
     (1, b"fails b 0 swap 1 0 01 =01\n", b"2 rule"),
     (1, b"fails b 0 up 0 =0\n", b"2 vector"),
     (1, b"fails b 0 up 0 =011\n", b"2 vector"),
@@ -78,6 +80,8 @@ static FACTS: [Altered; 9] = [
     (1, b"fails b 0 up 0 =00\n", b"2 vector"),
     (1, b"fails b 0 swap 0 1 01 =01\n", b"2 vector"),
     (1, b"holds a 1 up 0\n", b"2 id"),
+    // a literal of no variable
+    (1, b"holds a 0 up 0\nl 99999 : 0\n", b"3 refutation"),
     (1, b"holds a 0 swap 0 0 01\n", b"2 rule"),
 ];
 
@@ -132,9 +136,10 @@ fn rejects_mismatches(rt: HostRuntime) -> Result<(), Fail> {
 }
 
 /// Inputs of AND and exclusive or that are counted.
-static BINATES: [Altered; 9] = [
+static BINATES: [Altered; 10] = [
     (7, b"ban o0+0 : tally binate 0 1 2 3 / 5\n", b"8 id"),
     (7, b"ban o0+0 : tally binate 0 1 0 1 / 4\n", b"8 rule"),
+    (7, b"ban o0+0 : tally binate 0 0 1 1 2 3 / 4\n", b"8 rule"),
     (7, b"ban o0+0 : tally binate 1 0 2 3 / 4\n", b"8 rule"),
     (7, b"ban o0+0 : tally binate 0 1 2 3 / 0\n", b"8 rule"),
     (7, b"ban o0+0 : tally binate 0 1 / 4\n", b"8 rule"),

@@ -73,7 +73,7 @@ impl Watch for Counting {
 impl Sink for Counting {
     ghost tells = { true };
 
-    ghost state = { λ counting. record { written = counting.sink; faults = 0 } };
+    ghost state = { λ counting. record { written = counting.sink; faults = 0; latest = 0 } };
 
     fn put(&mut self, piece: &[u8]) -> Result<(), ShelfStop> {
         self.sink.put(piece)

@@ -30,6 +30,8 @@ read_is files place at k bytes before after is room there progress copied =
       rest = λ _. rw copied (back (drop at bytes) before k within);
       left_stays = tt;
       unread_stays = tt;
-      faults = omega arith;
+      counted = omega arith;
+      clean = refl;
+      no_memory = λ e. cc;
       failed = λ e. cc;
     }

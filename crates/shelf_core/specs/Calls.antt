@@ -2,7 +2,7 @@
 -- time. Facts on contents hold where the shelf `tells` its files.
 use Rattle.std.specs.Prelude.{◌≡◌, ◌≢◌, ℕ, ◌+◌, ◌<◌, ◌≤◌, ◌⊎◌, Bool, IsTrue, List, [], ◌++◌, length, take, drop, Option, None, Some, Result, Err, IfOk, OnOk, OnErr, IfSome, IfNone}
 use Rattle.shelf_core.specs.declared.outside.ShelfStop.{ShelfStop}
-use Rattle.shelf_core.specs.declared.outside.ShelfStop.TheVariants.{Failed}
+use Rattle.shelf_core.specs.declared.outside.ShelfStop.TheVariants.{Failed, Memory}
 use Rattle.shelf_core.specs.Fault.{Rose}
 use Rattle.shelf_core.specs.State.{ShelfState, Closed, Reading, Writing, grown}
 
@@ -21,7 +21,10 @@ pub record Opens (tells : Bool) (name : List ℕ) (old new : ShelfState) (result
   pub none_open : IfOk result (λ found. IfNone found (new.mode ≡ Closed))
   -- after a refusal none is open
   pub refused : OnErr result (new.mode ≡ Closed)
-  pub faults : old.faults ≤ new.faults
+  -- a failure is counted, and nothing else is
+  pub counted : new.faults ≡ old.faults + new.latest
+  pub clean : OnOk result (new.faults ≡ old.faults)
+  pub no_memory : result ≡ Err Memory → new.faults ≡ old.faults
   pub failed : result ≡ Err Failed → Rose old.faults new.faults
 
 -- Reading the next bytes of the open file into a buffer that held `before` and then holds `after`.
@@ -40,7 +43,10 @@ pub record Reads (tells : Bool) (old new : ShelfState) (before after : List ℕ)
   -- after a refusal as much is unread as before
   pub left_stays : OnErr result (new.left ≡ old.left)
   pub unread_stays : OnErr result (new.unread ≡ old.unread)
-  pub faults : old.faults ≤ new.faults
+  -- a failure is counted, and nothing else is
+  pub counted : new.faults ≡ old.faults + new.latest
+  pub clean : OnOk result (new.faults ≡ old.faults)
+  pub no_memory : result ≡ Err Memory → new.faults ≡ old.faults
   pub failed : result ≡ Err Failed → Rose old.faults new.faults
 
 -- Making the file `name` anew, empty, and opening it for writing.
@@ -53,7 +59,10 @@ pub record Creates (tells : Bool) (name : List ℕ) (old new : ShelfState) (resu
   -- after a refusal none is open, and the file is as before or empty
   pub refused : OnErr result (new.mode ≡ Closed)
   pub kept : IsTrue tells → OnErr result ((new.held name ≡ old.held name) ⊎ (new.held name ≡ Some []))
-  pub faults : old.faults ≤ new.faults
+  -- a failure is counted, and nothing else is
+  pub counted : new.faults ≡ old.faults + new.latest
+  pub clean : OnOk result (new.faults ≡ old.faults)
+  pub no_memory : result ≡ Err Memory → new.faults ≡ old.faults
   pub failed : result ≡ Err Failed → Rose old.faults new.faults
 
 -- Writing a piece at the end of the open file.
@@ -65,7 +74,10 @@ pub record Appends (tells : Bool) (piece : List ℕ) (old new : ShelfState) (res
   -- the file grows by the piece, and on a refusal by some first part of it
   pub whole : IsTrue tells → OnOk result (new.held old.name ≡ grown (old.held old.name) piece)
   pub part : IsTrue tells → OnErr result ((k : ℕ) × (new.held old.name ≡ grown (old.held old.name) (take k piece)))
-  pub faults : old.faults ≤ new.faults
+  -- a failure is counted, and nothing else is
+  pub counted : new.faults ≡ old.faults + new.latest
+  pub clean : OnOk result (new.faults ≡ old.faults)
+  pub no_memory : result ≡ Err Memory → new.faults ≡ old.faults
   pub failed : result ≡ Err Failed → Rose old.faults new.faults
 
 -- Closing the open file.
@@ -73,5 +85,8 @@ pub record Closes (tells : Bool) (old new : ShelfState) (result : Result (Unit {
   -- no file changes, and none is open after any answer
   pub files : (n : List ℕ) → new.held n ≡ old.held n
   pub closed : new.mode ≡ Closed
-  pub faults : old.faults ≤ new.faults
+  -- a failure is counted, and nothing else is
+  pub counted : new.faults ≡ old.faults + new.latest
+  pub clean : OnOk result (new.faults ≡ old.faults)
+  pub no_memory : result ≡ Err Memory → new.faults ≡ old.faults
   pub failed : result ≡ Err Failed → Rose old.faults new.faults

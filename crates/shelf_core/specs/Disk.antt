@@ -1,7 +1,8 @@
 -- How a file of the machine stands open.
-use Rattle.std.specs.Prelude.{◌≡◌, ℕ, [], None}
+use Rattle.std.specs.Prelude.{◌≡◌, ℕ, ◌-◌, [], None}
 use Rattle.shelf_core.specs.State.{Mode, Closed, Reading, Writing, ShelfState}
 use Rattle.shelf_core.specs.declared.disk_shelf.Opened.{Opened}
+use Rattle.shelf_core.specs.declared.file_error.Faults.{Faults}
 use Rattle.shelf_core.specs.declared.disk_shelf.Opened.TheVariants as opened
 
 abbrev pub disk_mode : {F A : Type 0} → Opened F A → Mode
@@ -21,7 +22,18 @@ pub record IsOpenToRead {F A : Type 0} (file : Opened F A) (left : ℕ) : Type 0
   pub mode : disk_mode file ≡ Reading
   pub unread : disk_left file ≡ left
 
--- what is known of the machine's files: which kind of call is open, how much is unread, and the count of failures
-abbrev pub disk_state : {F A : Type 0} → Opened F A → ℕ → ShelfState
-disk_state file faults =
-    record { held = λ _. None; mode = disk_mode file; name = []; left = disk_left file; unread = []; faults = faults }
+-- how many failures came in the last call
+abbrev pub latest_of : Faults → ℕ
+latest_of faults = faults.count - faults.before
+
+-- what is known of the machine's files: which kind of call is open, how much is unread, and the failures
+abbrev pub disk_state : {F A : Type 0} → Opened F A → Faults → ShelfState
+disk_state file faults = record {
+  held = λ _. None;
+  mode = disk_mode file;
+  name = [];
+  left = disk_left file;
+  unread = [];
+  faults = faults.count;
+  latest = latest_of faults;
+}

@@ -5,9 +5,9 @@ use Rattle.shelf_core.specs.Failing.{Failing}
 use Rattle.shelf_core.specs.declared.mem_shelf.MemShelf.{MemShelf}
 use Rattle.shelf_core.specs.declared.mem_sink.MemSink.{MemSink}
 
--- a shelf without failures, with that many of them
-abbrev pub with_faults : ShelfState → ℕ → ShelfState
-with_faults state faults = record state { faults = faults }
+-- a shelf without failures, with those that were told
+abbrev pub with_faults : ShelfState → Failing → ShelfState
+with_faults state failing = record state { faults = failing.faults; latest = failing.latest }
 
 -- which calls of a shelf fail, and how many there were
 abbrev pub failing_of : MemShelf → Failing

@@ -7,7 +7,7 @@ use Rattle.shelf_core.specs.declared.safe_shelf.Opened.TheVariants as opened
 
 -- a sink in memory is the bytes that were written to it
 abbrev pub safe_sink : List ℕ → SinkState
-safe_sink bytes = record { written = bytes; faults = 0 }
+safe_sink bytes = record { written = bytes; faults = 0; latest = 0 }
 
 -- a file: its name and its bytes
 abbrev pub File : Type 0
@@ -57,6 +57,7 @@ safe_shelf files open_as = record {
   left = length (open_unread files open_as);
   unread = open_unread files open_as;
   faults = 0;
+  latest = 0;
 }
 
 -- how many files there have to be for the one that is open

@@ -20,12 +20,16 @@ pub record ShelfState : Type 0 where
   pub unread : List ℕ
   -- how many failures there were
   pub faults : ℕ
+  -- how many of them came in the last call
+  pub latest : ℕ
 
 pub record SinkState : Type 0 where
   -- all bytes that the sink took, in order
   pub written : List ℕ
   -- how many failures there were
   pub faults : ℕ
+  -- how many of them came in the last call
+  pub latest : ℕ
 
 -- What a name holds once a piece was written at the end of its file.
 abbrev pub grown : Option (List ℕ) → List ℕ → Option (List ℕ)

@@ -98,10 +98,11 @@ impl<R: Runtime> Shelf for DiskShelf<R> {
 
     ghost tells = { false };
 
-    ghost state = { λ shelf. disk_state shelf.opened shelf.faults.count };
+    ghost state = { λ shelf. disk_state shelf.opened shelf.faults };
 
     fn open(&mut self, name: &str) -> Result<Option<u64>, ShelfStop> {
-        self.name = String::from_str(self.rt.alloc(), name)?;
+        let copy = String::from_str(self.rt.alloc(), name).map_err(FileStop::from);
+        self.name = self.faults.note(copy)?;
         let found = open_to_read(&self.rt, name, &mut self.used);
         let Some((opened, left)) = self.faults.note(found)? else {
             return Ok(None);
@@ -120,7 +121,8 @@ impl<R: Runtime> Shelf for DiskShelf<R> {
     }
 
     fn create(&mut self, name: &str) -> Result<(), ShelfStop> {
-        self.name = String::from_str(self.rt.alloc(), name)?;
+        let copy = String::from_str(self.rt.alloc(), name).map_err(FileStop::from);
+        self.name = self.faults.note(copy)?;
         let opened = open_to_write(&self.rt, name, &mut self.used);
         self.opened = self.faults.note(opened)?;
         Ok(())

@@ -1,6 +1,6 @@
 //! Why a call on the machine's files failed.
 
-ghost use Rattle.std.specs.Prelude.{◌≡◌, ◌≤◌, Ok, Err, IfOk, IsErr, OnErr};
+ghost use Rattle.std.specs.Prelude.{◌≡◌, ◌≤◌, Ok, Err, IfOk, IsErr, OnErr, OnOk};
 ghost use Rattle.shelf_core.specs.Fault.{Rose};
 ghost use Rattle.shelf_core.specs.declared.file_error.FileStop.TheVariants.{Memory};
 
@@ -59,20 +59,23 @@ impl fmt::Display for FileError<'_> {
     }
 }
 
-/// The failures of the outside: how many there were, up to 2^64 - 1, and the last one.
+/// The failures of the outside: how many there were, up to 2^64 - 1, and before the last call; and the last one.
 #[derive(Clone, Copy, Debug)]
 pub(crate) struct Faults {
     pub(crate) count: u64,
+    pub(crate) before: u64,
     pub(crate) last: Option<FileFault>,
 }
 
 impl Faults {
     /// There were none.
     pub(crate) fn none() -> Faults
-        ensures { result.count ≡ 0 }
+        ensures none { result.count ≡ 0 }
+        ensures before { result.before ≡ 0 }
     {
         Faults {
             count: 0,
+            before: 0,
             last: None,
         }
     }
@@ -82,8 +85,12 @@ impl Faults {
         ensures ok { IfOk result (λ value. answer ≡ Ok value) }
         ensures err { OnErr result (IsErr answer) }
         ensures kept { self.old.count ≤ self.new.count }
+        ensures before { self.new.before ≡ self.old.count }
+        ensures clean { OnOk result (self.new.count ≡ self.old.count) }
+        ensures no_memory { result ≡ Err ShelfStop.Memory → self.new.count ≡ self.old.count }
         ensures failed { result ≡ Err ShelfStop.Failed → Rose self.old.count self.new.count }
     {
+        self.before = self.count;
         match answer {
             Ok(value) => Ok(value),
             Err(FileStop::Memory) => Err(ShelfStop::Memory),

@@ -36,7 +36,7 @@ impl MemShelf {
         ensures files { IfOk result (λ shelf. (name : List ℕ) → (⟦<MemShelf as Shelf>⟧.state shelf).held name ≡
             look_up (map (λ file. (string_bytes file.0, file.1.items)) files.items) name) }
         ensures cut { IfOk result (λ shelf. most_read shelf ≡ cut) }
-        ensures fail { IfOk result (λ shelf. failing_of shelf ≡ record { numbers = fail.items; calls = 0; faults = 0 }) }
+        ensures fail { IfOk result (λ shelf. failing_of shelf ≡ record { numbers = fail.items; calls = 0; faults = 0; latest = 0 }) }
     {
         Ok(MemShelf {
             inside: SafeShelf::new(alloc, files, cut)?,
@@ -65,7 +65,7 @@ impl Shelf for MemShelf {
 
     ghost tells = { true };
 
-    ghost state = { λ shelf. with_faults (⟦<SafeShelf as Shelf>⟧.state shelf.inside) shelf.failing.faults };
+    ghost state = { λ shelf. with_faults (⟦<SafeShelf as Shelf>⟧.state shelf.inside) shelf.failing };
 
     fn open(&mut self, name: &str) -> Result<Option<u64>, ShelfStop>
         requires { (⟦<MemShelf as Shelf>⟧.state self.old).mode ≡ Closed }

@@ -24,7 +24,7 @@ impl MemSink {
     /// An empty sink that fails at the calls of these numbers.
     pub fn new(alloc: Global, fail: Vec<u64>) -> MemSink
         ensures empty { (⟦<MemSink as Sink>⟧.state result).written ≡ [] }
-        ensures fail { failing_puts result ≡ record { numbers = fail.items; calls = 0; faults = 0 } }
+        ensures fail { failing_puts result ≡ record { numbers = fail.items; calls = 0; faults = 0; latest = 0 } }
     {
         MemSink {
             inside: SafeSink::new(alloc),
@@ -43,7 +43,7 @@ impl MemSink {
 impl Sink for MemSink {
     ghost tells = { true };
 
-    ghost state = { λ sink. record { written = sink.inside; faults = sink.failing.faults } };
+    ghost state = { λ sink. record { written = sink.inside; faults = sink.failing.faults; latest = sink.failing.latest } };
 
     fn put(&mut self, piece: &[u8]) -> Result<(), ShelfStop>
         ensures puts { Puts true piece.now (⟦<MemSink as Sink>⟧.state self.old) (⟦<MemSink as Sink>⟧.state self.new) result }

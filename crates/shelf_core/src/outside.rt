@@ -1,4 +1,4 @@
-ghost use Rattle.std.specs.Prelude.{◌≡◌, ◌≢◌, ◌≤◌, Bool, Err};
+ghost use Rattle.std.specs.Prelude.{◌≡◌, ◌≢◌, Bool, Err};
 ghost use Rattle.shelf_core.specs.Fault.{Rose};
 ghost use Rattle.shelf_core.specs.State.{ShelfState, SinkState, Closed, Reading, Writing};
 ghost use Rattle.shelf_core.specs.Calls.{Opens, Reads, Creates, Appends, Closes};
@@ -27,7 +27,7 @@ pub trait Shelf {
     /// `name` and `unread` of its state mean nothing.
     ghost tells: { Bool };
 
-    /// The files, which of them is open, and the count of faults, which never falls.
+    /// The files, which of them is open, and the counts of faults: all of them, which never falls, and those of the last call.
     ghost state: { Self → ShelfState };
 
     /// Opens a file for reading, and answers its length in bytes, or `None` where there is no such file. None is open
@@ -67,7 +67,7 @@ pub trait Sink: Watch {
     /// Whether the sink tells the bytes that it took. Where it doesn't, `written` of its state means nothing.
     ghost tells: { Bool };
 
-    /// The bytes that were written, and the count of faults, which never falls.
+    /// The bytes that were written, and the counts of faults: all of them, which never falls, and those of the last call.
     ghost state: { Self → SinkState };
 
     /// Writes a piece after all that was written. A refused call may have written some first part of it.

@@ -57,9 +57,11 @@ impl<R: Runtime, W: Watch> Watch for StdSink<R, W> {
 }
 
 impl<R: Runtime, W: Watch> Sink for StdSink<R, W> {
+    ghost use Rattle.shelf_core.specs.Disk.{latest_of};
+
     ghost tells = { false };
 
-    ghost state = { λ sink. record { written = []; faults = sink.faults.count } };
+    ghost state = { λ sink. record { written = []; faults = sink.faults.count; latest = latest_of sink.faults } };
 
     fn put(&mut self, piece: &[u8]) -> Result<(), ShelfStop> {
         self.faults.note(print_all(&self.rt, piece))

@@ -11,7 +11,7 @@ use Rattle.check_steps.specs.declared.outcome.Outcome.TheVariants.{Memory}
 use Rattle.check_steps.specs.declared.outcome.Which.TheVariants.{Second}
 use Rattle.check_steps.proofs.CheckingLemmas.{asks_both, at_first, at_second, by_verdict, check_stopped, stop_end}
 use Rattle.check_steps.proofs.ReadLemmas.{stop_reading, stop_is}
-use Rattle.shelf_core.proofs.FaultLemmas.{rose_later}
+use Rattle.shelf_core.proofs.FaultLemmas.{rose_after}
 use Rattle.check_steps.proofs.Soundness.{sound}
 use Rattle.check_steps.proofs.checking.check_files.Goals as goal
 
@@ -22,6 +22,7 @@ returns-in_err-first g c =
     check_stopped _ _ _ _ _ o (cc (p.1, p.2)) c.read_netlist.ensures.files
     (λ tells words asks. at_first _ words _ _ _ (inl asks) o (c.in_err-first.ensures.ended tells))
     c.in_err-first.ensures.reading
+    c.read_netlist.ensures.last
     (λ e. c.read_netlist.ensures.failed (cc (e, c.in_err-first.was)))
 
 pub returns-in_err-second : goal.returns-in_err-second
@@ -31,7 +32,8 @@ returns-in_err-second g c =
     check_stopped _ _ _ _ _ o (cc (p.1, p.2)) (λ n. c.read_netlist-2.ensures.files n ∙ c.read_netlist.ensures.files n)
     (λ tells words asks. at_second _ words _ _ _ (netlist_of c.in_ok-first.ensures.found.circuit c.in_ok-first.first) (inl asks) (c.in_ok-first.ensures.found.held tells) o (subst (λ content. EndsAt Second content o) (c.read_netlist.ensures.files _) (c.in_err-second.ensures.ended tells)))
     c.in_err-second.ensures.reading
-    (λ e. rose_later _ _ _ c.read_netlist.ensures.faults c.read_netlist-2.ensures.faults (c.read_netlist-2.ensures.failed (cc (e, c.in_err-second.was))))
+    (omega (arith, c.in_ok-first.ensures.clean, c.read_netlist-2.ensures.last))
+    (λ e. rose_after _ _ _ c.in_ok-first.ensures.clean (c.read_netlist-2.ensures.failed (cc (e, c.in_err-second.was))))
 
 pub returns-in_err-outcome : goal.returns-in_err-outcome
 returns-in_err-outcome g c =
@@ -40,7 +42,8 @@ returns-in_err-outcome g c =
     check_stopped _ _ _ _ _ (outcome_of s) (cc (p.1, p.2)) (λ n. c.judge.ensures.files n ∙ c.read_netlist-2.ensures.files n ∙ c.read_netlist.ensures.files n)
     (λ tells words asks. stop_end _ words s)
     (stop_reading s)
-    (λ e. let is = stop_is s e in rose_later _ _ _ (omega (arith, c.read_netlist.ensures.faults, c.read_netlist-2.ensures.faults)) c.judge.ensures.faults (c.judge.ensures.failed (cc (is, c.in_err-outcome.was))))
+    (omega (arith, c.in_ok-first.ensures.clean, c.in_ok-second.ensures.clean, c.judge.ensures.last))
+    (λ e. let is = stop_is s e in rose_after _ _ _ (c.in_ok-second.ensures.clean ∙ c.in_ok-first.ensures.clean) (c.judge.ensures.failed (cc (is, c.in_err-outcome.was))))
 
 pub returns-in_err-report : goal.returns-in_err-report
 returns-in_err-report g c =
@@ -48,6 +51,7 @@ returns-in_err-report g c =
     check_stopped _ _ _ _ _ Memory (cc (p.1, p.2)) (λ n. c.judge.ensures.files n ∙ c.read_netlist-2.ensures.files n ∙ c.read_netlist.ensures.files n)
     (λ tells words asks. tt)
     (stop_reading stop.Memory)
+    (omega (arith, c.in_ok-first.ensures.clean, c.in_ok-second.ensures.clean, c.in_ok-outcome.ensures.clean))
     (λ e. cc)
 
 pub returns : goal.returns
@@ -77,5 +81,6 @@ returns g c =
       };
       judged = judged;
       early = tt;
+      last = omega (arith, c.in_ok-first.ensures.clean, c.in_ok-second.ensures.clean, c.in_ok-outcome.ensures.clean);
       failed = λ e. cc;
     }

@@ -8,6 +8,7 @@ returns g c = record {
   closed = search rules;
   found = λ t. (ap Some (sym (c.in_ok-bytes.ensures.bytes t)), omega (arith, ap length (c.in_ok-bytes.ensures.bytes t), c.requires.told t));
   short = omega (arith, c.in_ok-bytes.ensures.size, c.if-size-limit.false);
-  faults = omega (arith, c.read_rest.ensures.faults, c.close-2.ensures.faults);
+  clean = search rules;
+  last = search (rules, arith);
   failed = search rules;
 }

@@ -8,7 +8,7 @@ pub loop-left-init : goal.loop-left-init
 loop-left-init g c = record {
   unread = c.requires.unread;
   files = λ n. refl;
-  faults = omega arith;
+  clean = refl;
   taken = λ graphs has. ([], has, omega arith, λ told. refl);
 }
 

@@ -11,6 +11,7 @@ returns g c =
       matches = judged.matches;
       refuses = judged.refuses;
       judged = judged.judged;
-      faults = omega (arith, c.judge_by.ensures.judges.faults, c.close.ensures.faults);
+      clean = search rules;
+      last = search (rules, arith);
       failed = search rules;
     }

@@ -10,7 +10,8 @@ returns-in_err-named g c =
     stopped _ _ _ _ _ o tt (err_is _ c.from_residual.ensures.1) c.read_netlist.ensures.files
     (λ tells words asks. right_at_only _ words _ _ asks o (c.in_err-named.ensures.ended tells))
     c.in_err-named.ensures.reading
+    c.read_netlist.ensures.last
     (λ e. c.read_netlist.ensures.failed (cc (e, c.in_err-named.was)))
 
 pub returns : goal.returns
-returns g c = informs _ c.args.info.now _ _ c.in_ok-named.named c.inform_of.result c.read_netlist.ensures.files c.in_ok-named.ensures.found c.inform_of.ensures
+returns g c = informs _ c.args.info.now _ _ c.in_ok-named.named c.inform_of.result c.read_netlist.ensures.files c.in_ok-named.ensures.clean c.in_ok-named.ensures.found c.inform_of.ensures

@@ -81,7 +81,7 @@ returns-clause-cut g c = λ tells untold. may_be_cut _ _ _ _ (c.answer-ending.en
 pub returns-clause-write_fault : goal.returns-clause-write_fault
 returns-clause-write_fault g c = λ is.
     elim (c.tell.ensures.write_fault is) [
-      | inl fault ↦ inr (c.answer-ending.ensures.write_fault fault)
+      | inl (fault, silent) ↦ let cause = c.answer-ending.ensures.write_fault fault in inr (cause.0, cause.1, silent)
       | inr rose ↦ inl rose
     ]
 

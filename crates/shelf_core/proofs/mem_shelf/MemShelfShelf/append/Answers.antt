@@ -12,6 +12,8 @@ returns-in_err-next-clause-appends c =
       named = refl;
       whole = search rules;
       part = λ tells. search (rules, part);
-      faults = c.next.ensures.rises;
+      counted = c.next.ensures.counted.latest;
+      clean = search rules;
+      no_memory = search rules;
       failed = search rules;
     }
