@@ -15,7 +15,7 @@ use crate::sample_circuits::{
 use account_core::{Ban, PairableGraphs};
 use ban_book::BanBook;
 use circuits::{Pair, PortKind};
-use class_refine::{Refined, refine};
+use class_refine::{Deletion, Mismatches, Refined, deletion_of, refine};
 use cnf_core::Stop;
 use fact_bans::{Asker, Seen};
 use net_core::{Graphs, Side};
@@ -116,13 +116,14 @@ fn hold_all(
     Ok(())
 }
 
-/// What refining over a new oracle comes to.
+/// What refining over a new oracle comes to, and what becomes of a pair by it.
 fn refined_by<O: Oracle>(
     alloc: Global,
     graphs: &PairableGraphs<'_>,
     oracle: &mut O,
     domains: &mut Domains,
-) -> Result<Outcome, AllocError>
+    asked: Pair,
+) -> Result<(Outcome, Fate), AllocError>
     requires graphs { graphs.now ≡ (O.known oracle.old).graphs }
     requires suits { (ledger : Ledgered)
         → ledger.asked ≡ []
@@ -143,38 +144,104 @@ fn refined_by<O: Oracle>(
         ledger: &mut ledger,
     };
     let answer = refine(graphs, &mut asker, domains, &mut book);
-    Ok(outcome_of(&answer, domains.entries().len(), book.bans()))
+    let outcome = outcome_of(&answer, domains.entries().len(), book.bans());
+    let fate = fate_of(alloc, graphs, domains, asked, &mut book)?;
+    Ok((outcome, fate))
 }
 
-/// What refining by all vectors comes to where pairs are assigned.
+/// What became of a pair.
+#[derive(Clone, Copy, Debug, PartialEq, Eq)]
+enum Fate {
+    /// It isn't deleted.
+    Left,
+    /// It clashes with this assigned pair.
+    Clashes(Pair),
+    /// A ban of this many pairs excludes it.
+    Banned(usize),
+    /// It isn't of these circuits.
+    Unknown,
+}
+
+/// What became of a pair, by what excludes it.
+fn fate_of(
+    alloc: Global,
+    graphs: &PairableGraphs<'_>,
+    domains: &Domains,
+    pair: Pair,
+    book: &mut BanBook,
+) -> Result<Fate, AllocError>
+    requires { IsTrail graphs.now book.old domains.now }
+{
+    if !is_of(domains, pair) {
+        return Ok(Fate::Unknown);
+    }
+    let mut made = Mismatches::new(alloc);
+    let deletion = deletion_of(alloc, graphs, domains, pair, &mut made, book)?;
+    Ok(match deletion {
+        None => Fate::Left,
+        Some(Deletion::Clash(with)) => Fate::Clashes(with),
+        Some(Deletion::Ban(number)) => banned_by(book.bans().get(number as usize)),
+    })
+}
+
+/// Whether a pair is of ports that exist.
+fn is_of(domains: &Domains, pair: Pair) -> bool
+    ensures { IsTrue result → IsPairOf domains.now.inputs domains.now.outputs pair }
+{
+    let count = domains.ports(pair.kind);
+    (pair.from < count) & (pair.to < count)
+}
+
+fn banned_by(ban: Option<&Ban>) -> Fate {
+    match ban {
+        Some(ban) => Fate::Banned(ban.pairs.len()),
+        None => Fate::Unknown,
+    }
+}
+
+/// What refining by all vectors comes to where pairs are assigned, and what becomes of a pair by it.
 fn refined_beside(
     alloc: Global,
     graphs: &PairableGraphs<'_>,
     held: &[Pair],
-) -> Result<Outcome, AllocError> {
+    asked: Pair,
+) -> Result<(Outcome, Fate), AllocError> {
     if !are_small(graphs) {
-        return Ok(Outcome::Other);
+        return Ok((Outcome::Other, Fate::Unknown));
     }
     let mut oracle = TableOracle::new(alloc, graphs)?;
     let mut domains = all_open(alloc, graphs)?;
     hold_all(graphs, &mut domains, held)?;
-    refined_by(alloc, graphs, &mut oracle, &mut domains)
+    refined_by(alloc, graphs, &mut oracle, &mut domains, asked)
 }
 
-fn refined_of(alloc: Global, graphs: &Graphs<'_>, held: &[Pair]) -> Result<Outcome, AllocError> {
+fn refined_of(
+    alloc: Global,
+    graphs: &Graphs<'_>,
+    held: &[Pair],
+    asked: Pair,
+) -> Result<(Outcome, Fate), AllocError> {
     match PairableGraphs::new(graphs) {
-        Some(graphs) => refined_beside(alloc, &graphs, held),
-        None => Ok(Outcome::Other),
+        Some(graphs) => refined_beside(alloc, &graphs, held, asked),
+        None => Ok((Outcome::Other, Fate::Unknown)),
     }
 }
 
-fn refined(alloc: Global, first: Sample, second: Sample, held: &[Pair]) -> Result<Outcome, Fail> {
+fn refined(
+    alloc: Global,
+    first: Sample,
+    second: Sample,
+    held: &[Pair],
+    asked: Pair,
+) -> Result<(Outcome, Fate), Fail> {
     let both = pair(alloc, first, second)?;
     let graphs = both.graphs();
-    Ok(refined_of(alloc, &graphs, held)?)
+    Ok(refined_of(alloc, &graphs, held, asked)?)
 }
 
 const OUTPUT: Pair = port_pair!(Output, 0, 0, false);
+
+const OUTPUT_NEGATED: Pair = port_pair!(Output, 0, 0, true);
 
 const ONE_TO_ONE: Pair = port_pair!(Input, 0, 0, false);
 
@@ -185,6 +252,8 @@ const OTHER_TO_OTHER: Pair = port_pair!(Input, 1, 1, false);
 const ONE_TO_OTHER: Pair = port_pair!(Input, 0, 1, false);
 
 const OTHER_TO_ONE: Pair = port_pair!(Input, 1, 0, false);
+
+const NO_INPUT: Pair = port_pair!(Input, 2, 0, false);
 
 /// Two circuits by name, the pairs that are assigned, and what refining comes to.
 const REFININGS: &[(&str, Sample, Sample, &[Pair], Outcome)] = &[
@@ -239,8 +308,28 @@ const REFININGS: &[(&str, Sample, Sample, &[Pair], Outcome)] = &[
 #[test]
 fn refines_small_circuits(rt: HostRuntime) -> Result<(), Fail> {
     for (name, first, second, held, outcome) in REFININGS.iter() {
-        let found = refined(rt.alloc(), *first, *second, held)?;
+        let (found, _) = refined(rt.alloc(), *first, *second, held, OUTPUT)?;
         assert_eq!(rt; (*name, found), (*name, *outcome));
+    }
+    Ok(())
+}
+
+/// Pairs of the ports of two ANDs whose outputs are paired, and what becomes of them: the output's other way clashes, and an
+/// input that is inverted would make the output fall where the other one rises.
+const FATES: &[(Pair, Fate)] = &[
+    (OUTPUT, Fate::Left),
+    (OUTPUT_NEGATED, Fate::Clashes(OUTPUT)),
+    (ONE_TO_ONE, Fate::Left),
+    (ONE_TO_OTHER, Fate::Left),
+    (ONE_TO_ONE_NEGATED, Fate::Banned(2)),
+    (NO_INPUT, Fate::Unknown),
+];
+
+#[test]
+fn tells_why_pairs_are_deleted(rt: HostRuntime) -> Result<(), Fail> {
+    for (asked, fate) in FATES.iter() {
+        let (_, found) = refined(rt.alloc(), AND, AND, &[OUTPUT], *asked)?;
+        assert_eq!(rt; (*asked, found), (*asked, *fate));
     }
     Ok(())
 }
