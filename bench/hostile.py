@@ -96,6 +96,21 @@ def over_chain(gates, outputs):
     return blif(names("i", 4), names("o", outputs), [*long_chain(gates), *(f".names p o{k}\n1 1\n" for k in range(outputs))])
 
 
+def own_chains(outputs, last):
+    """Outputs that each end a chain of a hundred gates of their own over 16 inputs."""
+    lines = []
+    for k in range(outputs):
+        signals = ["i0", *(f"s{k}_{t}" for t in range(99)), f"o{k}"]
+        lines += [f".names {signals[t]} i{t % 16} {signals[t + 1]}\n" + (AND if t < 99 else last) for t in range(100)]
+    return blif(names("i", 16), names("o", outputs), lines)
+
+
+def own_vector_account(outputs):
+    """A hundred bans for each output, by a vector of all inputs."""
+    inputs = " ".join(f"i{k}+{k}" for k in range(16))
+    return "npnp 1\n" + "".join(f"ban {inputs} o{k}+{k} : vector {k} ={'1' * 16}\n" for k in range(outputs)) * 100 + "end\n"
+
+
 def rows_netlist(count):
     """One cover with this many rows."""
     return ".model m\n.inputs a b\n.outputs o\n.names a b o\n" + "01 1\n" * count + ".end\n"
@@ -107,6 +122,7 @@ def rows():
     checked = ("check", *both)
     yield "cover between ports, one ban named by each way (check)", (512, 1024), lambda n: (constants(n, ZERO), constants(n, ONE), cover_account(n)), checked, "rejected line 4 order"
     yield "vector bans over all ports (check)", (256, 512), lambda n: (constants(n, ZERO), constants(n, ONE), vector_account(n)), checked, "rejected line"
+    yield "vector bans of outputs in turn, of 100 gates each (check)", (32, 64), lambda n: (own_chains(n, AND), own_chains(n, "0- 1\n-0 1\n"), own_vector_account(n)), checked, "rejected line"
     yield "fails, each beside 200,000 gates (check)", (50_000, 100_000), lambda n: (beside_chain(200_000),) * 2 + (fails_account(n),), checked, "rejected line"
     yield "fails, each of another output over 20,000 gates (check)", (500, 1000), lambda n: (over_chain(20_000, n),) * 2 + (each_fails_account(n),), checked, "rejected line"
     yield "ANDs against as many with one XOR (match)", (256, 512), lambda n: (ands(n), ands(n, XOR), ""), ("match", *both), "no matching"

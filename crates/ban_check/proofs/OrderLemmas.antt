@@ -1,5 +1,5 @@
 -- Pairs are in order where each stands before the next, and no two of a kind go to one port.
-use Rattle.std.proofs.Common.{◌≡◌, ◌≢◌, ◌↔◌, ℕ, zero, suc, ◌+◌, ◌-◌, ◌<◌, ◌≤◌, ◌&&◌, eqb, Bool, true, false, cond, List, [], ◌∷◌, ◌++◌, length, drop, get_or, All, AllPairs, slice_index_or, inl, inr, refl, sym, ap, subst, ◌∙◌, append_assoc, arith}
+use Rattle.std.proofs.Common.{◌≡◌, ◌≢◌, ◌↔◌, ℕ, suc, ◌+◌, ◌-◌, ◌<◌, ◌&&◌, eqb, Bool, true, false, cond, List, [], ◌∷◌, ◌++◌, length, drop, get_or, All, AllPairs, slice_index_or, inl, inr, refl, sym, ap, subst, ◌∙◌, append_assoc, arith}
 use Rattle.std.specs.Bool.{IsTrue}
 use Rattle.std.specs.List.Sorted.{IsPermutation, IsSorted}
 use Rattle.std.specs.Ordering.{nat_cmp}
@@ -17,7 +17,7 @@ use Rattle.circuits.specs.declared.port.PortKind.TheVariants.{Input, Output}
 use Rattle.net_core.proofs.ConeLemmas.{ascending_cone}
 use Rattle.claim_core.specs.Images.{same_kind}
 use Rattle.account_core.specs.Held.{ArePortsInTurn, StandsBefore}
-use Rattle.account_core.specs.Ports.{AreOrdered, StandInOrder}
+use Rattle.account_core.specs.Ports.{AreOrdered}
 use Rattle.account_core.specs.Tallies.{Ascend}
 use Rattle.ban_check.specs.Seconds.{seconds_of}
 use Rattle.ban_check.proofs.BoolLemmas.{both_tests, front, same_test}

@@ -1,14 +1,12 @@
 -- Where an output goes.
-use Rattle.std.proofs.Common.{◌≡◌, ℕ, ◌+◌, ◌<◌, ◌&&◌, ◌==◌, Bool, true, List, length, get_or, take, All, Some, refl, sym, subst, ap, ◌∙◌, inl, inr, arith, slice_index_or}
-use Rattle.std.proofs.lemmas.Bool.{cases_lt}
-use Rattle.std.proofs.lemmas.List.{get_or_default, get_or-take, length-take}
+use Rattle.std.proofs.Common.{◌≡◌, ℕ, ◌<◌, ◌&&◌, ◌==◌, Bool, true, List, length, All, Some, refl, subst}
 use Rattle.circuits.specs.declared.port.Pair.{Pair}
 use Rattle.circuits.specs.declared.port.PortKind.{PortKind}
 use Rattle.circuits.specs.declared.port.PortKind.TheVariants.{Input, Output}
 use Rattle.net_core.specs.Sides.{Graphs}
 use Rattle.claim_core.specs.Images.{is_of, pair_of, same_kind}
 use Rattle.claim_core.proofs.ImageLemmas.{found-is}
-use Rattle.account_core.specs.Ports.{ports_in, AreOrdered, IsKnown, StandInOrder}
+use Rattle.account_core.specs.Ports.{ports_in, IsKnown}
 
 -- an output's partner exists
 is_output : (kind : PortKind) (b : Bool) → (same_kind kind Output && b) ≡ true → kind ≡ Output

@@ -9,8 +9,8 @@ ghost use Rattle.ban_check.specs.Cones.{gate_at, output_at, AreConeValues, IsClo
 
 use net_core::{Gate, Graph, Lit, SignalValue, gate_value, literal_value, put_inputs};
 
-/// What an output has where the inputs have these values. Only the gates of its cone are evaluated, in `values`, which has room for
-/// each signal.
+/// What an output has where the inputs have these values. Only the gates of its cone are evaluated, in `values`, which
+/// has room for each signal.
 pub(crate) fn cone_value<V: SignalValue>(
     graph: &Graph,
     output: u32,
@@ -67,7 +67,8 @@ fn eval_one<V: SignalValue>(gates: &[Gate], first: usize, gate: usize, values: &
     requires order { AreInOrder first gates.now }
     requires there { gate < length gates.now }
     requires room { first + length gates.now ≡ length values.old }
-    ensures { values.new ≡ slice_set values.old (first + gate) (gate_value V.operations values.old (gate_at gates.now gate)) }
+    ensures { values.new ≡ slice_set values.old (first + gate)
+        (gate_value V.operations values.old (gate_at gates.now gate)) }
 {
     let value = gate_value(values, gates[gate]);
     values[first + gate] = value;

@@ -8,12 +8,13 @@ use items::Items;
 use net_core::Graph;
 use std::alloc::{AllocError, Global};
 
-/// For this many gates a signal of the circuit there is room in the cones that are kept, and one cone may go beyond. With four bytes
-/// each they take four times as much as the gates themselves.
+/// For this many gates a signal of the circuit there is room in the cones that are kept, and one cone may go beyond.
+/// With four bytes each they take four times as much as the gates themselves.
 const LISTED_A_SIGNAL: usize = 8;
 
-/// How many outputs are evaluated by all gates before cones that leave no room are let go. To find a cone costs as much for each
-/// of its gates as to evaluate some twenty, so that finding all that there is room for costs less than so many evaluations.
+/// How many outputs are evaluated by all gates before cones that leave no room are let go. To find a cone costs as much
+/// for each of its gates as to evaluate some twenty, so that finding all that there is room for costs less than so many
+/// evaluations.
 const WHOLE_EVALUATIONS: u32 = 256;
 
 /// Cones of outputs.

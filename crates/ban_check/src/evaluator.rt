@@ -15,8 +15,8 @@ use std::alloc::{AllocError, Global};
 use std::marker::Model;
 use word_sim::{Tri, tri_output};
 
-/// Two circuits, of whose outputs one after the other is evaluated. The cones of outputs are kept, since most are asked for again;
-/// what they list and the room for values is in proportion to the circuits. Contracts see the two circuits.
+/// Two circuits, of whose outputs one after the other is evaluated. The cones of outputs are kept, since most are asked
+/// for again; what they list and the room for values is in proportion to the circuits. Contracts see the two circuits.
 pub struct Evaluator<'a> {
     graphs: &'a Graphs<'a>,
     first: OutputValues<'a>,
@@ -94,7 +94,8 @@ impl<'a> Evaluator<'a> {
         requires output { output < length (graph_of self.old side).outputs }
         requires inputs { length inputs.now ≡ (graph_of self.old side).inputs }
         ensures same { self.new ≡ self.old }
-        ensures value { IfOk result (λ value. value ≡ slice_index_or (tri_outputs (graph_of self.old side) inputs.now) output X) }
+        ensures value { IfOk result (λ value. value
+            ≡ slice_index_or (tri_outputs (graph_of self.old side) inputs.now) output X) }
     {
         match side {
             Side::First => self.first.tri(alloc, output, inputs),

@@ -24,7 +24,8 @@ pub(crate) struct Port {
     number: u32,
 }
 
-/// Pairs in order, of which that of a port is found in one step, however many there are. Contracts see the list of the pairs.
+/// Pairs in order, of which that of a port is found in one step, however many there are. Contracts see the list of the
+/// pairs.
 #[derive(Drop)]
 pub(crate) struct Held<'a> {
     pairs: &'a [Pair],
@@ -135,7 +136,8 @@ fn has_pair(by_port: &IndexMap<Port, Pair>, pair: Pair) -> bool
 
 // Whether one of a pair's ports is another pair's.
 fn is_taken(by_port: &IndexMap<Port, Pair>, pair: Pair) -> bool
-    ensures { IsTrue result ↔ (IsAnothers by_port.now.entries Side.First pair ⊎ IsAnothers by_port.now.entries Side.Second pair) }
+    ensures { IsTrue result ↔ (IsAnothers by_port.now.entries Side.First pair
+        ⊎ IsAnothers by_port.now.entries Side.Second pair) }
 {
     is_anothers(by_port, Side::First, pair) | is_anothers(by_port, Side::Second, pair)
 }

@@ -1,6 +1,5 @@
 use Rattle.std.proofs.Common.{◌≢◌, ◌↔◌, AllPairs, subst}
 use Rattle.std.specs.Bool.{IsTrue}
-use Rattle.std.specs.Prelude.{List}
 use Rattle.account_core.specs.Tallies.{Ascend}
 use Rattle.ban_check.proofs.OrderLemmas.{sorted_apart}
 use Rattle.ban_check.proofs.ports.go_apart.Goals as goal
