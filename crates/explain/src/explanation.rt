@@ -8,6 +8,7 @@ use crate::faults::FileFault;
 use crate::malformed::{put_malformed, put_unread};
 use crate::meanings::meaning_of_line;
 use crate::notice::FORMS;
+use crate::spending::{put_enough_of_one, put_enough_of_two};
 use crate::word_fault::fault_of_words;
 use account_check::Why;
 use check_steps::{Command, Outcome, ReadStop, Which, command_asked};
@@ -49,6 +50,11 @@ pub fn files_read_again<'a>(words: &'a [String], outcome: &Outcome) -> [Option<&
         Outcome::NoMatching => [Which::First, Which::Second, Which::Account].map(|which| name_of(
             words, which,
         )),
+        Outcome::Spent(_) => [
+            name_of(words, Which::First),
+            name_of(words, Which::Second),
+            None,
+        ],
         _ => [None, None, None],
     }
 }
@@ -91,6 +97,7 @@ fn put_explanation<S: Shelf>(
         }
         Outcome::Rejected { line, why } => { put_rejected(alloc, told, *line, *why, shelf, text) }
         Outcome::NoMatching => put_no_matching(alloc, told, shelf, text),
+        Outcome::Spent(ledger) => put_spent(alloc, told, ledger.budget(), shelf, text),
         _ => Ok(()),
     }
 }
@@ -188,6 +195,32 @@ fn put_no_matching<S: Shelf>(
 {
     match command_asked(told.words) {
         Some(Command::Match(asked)) if told.readable => put_refusal(alloc, &asked, shelf, text),
+        _ => Ok(()),
+    }
+}
+
+/// Says that a budget was spent, and what budget is enough for the circuits.
+fn put_spent<S: Shelf>(
+    alloc: Global,
+    told: &Told<'_>,
+    budget: u64,
+    shelf: &mut S,
+    text: &mut String,
+) -> Result<(), ReadStop>
+    requires { (S.state shelf.old).mode ≡ Closed }
+    ensures { (n : List ℕ) → (S.state shelf.new).held n ≡ (S.state shelf.old).held n }
+{
+    writeln!(
+        text,
+        "npnp: the budget of {budget} learned clauses was spent"
+    )?;
+    match command_asked(told.words) {
+        Some(Command::Match(asked)) if told.readable => {
+            put_enough_of_two(alloc, &asked, shelf, text)
+        }
+        Some(Command::Info(asked)) if told.readable => put_enough_of_one(
+            alloc, &asked, shelf, text,
+        ),
         _ => Ok(()),
     }
 }

@@ -12,6 +12,7 @@ mod meanings;
 mod notice;
 mod places;
 mod remedies;
+mod spending;
 mod version;
 mod word_fault;
 

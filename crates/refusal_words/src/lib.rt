@@ -10,5 +10,5 @@ mod refusal;
 mod shown;
 
 pub use pieces::{Seek, Wanted, seek_in};
-pub use refusal::put_refusal;
+pub use refusal::{netlist_again, put_refusal};
 pub use shown::Shown;

@@ -13,6 +13,7 @@ use account_core::{Ban, Step};
 use check_steps::{Match, ReadStop, Which, read_netlist};
 use circuits::PortKind;
 use claim_core::Claim;
+use net_file::Named;
 use shelf_core::Shelf;
 use std::alloc::Global;
 use std::fmt;
@@ -47,8 +48,23 @@ fn source_again<'a, S: Shelf>(
     ensures files { (n : List ℕ) → (S.state shelf.new).held n ≡ (S.state shelf.old).held n }
     ensures closed { OnOk result ((S.state shelf.new).mode ≡ Closed) }
 {
+    let named = netlist_again(alloc, shelf, which, file)?;
+    Ok(Source { file, named })
+}
+
+/// The netlist of a file that a run has read. Where it can't be read as one again, that is a read fault.
+pub fn netlist_again<S: Shelf>(
+    alloc: Global,
+    shelf: &mut S,
+    which: Which,
+    file: &str,
+) -> Result<Named, ReadStop>
+    requires { (S.state shelf.old).mode ≡ Closed }
+    ensures files { (n : List ℕ) → (S.state shelf.new).held n ≡ (S.state shelf.old).held n }
+    ensures closed { OnOk result ((S.state shelf.new).mode ≡ Closed) }
+{
     match read_netlist(alloc, shelf, which, file, &Silent) {
-        Ok(named) => Ok(Source { file, named }),
+        Ok(named) => Ok(named),
         Err(_) => Err(ReadStop::ReadFault),
     }
 }
