@@ -10,8 +10,7 @@ use std::alloc::{AllocError, Global};
 const SEED: u64 = 1;
 
 /// Up to how many inputs are decided first. Then a question learns about as many lines at most as the inputs have
-/// vectors, where an S-box of 8 inputs and two thousand gates took up to 28,000 by candidates, and 90 times as long as
-/// minisat.
+/// vectors, where an S-box of 8 inputs and 2,000 gates took up to 28,000 by candidates, and 90 times minisat's time.
 const FEW_INPUTS: usize = 10;
 
 /// The pairs of a query's gates that seem to be equal.

@@ -9,8 +9,7 @@ use bit_list::Marks;
 use cnf_core::{Clause3, SatLit};
 use std::alloc::{AllocError, Global};
 
-/// The variables of clauses, ascending: the search looks first at those of the greatest numbers, as it would in the
-/// formula.
+/// The variables of clauses, ascending: the search looks first at those of the greatest numbers, as in the formula.
 pub(crate) fn names_of(
     alloc: Global,
     clauses: &[Clause3],

@@ -7,8 +7,7 @@ ghost use Rattle.ask_core.specs.Renamings.{AreNames, ArePlaces, TellPlaces};
 use std::alloc::{AllocError, Global};
 
 /// A table costs a word for each variable, which is zeroed at once, and a bisection some ten comparisons for each of
-/// the two or three literals of a clause. With this many variables for a clause the table is reckoned, not measured, to
-/// cost as much.
+/// the two or three literals of a clause. With this many variables for a clause both are reckoned to cost the same.
 const VARIABLES_A_CLAUSE: usize = 32;
 
 /// How the place of a name is found.

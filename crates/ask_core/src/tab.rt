@@ -8,8 +8,7 @@ use std::alloc::Global;
 use std::marker::Model;
 use watch_core::{Stage, Watch};
 
-/// Of this many learned lines one is told. They come by the thousand in a second, and what is shown changes once in
-/// one.
+/// Of this many learned lines one is told. They come by the thousand a second, and what is shown changes once in one.
 const TOLD_EVERY: u64 = 64;
 
 /// A budget, and for contracts alone the lines that were charged to it, a refused one last: the solver has them. A

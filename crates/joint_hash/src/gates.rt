@@ -50,8 +50,7 @@ pub(crate) fn is_last(id: u64) -> bool
     (0 < id) & (id % 3 == 0)
 }
 
-/// The gate whose last clause's number stands at a place among the numbers of the cones' clauses, if it is such a
-/// number.
+/// The gate whose last clause's number stands at a place among the numbers of the cones' clauses, if it is such a one.
 pub(crate) fn gate_at(cones: &ConeClauses<'_>, place: usize) -> Option<ConeGate>
     ensures { IfSome result (IsGateOf cones.now.graphs cones.now.query) }
 {

@@ -43,8 +43,7 @@ pub(crate) fn add_lemma(
     Ok(())
 }
 
-/// Adds the lemma that one of two literals is true, where the clauses of these numbers derive it. Answers whether they
-/// do.
+/// Adds the lemma that one of two literals is true, where the clauses of these numbers derive it. Answers whether so.
 pub(crate) fn add_derived(
     alloc: Global,
     cones: &ConeClauses<'_>,

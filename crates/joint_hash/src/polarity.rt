@@ -1,5 +1,4 @@
-//! Questions that polarity excludes: of gates of the one cone it is derived that they imply their copies in the other
-//! one.
+//! Questions that polarity excludes: it is derived that gates of the one cone imply their copies in the other one.
 
 ghost use Rattle.std.specs.Prelude.{◌≡◌, IfOk, IfSome, OnOk, length};
 ghost use Rattle.claim_core.specs.Formulas.{query_clauses};
@@ -16,8 +15,7 @@ use indexmap::IndexMap;
 use query_core::ConeClauses;
 use std::alloc::{AllocError, Global};
 
-/// Where polarity excludes what is asked, adds a lemma for each gate that propagation needs to show it, and else
-/// nothing.
+/// Where polarity excludes what is asked, adds a lemma for each gate that propagation needs to show it.
 ///
 /// Both cones are of one circuit then, and an input that is fed 0 in the one is fed 1 in the other. Where each path
 /// from it to the output has an even number of complements, the output never falls, and each gate on the way implies
@@ -153,8 +151,7 @@ fn unit_at(cones: &ConeClauses<'_>, before_last: usize) -> Option<SatLit> {
 
 // Wants the implications by which the outputs can't have the values that are asked for. Answers among how many of the
 // cone's gates, from the first one on, lemmas are needed to show it. None is needed above the topmost gate two operands
-// of which are to imply those of its copy: where a gate and its copy differ, propagation goes on to a single operand by
-// itself.
+// of which are to imply those of its copy: where a gate and its copy differ, propagation goes on to a single operand.
 fn want_all(
     cones: &ConeClauses<'_>,
     twins: &IndexMap<u64, Twin>,

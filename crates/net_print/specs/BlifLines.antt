@@ -43,14 +43,16 @@ output_lines inputs k output =
     ∷ ((row_byte output ∷ []) ∷ codes "1" ∷ [])
     ∷ []
 
--- the covers of the gates from gate t on, and of the outputs from output k on
+-- the covers of gates or of outputs whose numbers begin at k
+abbrev pub covers_from : {T : Type 0} → (ℕ → ℕ → T → List (List (List ℕ))) → ℕ → ℕ → List T → List (List (List ℕ))
+covers_from {T} lines inputs k [] = []
+covers_from {T} lines inputs k (first ∷ rest) = lines inputs k first ++ covers_from lines inputs (k + 1) rest
+
 abbrev pub gates_lines : ℕ → ℕ → List Gate → List (List (List ℕ))
-gates_lines inputs t [] = []
-gates_lines inputs t (gate ∷ gates) = gate_lines inputs t gate ++ gates_lines inputs (t + 1) gates
+gates_lines = covers_from gate_lines
 
 abbrev pub outputs_lines : ℕ → ℕ → List Lit → List (List (List ℕ))
-outputs_lines inputs k [] = []
-outputs_lines inputs k (output ∷ outputs) = output_lines inputs k output ++ outputs_lines inputs (k + 1) outputs
+outputs_lines = covers_from output_lines
 
 -- the line that declares ports: the directive, then their names
 abbrev pub ports_line : List ℕ → ℕ → ℕ → List (List ℕ)

@@ -1,107 +1,91 @@
 //! The covers of a BLIF file: one for each gate and for each output.
 
-ghost use Rattle.std.specs.Prelude.{◌≡◌, ◌+◌, ◌<◌, ◌^◌, [], ◌∷◌, ◌++◌, length, OnOk};
+ghost use Rattle.std.specs.Prelude.{◌≡◌, ℕ, ◌+◌, ◌<◌, ◌^◌, List, [], ◌∷◌, ◌++◌, length, OnOk};
 ghost use Rattle.std.specs.Fmt.{decimal};
 ghost use Rattle.circuits.specs.Literals.{signal_of};
 ghost use Rattle.text_core.specs.Extends.{Extends};
-ghost use Rattle.net_print.specs.BlifLines.{words_text, gates_lines, gate_lines, outputs_lines, output_lines, signal_name, operands_text, row_byte};
+ghost use Rattle.net_print.specs.BlifLines.{covers_from, gate_lines, operands_text, output_lines, row_byte, signal_name, words_text};
 
 use crate::ports::put_name;
-use net_core::{Gate, Graph, Lit};
+use net_core::{Gate, Lit};
 use std::alloc::AllocError;
 use text_core::{Parts, put_last_number, put_text};
 
-/// The cover of each gate.
-#[derive(Drop)]
-pub(crate) struct GateCovers<'a> {
-    inputs: u32,
-    next: u64,
-    gates: &'a [Gate],
-    ghost few: { next + length gates.now < 2 ^ 64 },
+/// What a BLIF file has a cover of.
+pub(crate) trait Covered {
+    /// The lines of its cover in a netlist of n inputs, by its number among the gates, or among the outputs.
+    ghost lines: { ℕ → ℕ → Self → List (List (List ℕ)) };
+
+    /// Writes its cover.
+    fn put_cover(&self, inputs: u32, number: u64, out: &mut Vec<u8>) -> Result<(), AllocError>
+        ensures ok { OnOk result (out.new.items ≡ out.old.items ++ words_text (lines inputs number self.now)) }
+        ensures kept { Extends out.old.items out.new.items };
 }
 
-impl<'a> GateCovers<'a> {
-    pub(crate) fn new(graph: &'a Graph) -> GateCovers<'a>
-        ensures { ⟦<GateCovers<'a> as Parts>⟧.left result ≡ words_text (gates_lines graph.now.inputs 0 graph.now.gates) }
+/// The cover of each gate, or of each output.
+#[derive(Drop)]
+pub(crate) struct Covers<'a, T> {
+    inputs: u32,
+    next: u64,
+    covered: &'a [T],
+    ghost few: { next + length covered.now < 2 ^ 64 },
+}
+
+impl<'a, T: Covered> Covers<'a, T> {
+    pub(crate) fn new(inputs: u32, covered: &'a [T]) -> Covers<'a, T>
+        ensures { ⟦<Covers<'a, T> as Parts>⟧.left result ≡ words_text (covers_from T.lines inputs 0 covered.now) }
     {
-        GateCovers {
-            inputs: graph.inputs(),
+        let _few = covered.len();
+        Covers {
+            inputs,
             next: 0,
-            gates: graph.gates(),
+            covered,
         }
     }
 }
 
-impl<'a> Parts for GateCovers<'a> {
-    ghost left = { λ covers. words_text (gates_lines covers.inputs covers.next covers.gates.now) };
+impl<'a, T: Covered> Parts for Covers<'a, T> {
+    ghost left = { λ covers. words_text (covers_from T.lines covers.inputs covers.next covers.covered.now) };
 
-    ghost steps = { λ covers. length covers.gates.now };
+    ghost steps = { λ covers. length covers.covered.now };
 
     fn is_done(&self) -> bool {
-        self.gates.is_empty()
+        self.covered.is_empty()
     }
 
     fn put_next(&mut self, out: &mut Vec<u8>) -> Result<(), AllocError> {
-        let [gate, rest @ ..] = self.gates else {
+        let [first, rest @ ..] = self.covered else {
             return Ok(());
         };
-        put_gate(self.inputs, self.next, *gate, out)?;
+        first.put_cover(self.inputs, self.next, out)?;
         self.next += 1;
-        self.gates = rest;
+        self.covered = rest;
         Ok(())
     }
 }
 
-/// The cover of each output.
-#[derive(Drop)]
-pub(crate) struct OutputCovers<'a> {
-    inputs: u32,
-    next: u64,
-    outputs: &'a [Lit],
-    ghost few: { next + length outputs.now < 2 ^ 64 },
-}
+// Its operands, its own name, and a row.
+impl Covered for Gate {
+    ghost lines = { gate_lines };
 
-impl<'a> OutputCovers<'a> {
-    pub(crate) fn new(graph: &'a Graph) -> OutputCovers<'a>
-        ensures { ⟦<OutputCovers<'a> as Parts>⟧.left result ≡ words_text (outputs_lines graph.now.inputs 0 graph.now.outputs) }
-    {
-        OutputCovers {
-            inputs: graph.inputs(),
-            next: 0,
-            outputs: graph.outputs(),
-        }
+    fn put_cover(&self, inputs: u32, number: u64, out: &mut Vec<u8>) -> Result<(), AllocError> {
+        put_operands(inputs, *self, out)?;
+        put_text(b"g", out)?;
+        put_last_number(number, out)?;
+        put_row(*self, out)
     }
 }
 
-impl<'a> Parts for OutputCovers<'a> {
-    ghost left = { λ covers. words_text (outputs_lines covers.inputs covers.next covers.outputs.now) };
+// An output: its signal, its own name, and a row.
+impl Covered for Lit {
+    ghost lines = { output_lines };
 
-    ghost steps = { λ covers. length covers.outputs.now };
-
-    fn is_done(&self) -> bool {
-        self.outputs.is_empty()
+    fn put_cover(&self, inputs: u32, number: u64, out: &mut Vec<u8>) -> Result<(), AllocError> {
+        put_text(b".names ", out)?;
+        put_operand(inputs, *self, out)?;
+        put_output_name(number, out)?;
+        put_output_row(*self, out)
     }
-
-    fn put_next(&mut self, out: &mut Vec<u8>) -> Result<(), AllocError> {
-        let [output, rest @ ..] = self.outputs else {
-            return Ok(());
-        };
-        put_output(self.inputs, self.next, *output, out)?;
-        self.next += 1;
-        self.outputs = rest;
-        Ok(())
-    }
-}
-
-// Writes the cover of a gate: its operands, its own name, and a row.
-fn put_gate(inputs: u32, t: u64, gate: Gate, out: &mut Vec<u8>) -> Result<(), AllocError>
-    ensures ok { OnOk result (out.new.items ≡ out.old.items ++ words_text (gate_lines inputs t gate)) }
-    ensures kept { Extends out.old.items out.new.items }
-{
-    put_operands(inputs, gate, out)?;
-    put_text(b"g", out)?;
-    put_last_number(t, out)?;
-    put_row(gate, out)
 }
 
 // Writes the directive of a gate's cover and its operands.
@@ -121,17 +105,6 @@ fn put_row(gate: Gate, out: &mut Vec<u8>) -> Result<(), AllocError>
 {
     let row = [row_byte(gate.a), row_byte(gate.b), b' ', b'1', b'\n'];
     put_text(&row, out)
-}
-
-// Writes the cover of an output: its signal, its own name, and a row.
-fn put_output(inputs: u32, k: u64, output: Lit, out: &mut Vec<u8>) -> Result<(), AllocError>
-    ensures ok { OnOk result (out.new.items ≡ out.old.items ++ words_text (output_lines inputs k output)) }
-    ensures kept { Extends out.old.items out.new.items }
-{
-    put_text(b".names ", out)?;
-    put_operand(inputs, output, out)?;
-    put_output_name(k, out)?;
-    put_output_row(output, out)
 }
 
 // Writes the name of an output at the end of a line.

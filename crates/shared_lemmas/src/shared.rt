@@ -28,8 +28,7 @@ use watch_core::Watch;
 const LARGE: u64 = 60_000;
 
 /// Cones are small that have at most one of this many clauses. Where 8 adders of 64 bits stand side by side, sharing
-/// takes questions that structure answers 1.3 times as long as asking alone, and others 0.4 times; where 24 do, 2 and
-/// 0.6 times.
+/// takes questions that structure answers 1.3 times as long as asking alone, and others 0.4; where 24 do, 2 and 0.6.
 const PART: u64 = 8;
 
 /// How many lines questions may get as lemmas in a run. Each is copied for its question, 250 bytes or so, which are
