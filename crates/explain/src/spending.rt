@@ -3,9 +3,9 @@
 ghost use Rattle.std.specs.Prelude.{ℕ, ◌≡◌, List};
 ghost use Rattle.shelf_core.specs.State.{Closed};
 
+use check_steps::{Info, Match, ReadStop, Which};
 use net_core::Graphs;
 use refusal_words::netlist_again;
-use run_steps::{Info, Match, ReadStop, Which};
 use shelf_core::Shelf;
 use std::alloc::Global;
 use work_bound::{enough, tens_enough};
