@@ -347,12 +347,16 @@ fn names_the_second_netlist_as_malformed(rt: HostRuntime) -> Result<(), Fail> {
     expect(&rt, rt.alloc(), CHECK, files, 5, b"malformed second 7 14\n")
 }
 
-/// A shelf whose files are one byte longer than a netlist may be. It counts its calls.
+/// A shelf whose files are one byte longer than a netlist may be. It counts its calls, and a close may fail.
 #[derive(Drop)]
 struct TooLong {
     reading: bool,
     writing: bool,
     calls: u64,
+    close_fails: bool,
+    faults: u64,
+    /// How many faults there were before the last call.
+    before: u64,
 }
 
 impl Shelf for TooLong {
@@ -364,53 +368,76 @@ impl Shelf for TooLong {
       name = [];
       left = 67108865;
       unread = [];
-      faults = 0;
-      latest = 0;
+      faults = shelf.faults;
+      latest = shelf.faults - shelf.before;
     } };
 
     fn open(&mut self, _name: &str) -> Result<Option<u64>, ShelfStop> {
         self.calls = self.calls.saturating_add(1);
+        self.before = self.faults;
         self.reading = true;
         Ok(Some(67_108_865))
     }
 
     fn read(&mut self, _buf: &mut [u8]) -> Result<usize, ShelfStop> {
         self.calls = self.calls.saturating_add(1);
+        self.before = self.faults;
         Err(ShelfStop::Memory)
     }
 
     fn create(&mut self, _name: &str) -> Result<(), ShelfStop> {
         self.calls = self.calls.saturating_add(1);
+        self.before = self.faults;
         self.writing = true;
         Ok(())
     }
 
     fn append(&mut self, _piece: &[u8]) -> Result<(), ShelfStop> {
         self.calls = self.calls.saturating_add(1);
+        self.before = self.faults;
         Err(ShelfStop::Memory)
     }
 
     fn close(&mut self) -> Result<(), ShelfStop> {
         self.calls = self.calls.saturating_add(1);
+        self.before = self.faults;
         self.reading = false;
         self.writing = false;
+        if self.close_fails {
+            self.faults = self.faults.saturating_add(1);
+            return Err(ShelfStop::Failed);
+        }
         Ok(())
     }
 }
 
-#[test]
-fn closes_a_long_netlist_unread(rt: HostRuntime) -> Result<(), Fail> {
+/// Checks over files that are too long: the status, what is printed, and how many calls there were.
+fn expect_of_long_files(
+    rt: &HostRuntime,
+    close_fails: bool,
+    want: (u8, &[u8], u64),
+) -> Result<(), Fail> {
     let mut shelf = TooLong {
         reading: false,
         writing: false,
         calls: 0,
+        close_fails,
+        faults: 0,
+        before: 0,
     };
     let mut sink = SafeSink::new(rt.alloc());
     let status = status_of(rt.alloc(), CHECK, &mut shelf, &mut sink)?;
-    // open and close
-    assert_eq!(rt;
-        (status, sink.written(), shelf.calls),
-        (5, b"too large first\n".as_slice(), 2)
-    );
+    assert_eq!(rt; (status, sink.written(), shelf.calls), want);
     Ok(())
+}
+
+/// By two calls: open and close.
+#[test]
+fn closes_a_long_netlist_unread(rt: HostRuntime) -> Result<(), Fail> {
+    expect_of_long_files(&rt, false, (5, b"too large first\n", 2))
+}
+
+#[test]
+fn says_that_a_long_netlist_was_not_closed(rt: HostRuntime) -> Result<(), Fail> {
+    expect_of_long_files(&rt, true, (6, b"read fault\n", 2))
 }
