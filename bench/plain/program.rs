@@ -18,7 +18,7 @@ use crate::sim_signature::Supports;
 use std::error::Error;
 use std::io;
 
-/// As many lines as `npnp match` learns by default (`run_steps::DEFAULT_BUDGET`).
+/// As many lines as `npnp match` learns by default (`check_steps::DEFAULT_BUDGET`).
 const BUDGET: u64 = 1_000_000_000;
 
 type Answer = Result<(), Box<dyn Error>>;

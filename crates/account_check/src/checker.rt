@@ -52,8 +52,8 @@ pub(crate) enum CheckStage<'a> {
     Refused,
 }
 
-/// Takes an account of two circuits record by record: the header; facts, each that holds with its log, and bans; a conclusion,
-/// which for a match has two logs for each of its outputs; the end.
+/// Takes an account of two circuits record by record: the header; facts, each that holds with its log, and bans; a
+/// conclusion, which for a match has two logs for each of its outputs; the end.
 pub struct Checker<'a> {
     evaluator: Evaluator<'a>,
     given: Given,
@@ -78,7 +78,8 @@ impl<'a> Model for Checker<'a> {
     ghost invariant = { λ a. IsStage a.evaluator a.stage };
 }
 
-// By hand, and so one call wherever a value ends: a derived drop is expanded there, field by field, and makes proofs long.
+// By hand, and so one call wherever a value ends: a derived drop is expanded there, field by field, and makes proofs
+// long.
 impl Drop for Checker<'_> {
     fn drop(self) {
         let Checker {

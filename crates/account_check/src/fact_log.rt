@@ -14,7 +14,8 @@ use query_core::{Claim, of_claim};
 use std::alloc::{AllocError, Global};
 use std::marker::Model;
 
-/// A claim, and its log, whose lines are taken one by one. The log refutes the claim's query, and ends with the empty clause.
+/// A claim, and its log, whose lines are taken one by one. The log refutes the claim's query, and ends with the empty
+/// clause.
 pub(crate) struct FactLog<'a> {
     claim: Claim,
     log: OpenLog<'a>,
@@ -33,7 +34,8 @@ impl<'a> Model for FactLog<'a> {
     ghost invariant = { λ a. IsFactLog a.claim a.log };
 }
 
-// By hand, and so one call wherever a value ends: a derived drop is expanded there, field by field, and makes proofs long.
+// By hand, and so one call wherever a value ends: a derived drop is expanded there, field by field, and makes proofs
+// long.
 impl Drop for FactLog<'_> {
     fn drop(self) {
         let FactLog {

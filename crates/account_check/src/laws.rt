@@ -32,8 +32,8 @@ pub fn one_verdict()
         → IsAccepted graphs bytes verdict → IsRejected graphs bytes line why → ⊥ }
 {}
 
-/// After valid records, whoever wrote them, each fact given is true, where one that holds counts only after the last line of its
-/// log, and no match has all pairs of any ban given.
+/// After valid records, whoever wrote them, each fact given is true, where one that holds counts only after the last
+/// line of its log, and no match has all pairs of any ban given.
 pub fn every_prefix_is_right()
     ensures { (graphs : TwoGraphs) (records : List Entry)
         → IsGraph graphs.first → IsGraph graphs.second
@@ -41,8 +41,8 @@ pub fn every_prefix_is_right()
         → AreRight graphs (account_after graphs records).given }
 {}
 
-/// Where an account that says that there is no match is accepted, whoever wrote it, no signed bijections make the circuits'
-/// functions equal.
+/// Where an account that says that there is no match is accepted, whoever wrote it, no signed bijections make the
+/// circuits' functions equal.
 pub fn accepted_refusal_is_right()
     ensures { (graphs : TwoGraphs) (bytes : List ℕ)
         → IsGraph graphs.first → IsGraph graphs.second

@@ -16,8 +16,8 @@ use query_core::of_match;
 use std::alloc::{AllocError, Global};
 use std::marker::Model;
 
-/// A match, whose logs are taken line by line. Log number c refutes the match's query of output c / 2, of the value true
-/// where c is even; it ends with the empty clause.
+/// A match, whose logs are taken line by line. Log number c refutes the match's query of output c / 2, of the value
+/// true where c is even; it ends with the empty clause.
 pub(crate) struct Logs<'a> {
     graphs: &'a Graphs<'a>,
     matching: Matching,
@@ -40,7 +40,8 @@ impl<'a> Model for Logs<'a> {
     ghost invariant = { λ a. IsProof a.graphs.now a.matching a.closed a.log };
 }
 
-// By hand, and so one call wherever a value ends: a derived drop is expanded there, field by field, and makes proofs long.
+// By hand, and so one call wherever a value ends: a derived drop is expanded there, field by field, and makes proofs
+// long.
 impl Drop for Logs<'_> {
     fn drop(self) {
         let Logs {

@@ -37,7 +37,8 @@ impl<'a> Model for OpenLog<'a> {
     ghost invariant = { λ a. IsLogSoFar a.refuter.base.graphs a.refuter.base.query a.refuter.taken };
 }
 
-// By hand, and so one call wherever a value ends: a derived drop is expanded there, field by field, and makes proofs long.
+// By hand, and so one call wherever a value ends: a derived drop is expanded there, field by field, and makes proofs
+// long.
 impl Drop for OpenLog<'_> {
     fn drop(self) {
         let OpenLog { refuter: _refuter } = self;
@@ -60,8 +61,8 @@ impl<'a> OpenLog<'a> {
         })
     }
 
-    /// A log of another output and value of the same matching, of which no line was taken. What the last log used serves
-    /// it, so that it takes no memory.
+    /// A log of another output and value of the same matching, of which no line was taken. What the last log used
+    /// serves it, so that it takes no memory.
     pub(crate) fn turned(
         self,
         alloc: Global,
@@ -86,8 +87,8 @@ impl<'a> OpenLog<'a> {
         }
     }
 
-    /// Takes a line exactly where it is derived, and tells whether it is the empty one: then the query is refuted. What is
-    /// refused changes nothing, nor does running out of memory.
+    /// Takes a line exactly where it is derived, and tells whether it is the empty one: then the query is refuted. What
+    /// is refused changes nothing, nor does running out of memory.
     pub(crate) fn line(&mut self, line: &LogLine) -> Result<bool, RecordStop>
         ensures refused { (reject : AnyReject) → result ≡ Err (stop.Reject reject)
             → Some reject ≡ refutation_of

@@ -19,8 +19,8 @@ use net_core::Graphs;
 use std::alloc::{AllocError, Global};
 use std::marker::Model;
 
-/// The check of an account of two circuits, whose bytes come in pieces, cut anywhere. Each record is taken as soon as its line
-/// is whole, and then let go: of the account's bytes only those of a line that isn't whole are kept.
+/// The check of an account of two circuits, whose bytes come in pieces, cut anywhere. Each record is taken as soon as
+/// its line is whole, and then let go: of the account's bytes only those of a line that isn't whole are kept.
 pub struct AccountCheck<'a> {
     reader: Reader,
     checker: Checker<'a>,
@@ -34,7 +34,8 @@ impl<'a> Model for AccountCheck<'a> {
     ghost view = { λ a. record { reading = a.reader; account = a.checker } };
 }
 
-// By hand, and so one call wherever a value ends: a derived drop is expanded there, field by field, and makes proofs long.
+// By hand, and so one call wherever a value ends: a derived drop is expanded there, field by field, and makes proofs
+// long.
 impl Drop for AccountCheck<'_> {
     fn drop(self) {
         let AccountCheck {
@@ -56,8 +57,8 @@ impl<'a> AccountCheck<'a> {
         })
     }
 
-    /// Takes the next bytes, and the records of the lines that are whole then. The first bad line is told at the piece that
-    /// completes it, whatever comes after it. After a refusal no more may be fed.
+    /// Takes the next bytes, and the records of the lines that are whole then. The first bad line is told at the piece
+    /// that completes it, whatever comes after it. After a refusal no more may be fed.
     pub fn feed(&mut self, alloc: Global, piece: &[u8]) -> Result<(), CheckStop>
         requires under_way { IsUnderWay self.old }
         requires fits { self.old.reading.total + length piece.now < 2 ^ 64 }
@@ -87,7 +88,8 @@ fn feed(
     checker: &mut Checker<'_>,
     piece: &[u8],
 ) -> Result<(), CheckStop>
-    requires under_way { (graphs : TwoGraphs) × (bytes : List ℕ) × IsChecking false graphs bytes reader.old checker.old }
+    requires under_way { (graphs : TwoGraphs) × (bytes : List ℕ)
+        × IsChecking false graphs bytes reader.old checker.old }
     requires fits { reader.old.total + length piece.now < 2 ^ 64 }
     ensures { (graphs : TwoGraphs) (bytes : List ℕ) → IsChecking false graphs bytes reader.old checker.old
         → TakesAll false graphs (bytes ++ piece.now) reader.new checker.new result }

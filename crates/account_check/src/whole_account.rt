@@ -16,9 +16,9 @@ use crate::verdict::{CheckStop, Verdict};
 use net_core::Graphs;
 use std::alloc::Global;
 
-/// The verdict of an account: that a matching is a match of the two circuits, or that there is no match; or its first bad line
-/// and what is wrong with it. Each comes exactly where it is so unless out of memory, and what is proved is so, whoever wrote
-/// the account.
+/// The verdict of an account: that a matching is a match of the two circuits, or that there is no match; or its first
+/// bad line and what is wrong with it. Each comes exactly where it is so unless out of memory, and what is proved is
+/// so, whoever wrote the account.
 pub fn check(alloc: Global, graphs: &Graphs<'_>, account: &[u8]) -> Result<Verdict, CheckStop>
     ensures accepted { (verdict : AnyVerdict) → result ≢ Err stop.Memory
         → ((result ≡ Ok verdict) ↔ IsAccepted graphs.now account.now verdict) }

@@ -79,8 +79,8 @@ fn accepts_a_match_and_finds_bad_lines(rt: HostRuntime) -> Result<(), Fail> {
     Ok(())
 }
 
-/// The second output falls where its input goes from 1 to 0, and the first one never does; so the input can go neither plain
-/// nor inverted.
+/// The second output falls where its input goes from 1 to 0, and the first one never does; so the input can go neither
+/// plain nor inverted.
 static REFUSAL: [&str; 13] = [
     "npnp 1",
     "fails b 0 down 0 =1",

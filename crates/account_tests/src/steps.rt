@@ -67,7 +67,8 @@ fn is_shown<'a>(
     Ok(shown & keeps_rule(alloc, graphs, given, &ordered, step)?)
 }
 
-/// Whether a ban is shown by a vector, by two facts, and by a fact that isn't there. The AND of a 0 is 0, and the OR of a 1 is 1.
+/// Whether a ban is shown by a vector, by two facts, and by a fact that isn't there. The AND of a 0 is 0, and the OR of
+/// a 1 is 1.
 fn ways_shown<'a>(
     alloc: Global,
     graphs: &'a Graphs<'a>,

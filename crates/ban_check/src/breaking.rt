@@ -48,7 +48,8 @@ fn breaks_shape(
     requires output { output < length (graph_of evaluator.old side).outputs }
     requires placed { IsPlaced (graph_of evaluator.old side).inputs shape }
     ensures same { evaluator.new ≡ evaluator.old }
-    ensures breaks { IfOk result (λ breaks. IsTrue breaks ↔ BreaksShape (graph_of evaluator.old side) output shape bits.now) }
+    ensures breaks { IfOk result
+        (λ breaks. IsTrue breaks ↔ BreaksShape (graph_of evaluator.old side) output shape bits.now) }
 {
     let graph = evaluator.graphs().side(side);
     if bits.len() != graph.inputs() as usize {

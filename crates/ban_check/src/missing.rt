@@ -32,7 +32,8 @@ pub(crate) fn missing_of(held: &Held<'_>, ban: &[Pair]) -> Missing
 
 // What is missing with one pair more.
 fn with_next(held: &Held<'_>, missing: Missing, pair: Pair) -> Missing
-    ensures { (more : AnyPair) → (IsAllMissing result more ↔ (IsAllMissing missing more × Contains (more ∷ held.now) pair)) }
+    ensures { (more : AnyPair) →
+        (IsAllMissing result more ↔ (IsAllMissing missing more × Contains (more ∷ held.now) pair)) }
 {
     if held.has(pair) {
         return missing;

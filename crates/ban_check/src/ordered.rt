@@ -8,8 +8,8 @@ use circuits::Pair;
 use std::alloc::{AllocError, Global};
 use std::marker::Model;
 
-/// Pairs that are in order: those of inputs come first, the first ports of each kind ascend, and no two pairs of a kind go to
-/// one port. Contracts see the list of the pairs.
+/// Pairs that are in order: those of inputs come first, the first ports of each kind ascend, and no two pairs of a kind
+/// go to one port. Contracts see the list of the pairs.
 #[derive(Drop)]
 pub struct OrderedPairs<'a> {
     pairs: &'a [Pair],

@@ -25,8 +25,8 @@ fn is_known(graphs: &Graphs<'_>, pair: Pair) -> bool
         & (pair.to < ports_in(graphs.second(), pair.kind))
 }
 
-/// Whether pairs of inputs come first, the first ports of each kind ascend, and no two pairs of a kind go to one port. It
-/// takes as long as to sort the ports.
+/// Whether pairs of inputs come first, the first ports of each kind ascend, and no two pairs of a kind go to one port.
+/// It takes as long as to sort the ports.
 ///
 /// # Errors
 ///
@@ -52,7 +52,8 @@ fn stand_in_turn(pairs: &[Pair]) -> bool
     true
 }
 
-// Whether a pair of inputs stands before one of outputs, or a pair before another one of its kind whose first port is greater.
+// Whether a pair of inputs stands before one of outputs, or a pair before another one of its kind whose first port is
+// greater.
 fn stands_before(one: Pair, other: Pair) -> bool
     ensures { IsTrue result ↔ StandsBefore one other }
 {

@@ -14,8 +14,8 @@ use indexmap::IndexMap;
 use std::alloc::{AllocError, Global};
 use std::marker::Model;
 
-/// What was given, and the pairs of a ban whose cover is checked, beside which its references are looked at. What is missing of
-/// a ban is found once, so that a reference costs one step, however many pairs both bans have.
+/// What was given, and the pairs of a ban whose cover is checked, beside which its references are looked at. What is
+/// missing of a ban is found once, so that a reference costs one step, however many pairs both bans have.
 #[derive(Drop)]
 pub(crate) struct References<'a> {
     given: &'a Given,
@@ -50,8 +50,8 @@ impl<'a> References<'a> {
         })
     }
 
-    /// Whether a reference fits a pair: none where it is impossible, else a ban all of whose pairs are among the held ones and
-    /// this one.
+    /// Whether a reference fits a pair: none where it is impossible, else a ban all of whose pairs are among the held
+    /// ones and this one.
     pub(crate) fn fits(&mut self, pair: Pair, reference: Option<u64>) -> Result<bool, AllocError>
         ensures same { self.new ≡ self.old }
         ensures fits { IfOk result (λ fits. IsTrue fits ↔ IsReference self.old.given self.old.held pair reference) }

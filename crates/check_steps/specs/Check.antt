@@ -1,4 +1,4 @@
--- What a check says of the words and of the files that are held.
+-- What a check says of the words and of the files.
 use Rattle.std.specs.Prelude.{◌≡◌, ℕ, List, Option, None, Some}
 use Rattle.circuits.specs.Matches.{IsMatch, AreNpnpEqual}
 use Rattle.account_check.specs.Verdicts.{IsAccepted as Proves, IsRejected as IsBadAt}
@@ -25,7 +25,7 @@ pub record LacksAccount (held : List ℕ → Option (List ℕ)) (words : List (L
   pub asked : IsAsked held words first second account_name
   pub absent : held account_name ≡ None
 
--- The words ask for a check of two files by which accounts number these graphs, and the account holds these bytes.
+-- The words ask for a check of two files by which accounts number these graphs, and the account has these bytes.
 pub record HasAccount (held : List ℕ → Option (List ℕ)) (words : List (List ℕ)) (graphs : Graphs) (account : List ℕ) : Type 0 where
   pub first_name : List ℕ
   pub second_name : List ℕ

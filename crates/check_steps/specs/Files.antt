@@ -7,7 +7,7 @@ use Rattle.check_steps.specs.declared.files.File.TheVariants.{Absent, TooLong, B
 use Rattle.check_steps.specs.declared.files.ReadStop.{ReadStop}
 use Rattle.check_steps.specs.declared.files.ReadStop.TheVariants.{ReadFault}
 
--- what an answer says of what the name holds
+-- what an answer says of what stands under the name
 abbrev pub Tells : ℕ → Option (List ℕ) → File → Type 0
 Tells limit held Absent = held ≡ None
 Tells limit held TooLong = (bytes : List ℕ) × (held ≡ Some bytes) × (limit < length bytes)
@@ -24,7 +24,7 @@ pub record HasUnread (tells : Bool) (state : ShelfState) (count : ℕ) : Type 0 
   pub left : state.left ≡ count
   pub told : IsTrue tells → length state.unread ≡ count
 
--- Reading whole what a name holds, if it has at most `limit` bytes.
+-- Reading whole what stands under a name, if it has at most `limit` bytes.
 pub record ReadsFile (tells : Bool) (limit : ℕ) (held : Option (List ℕ)) (old new : ShelfState) (result : Result File ReadStop) : Type 0 where
   -- no file changes, and none is open after an answer
   pub files : (n : List ℕ) → new.held n ≡ old.held n

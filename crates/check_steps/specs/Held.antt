@@ -1,4 +1,4 @@
--- What a name holds: a netlist, the graph that accounts number, or what is no netlist.
+-- What stands under a name: a netlist, the graph that accounts number, or what is no netlist.
 use Rattle.std.specs.Prelude.{◌≡◌, ℕ, ◌<◌, ◌≤◌, List, length, Option, Some}
 use Rattle.circuits.specs.Circuits.{Circuit}
 use Rattle.circuits.specs.Levels.{IsOrderOf}
@@ -12,28 +12,28 @@ pub record Netlist : Type 0 where
   pub input_names : List (List ℕ)
   pub output_names : List (List ℕ)
 
--- What a name holds is a file of at most 67,108,864 bytes that is this netlist.
+-- What stands under a name is a file of at most 67,108,864 bytes that is this netlist.
 pub record HoldsNetlist (content : Option (List ℕ)) (netlist : Netlist) : Type 0 where
   pub bytes : List ℕ
   pub there : content ≡ Some bytes
   pub short : length bytes ≤ 67108864
   pub is : IsCircuit bytes netlist.circuit netlist.input_names netlist.output_names
 
--- What a name holds is a file of at most 67,108,864 bytes with this first fault.
+-- What stands under a name is a file of at most 67,108,864 bytes with this first fault.
 pub record HoldsFault (content : Option (List ℕ)) (kind : NetKind) (at : ℕ) : Type 0 where
   pub bytes : List ℕ
   pub there : content ≡ Some bytes
   pub short : length bytes ≤ 67108864
   pub is : IsCircuitFault bytes kind at
 
--- What a name holds is a file of more than 67,108,864 bytes.
+-- What stands under a name is a file of more than 67,108,864 bytes.
 pub record HoldsTooMuch (content : Option (List ℕ)) : Type 0 where
   pub bytes : List ℕ
   pub there : content ≡ Some bytes
   pub long : 67108864 < length bytes
 
--- What a name holds is a netlist, and this is the graph by which accounts number its gates: its definitions by level, then
--- by place, each expanded to gates.
+-- What stands under a name is a netlist, and this is the graph by which accounts number its gates: its definitions by level, then by place, each expanded to
+-- gates.
 pub record HoldsGraph (content : Option (List ℕ)) (graph : Net) : Type 0 where
   pub netlist : Netlist
   pub holds : HoldsNetlist content netlist

@@ -20,7 +20,7 @@ use Rattle.check_steps.specs.declared.files.ReadStop.TheVariants as stop
 abbrev pub graphs_of : Named → Named → Graphs
 graphs_of first second = record { first = first.graph; second = second.graph }
 
--- what an outcome says of two graphs and of what the account's name holds
+-- what an outcome says of two graphs and of what stands under the account's name
 abbrev pub IsVerdict : Graphs → Option (List ℕ) → Outcome → Type 0
 IsVerdict graphs content (AcceptedMatch matching) =
     (account : List ℕ) × (content ≡ Some account) × Proves graphs account (verdict.Match matching)
@@ -51,7 +51,7 @@ pub record IsJudged (outcome : Outcome) : Type 0 where
   pub no_trial : (number : ℕ) (account : List ℕ) → outcome ≢ Tried number account
   pub unmatched : (matching : Matching) → outcome ≢ Matched matching
 
--- Judging two graphs by what the account's name holds.
+-- Judging two graphs by what stands under the account's name.
 pub record Judges (tells : Bool) (graphs : Graphs) (content : Option (List ℕ)) (old new : ShelfState) (result : Result Outcome ReadStop) : Type 0 where
   pub files : (n : List ℕ) → new.held n ≡ old.held n
   pub right : IsTrue tells → IfOk result (IsVerdict graphs content)

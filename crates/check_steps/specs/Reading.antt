@@ -46,7 +46,7 @@ pub record ReadAs (bytes : List ℕ) (graph : Net) (input_names output_names : L
 abbrev pub netlist_of : Circuit → Named → Netlist
 netlist_of circuit named = record { circuit = circuit; input_names = named.input_names; output_names = named.output_names }
 
--- What a name holds was read as this graph with these names.
+-- What stands under a name was read as this graph with these names.
 pub record IsReadFrom (tells : Bool) (content : Option (List ℕ)) (named : Named) : Type 0 where
   pub circuit : Circuit
   pub held : IsTrue tells → HoldsNetlist content (netlist_of circuit named)

@@ -29,8 +29,8 @@ pub enum Outcome {
     AcceptedMatch(Matching),
     /// The account proves that no matching is a match of the circuits.
     AcceptedRefusal,
-    /// The first line of the account that is wrong, counted from 1, and why. Where a line is missing it is the one after the
-    /// last.
+    /// The first line of the account that is wrong, counted from 1, and why. Where a line is missing it is the one
+    /// after the last.
     Rejected {
         line: u64,
         why: Why,
@@ -41,7 +41,7 @@ pub enum Outcome {
     NoMatching,
     /// What each output of the netlist depends on, and how, was reported.
     Informed,
-    /// The two files hold the pair of netlists that was asked for.
+    /// The two files have the pair of netlists that was asked for.
     Made,
     /// A match of the pair of netlists that the number gives was found, and the account of it was accepted.
     Tried {

@@ -72,8 +72,8 @@ fn put_spent(learned: u64, out: &mut Vec<u8>) -> Result<(), AllocError>
     out.extend_from_slice(b"\n")
 }
 
-// Writes the line of a pair that was tried: its number, the answer, the verdict on the account, and the numbers of inputs,
-// outputs and gates of one netlist, which are those of every pair.
+// Writes the line of a pair that was tried: its number, the answer, the verdict on the account, and the numbers of
+// inputs, outputs and gates of one netlist, which are those of every pair.
 fn put_tried(number: u64, out: &mut Vec<u8>) -> Result<(), AllocError>
     ensures { OnOk result (out.new.items ≡ out.old.items ++ tried_line number) }
 {

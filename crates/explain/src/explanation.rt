@@ -30,8 +30,8 @@ pub struct Told<'a> {
     pub readable: bool,
 }
 
-/// What the end of a run means, in lines that end with a line feed; nothing where the report says it all. Files are read again
-/// for it, and none is changed. Where that fails, or there is no memory, less is said.
+/// What the end of a run means, in lines that end with a line feed; nothing where the report says it all. Files are
+/// read again for it, and none is changed. Where that fails, or there is no memory, less is said.
 pub fn explain<S: Shelf>(alloc: Global, told: &Told<'_>, shelf: &mut S) -> String
     requires { (S.state shelf.old).mode ≡ Closed }
     ensures { (name : List ℕ) → (S.state shelf.new).held name ≡ (S.state shelf.old).held name }

@@ -1,5 +1,5 @@
-//! What people are told beside the report: the forms of the words, and on standard error what a report means. All of it is text
-//! that is made in memory; whoever calls says where it goes.
+//! What people are told beside the report: the forms of the words, and on standard error what a report means. All of it
+//! is text that is made in memory; whoever calls says where it goes.
 #![tactic(auto)]
 
 mod account_lines;

@@ -15,8 +15,8 @@ pub(crate) enum Look {
     Liberty,
 }
 
-/// The first bytes that tell a file by themselves: the magic numbers of compressed files, and the byte order marks of UTF-8 and
-/// UTF-16.
+/// The first bytes that tell a file by themselves: the magic numbers of compressed files, and the byte order marks of
+/// UTF-8 and UTF-16.
 static MARKS: [(&[u8], Look); 7] = [
     (b"\x1f\x8b", Look::Gzip),
     (b"\xfd7zXZ\x00", Look::Xz),

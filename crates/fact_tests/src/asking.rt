@@ -18,8 +18,8 @@ use shared_lemmas::{SharedLemmas, trim};
 use std::alloc::{AllocError, Global};
 use watch_core::Watch;
 
-/// Finds a vector that meets a query, or a log that refutes it: the lines that its last one rests on, and that line. A fact is
-/// kept as long as the run goes on, and most of what is learned was tried in vain.
+/// Finds a vector that meets a query, or a log that refutes it: the lines that its last one rests on, and that line. A
+/// fact is kept as long as the run goes on, and most of what is learned was tried in vain.
 pub(crate) fn answer_to<W: Watch>(
     alloc: Global,
     graphs: &Graphs<'_>,
@@ -42,7 +42,8 @@ pub(crate) fn answer_to<W: Watch>(
     }
 }
 
-/// Finds a vector that meets a query, or a log that refutes it, by what earlier queries under the same feeds have learned.
+/// Finds a vector that meets a query, or a log that refutes it, by what earlier queries under the same feeds have
+/// learned.
 pub(crate) fn shared_answer_to<W: Watch>(
     alloc: Global,
     shared: &mut SharedLemmas<'_>,
@@ -59,8 +60,8 @@ pub(crate) fn shared_answer_to<W: Watch>(
     shared.ask(alloc, query, ledger, watch)
 }
 
-/// That a claim holds whose output reaches none of the shape's inputs. The clauses of the query's two outputs are opposites,
-/// and the empty line follows from them. It costs one unit of the budget.
+/// That a claim holds whose output reaches none of the shape's inputs. The clauses of the query's two outputs are
+/// opposites, and the empty line follows from them. It costs one unit of the budget.
 pub(crate) fn by_structure(
     alloc: Global,
     graphs: &Graphs<'_>,

@@ -48,9 +48,9 @@ impl<'a> Source<'a> {
     }
 }
 
-/// What is known of either of two circuits without asking. A claim is decided by structure where its output reaches none
-/// of its inputs, by a vector that was seen to break it, and else by asking; a query of a matching is asked. Contracts see
-/// it as the circuits.
+/// What is known of either of two circuits without asking. A claim is decided by structure where its output reaches
+/// none of its inputs, by a vector that was seen to break it, and else by asking; a query of a matching is asked.
+/// Contracts see it as the circuits.
 #[derive(Drop)]
 pub struct Sources<'a, W: Watch> {
     graphs: &'a Graphs<'a>,
@@ -154,8 +154,8 @@ fn decide<W: Watch>(
     }
 }
 
-/// A vector that breaks the claim of a shape at an output, where one is seen: among those that are drawn, or near those that
-/// questions gave.
+/// A vector that breaks the claim of a shape at an output, where one is seen: among those that are drawn, or near those
+/// that questions gave.
 fn seen(
     alloc: Global,
     source: &mut Source<'_>,

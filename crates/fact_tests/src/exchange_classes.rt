@@ -36,8 +36,8 @@ pub(crate) struct Class {
 /// The inputs of a class beside its first one.
 #[derive(Clone, Copy, Drop)]
 pub(crate) struct Others {
-    /// The greatest of them, with which the next input is tried: inputs that follow one another are often side by side in the
-    /// circuit, and what is asked of such inputs is answered sooner.
+    /// The greatest of them, with which the next input is tried: inputs that follow one another are often side by side
+    /// in the circuit, and what is asked of such inputs is answered sooner.
     pub last: (u32, Unate),
     /// Whether it may be exchanged with the first one inverted, else as it is.
     pub inverted: bool,
@@ -68,8 +68,8 @@ pub(crate) struct Found {
 struct Tries {
     /// The swap that is asked first (`are_alike`).
     start: bool,
-    /// The class after that to which the last input belongs. Where the inputs of an operand come one after another, those of
-    /// the next operand belong to the same classes in the same order.
+    /// The class after that to which the last input belongs. Where the inputs of an operand come one after another,
+    /// those of the next operand belong to the same classes in the same order.
     class: usize,
 }
 
@@ -204,7 +204,8 @@ fn put_class(
     }
 }
 
-/// The class to which an input after those of all classes belongs; None where it may be exchanged with none of their inputs.
+/// The class to which an input after those of all classes belongs; None where it may be exchanged with none of their
+/// inputs.
 fn find<O: Oracle>(
     alloc: Global,
     output: &FirstOutput<'_>,

@@ -1,5 +1,5 @@
-//! What is known of the outputs of two circuits: facts, decided by structure, by vectors that were seen and by refutation;
-//! and of one circuit the supports, unateness and symmetries of its outputs.
+//! What is known of the outputs of two circuits: facts, decided by structure, by vectors that were seen and by
+//! refutation; and of one circuit the supports, unateness and symmetries of its outputs.
 #![tactic(auto)]
 
 mod answers;

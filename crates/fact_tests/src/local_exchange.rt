@@ -16,13 +16,15 @@ use word_sim::alternating;
 /// How many leaves a lane has bits for: 64 lanes are all ways of six.
 const MOST_LEAVES: usize = 6;
 
-/// Few gates lie between inputs that are side by side in the circuit, and each is looked up in the list of those that may differ.
+/// Few gates lie between inputs that are side by side in the circuit, and each is looked up in the list of those that
+/// may differ.
 const MOST_CHANGED: usize = 32;
 
 /// How many gates are gone over for one exchange.
 const MOST_GATES: u32 = 1024;
 
-/// A signal's bits where the two inputs have a pair of bits, and where they have the opposite one: a bit for each way of the leaves.
+/// A signal's bits where the two inputs have a pair of bits, and where they have the opposite one: a bit for each way
+/// of the leaves.
 #[derive(Clone, Copy, Drop)]
 pub(crate) struct Sides {
     pub one: u64,
@@ -89,8 +91,9 @@ impl Sides {
     }
 }
 
-/// Whether an exchange of two inputs leaves an output as it is, as the gates near the inputs show: as they are, or each inverted.
-/// It is shown where the signals that may differ depend on few others, and the output isn't among them; `false` says nothing.
+/// Whether an exchange of two inputs leaves an output as it is, as the gates near the inputs show: as they are, or each
+/// inverted. It is shown where the signals that may differ depend on few others, and the output isn't among them;
+/// `false` says nothing.
 pub(crate) fn hides(
     alloc: Global,
     readers: &Readers<'_>,
@@ -213,8 +216,8 @@ fn list(signal: u32, sides: Sides, near: &mut Near) -> Result<Went, AllocError>
     Ok(Went::Differs)
 }
 
-/// The bits of a literal, of whose signal this is listed; where nothing is, the signal is a leaf. None where there is no room for one
-/// more.
+/// The bits of a literal, of whose signal this is listed; where nothing is, the signal is a leaf. None where there is
+/// no room for one more.
 fn sides_of(lit: Lit, listed: Option<Sides>, near: &mut Near) -> Result<Option<Sides>, AllocError>
     requires { IsListed near.old.changed (signal_of lit) listed }
     ensures { IfOk result (λ found. IfSome found (Tells lit near.old near.new)) }

@@ -14,19 +14,19 @@ use sim_signature::Signatures;
 use std::alloc::{AllocError, Global};
 use std::marker::Model;
 
-/// How many signatures are held. Each takes what those of a group take, 8 MiB at most (`Sightings`). A near miss of an adder of
-/// 64 bits (`adder64`, output) takes 2.3 s where two are held, 2.1 with four and 1.6 with eight.
+/// How many signatures are kept. Each takes what those of a group take, 8 MiB at most (`Sightings`). A near miss of an
+/// adder of 64 bits (`adder64`, output) takes 2.3 s where two are kept, 2.1 with four and 1.6 with eight.
 const MOST: usize = 8;
 
-/// A question takes about as long as that many passes over the gates: some 70 about an adder of 64 bits, and three where its cone
-/// is small. With 4 that adder asks more and takes 4.5 s in place of 2.6, with 256 many small blocks take a quarter longer; 32 and
-/// 128 change neither.
+/// A question takes about as long as that many passes over the gates: some 70 about an adder of 64 bits, and three
+/// where its cone is small. With 4 that adder asks more and takes 4.5 s in place of 2.6, with 256 many small blocks
+/// take a quarter longer; 32 and 128 change neither.
 const PASSES_A_QUESTION: u32 = 64;
 
-/// What is seen of outputs on vectors near those that questions about them gave. Where few vectors break a claim, as with the
-/// carry of an adder, those that are drawn don't show it; but one that breaks another claim of the output tells where to
-/// look, and of other outputs too: the carry goes on to those after it. So all outputs of a group (`Sightings`) are looked at.
-/// Contracts see it as the circuit.
+/// What is seen of outputs on vectors near those that questions about them gave. Where few vectors break a claim, as
+/// with the carry of an adder, those that are drawn don't show it; but one that breaks another claim of the output
+/// tells where to look, and of other outputs too: the carry goes on to those after it. So all outputs of a group
+/// (`Sightings`) are looked at. Contracts see it as the circuit.
 #[derive(Drop)]
 pub(crate) struct Nearby<'a> {
     graph: &'a Graph,
@@ -84,8 +84,8 @@ impl<'a> Nearby<'a> {
         Ok(None)
     }
 
-    /// A question about an output gave a vector. Later claims are tried on others near it, unless the questions since these
-    /// were chosen last took less time than choosing them takes: a pass over the gates for each input.
+    /// A question about an output gave a vector. Later claims are tried on others near it, unless the questions since
+    /// these were chosen last took less time than choosing them takes: a pass over the gates for each input.
     pub(crate) fn note(
         &mut self,
         alloc: Global,
@@ -110,7 +110,7 @@ impl<'a> Nearby<'a> {
     }
 }
 
-/// Puts signatures beside those that are held, and, where there is no room, in the place of those that were made first.
+/// Puts signatures beside those that are kept, and, where there is no room, in the place of those that were made first.
 fn hold<'a>(
     signatures: Signatures<'a>,
     made: u64,

@@ -11,13 +11,13 @@ use sim_signature::Signatures;
 use std::alloc::{AllocError, Global};
 use std::marker::Model;
 
-/// How many blocks of 64 bytes are held of a circuit: an output has one for each input, and one more. They take 8 MiB, and are
-/// of all outputs of a circuit with 362 inputs and as many outputs.
+/// How many blocks of 64 bytes are kept of a circuit: an output has one for each input, and one more. They take 8 MiB,
+/// and are of all outputs of a circuit with 362 inputs and as many outputs.
 const MOST: u32 = 131_072;
 
-/// What is seen of the outputs of a circuit, a group of them at a time: as many as their signatures are held of. They are
-/// made when one of the group is asked about, once: 512 vectors, since a claim that they all keep is nearly always one that
-/// holds. Contracts see it as the circuit.
+/// What is seen of the outputs of a circuit, a group of them at a time: as many as their signatures are kept of. They
+/// are made when one of the group is asked about, once: 512 vectors, since a claim that they all keep is nearly always
+/// one that holds. Contracts see it as the circuit.
 #[derive(Drop)]
 pub(crate) struct Sightings<'a> {
     graph: &'a Graph,
@@ -66,7 +66,7 @@ impl<'a> Sightings<'a> {
                 return held.sighting(alloc, output, shape);
             }
         }
-        // what is held goes before its successor comes
+        // what is kept goes before its successor comes
         self.held = None;
         let group = group_of(alloc, self.graph, output, self.seed)?;
         let vector = group.sighting(alloc, output, shape)?;

@@ -71,7 +71,8 @@ fn add_pairs(
         (function_at output.now.graphs.now output.now.number) support.now (length support.now) sorted.now }
     requires pairs { ListsPairs (inputs_in output.now.graphs.now) (function_at output.now.graphs.now output.now.number)
         (input_at (inputs_in output.now.graphs.now) support.now place) 0 pairs.old }
-    ensures { OnOk result (ListsPairs (inputs_in output.now.graphs.now) (function_at output.now.graphs.now output.now.number)
+    ensures { OnOk result
+        (ListsPairs (inputs_in output.now.graphs.now) (function_at output.now.graphs.now output.now.number)
         (input_at (inputs_in output.now.graphs.now) support.now (place + 1)) 0 pairs.new) }
 {
     let _ = output;

@@ -15,9 +15,10 @@ use oracle_core::Oracle;
 use query_core::{Ledger, Shape};
 use std::alloc::Global;
 
-/// Whether the two inputs may be exchanged: as they are, or each inverted. That is so where two swaps hold, which aren't asked
-/// where unateness tells the inputs apart, and where the gates near the inputs show it. The one that starts is asked first, and where it holds the other starts from then
-/// on: of a carry one holds for the inputs of lesser digits, and is expensive, and the other one for those of greater digits.
+/// Whether the two inputs may be exchanged: as they are, or each inverted. That is so where two swaps hold, which
+/// aren't asked where unateness tells the inputs apart, and where the gates near the inputs show it. The one that
+/// starts is asked first, and where it holds the other starts from then on: of a carry one holds for the inputs of
+/// lesser digits, and is expensive, and the other one for those of greater digits.
 pub(crate) fn are_alike<O: Oracle>(
     alloc: Global,
     output: &FirstOutput<'_>,

@@ -11,8 +11,8 @@ use oracle_core::Oracle;
 use query_core::{Ledger, Shape};
 use std::alloc::Global;
 
-/// How the output depends on an input: None where the input is outside the support, which is asked only where the output
-/// reaches the input.
+/// How the output depends on an input: None where the input is outside the support, which is asked only where the
+/// output reaches the input.
 pub(crate) fn unateness<O: Oracle>(
     alloc: Global,
     output: &FirstOutput<'_>,

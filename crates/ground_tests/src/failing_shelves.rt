@@ -7,7 +7,7 @@ use shelf_core::{MemShelf, MemSink, Shelf, ShelfStop, Sink};
 use std::alloc::Global;
 use std::test::Fail;
 
-/// A shelf with one file, `letter`, which holds `seven`, and that fails at these calls.
+/// A shelf with one file, `letter`, which has `seven`, and that fails at these calls.
 fn shelf_failing_at(alloc: Global, calls: &[u64]) -> Result<MemShelf, Fail>
     ensures { IfOk result (λ shelf. (⟦<MemShelf as Shelf>⟧.state shelf).mode ≡ Closed) }
 {
@@ -16,7 +16,8 @@ fn shelf_failing_at(alloc: Global, calls: &[u64]) -> Result<MemShelf, Fail>
     Ok(MemShelf::new(alloc, files, 3, calls.to_vec(alloc)?)?)
 }
 
-/// Reads the start of the letter into a buffer, and writes a report of two pieces: seven calls, up to the first that fails.
+/// Reads the start of the letter into a buffer, and writes a report of two pieces: seven calls, up to the first that
+/// fails.
 fn read_and_write(shelf: &mut MemShelf, buf: &mut [u8]) -> Result<(), ShelfStop>
     requires { (⟦<MemShelf as Shelf>⟧.state shelf.old).mode ≡ Closed }
 {

@@ -69,7 +69,7 @@ fn tells(
     Ok((error.name == name) & (told.as_str() == why))
 }
 
-/// Whether a file that was made is refused to a writer by a name that leads to it, and holds what it held.
+/// Whether a file that was made is refused to a writer by a name that leads to it, and has what it had.
 fn keeps_what_it_made(
     rt: HostRuntime,
     shelf: &mut DiskShelf<HostRuntime>,

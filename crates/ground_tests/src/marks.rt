@@ -4,8 +4,8 @@ use bit_list::Marks;
 use std::alloc::{AllocError, Global};
 use std::test::Fail;
 
-/// How many numbers there are, and which of them are marked, one after another. Below 1024 numbers the first mark goes to a
-/// table, of 5000 the fifth one does, and of 10,000 the three stay in a set.
+/// How many numbers there are, and which of them are marked, one after another. Below 1024 numbers the first mark goes
+/// to a table, of 5000 the fifth one does, and of 10,000 the three stay in a set.
 const MARKED: [(usize, &[usize]); 6] = [
     (0, &[]),
     (1, &[0]),

@@ -27,7 +27,7 @@ fn shelf_of_two(alloc: Global) -> Result<SafeShelf, AllocError>
     SafeShelf::new(alloc, files, 3)
 }
 
-/// Whether a read takes n bytes, and the buffer holds these then.
+/// Whether a read takes n bytes, and the buffer has these then.
 fn reads_so(
     shelf: &mut SafeShelf,
     buf: &mut [u8],
@@ -173,7 +173,7 @@ fn reaches_the_disk(rt: HostRuntime) -> Result<(), Fail> {
     Ok(())
 }
 
-/// Whether a file is read, and is refused then to a writer by a name that leads to it, and holds what it held.
+/// Whether a file is read, and is refused then to a writer by a name that leads to it, and has what it had.
 fn keeps_what_it_read(
     shelf: &mut DiskShelf<HostRuntime>,
     name: &str,
@@ -221,7 +221,7 @@ fn is_empty(shelf: &mut DiskShelf<HostRuntime>, name: &str) -> Result<bool, Shel
     Ok((len == 0) & (count == 0))
 }
 
-/// What the machine's null device holds is an empty file.
+/// What the machine's null device has is an empty file.
 #[test]
 fn reads_a_device_to_its_end(rt: HostRuntime) -> Result<(), Fail> {
     let mut shelf = DiskShelf::new(rt);
@@ -238,7 +238,7 @@ fn reads_five(stream: &mut Stream<Global>) -> bool {
     same & (stream.read(&mut buf) == 0)
 }
 
-/// A stream is held whole where it ends within the bound.
+/// A stream is kept whole where it ends within the bound.
 #[test]
 fn holds_a_stream_within_its_bound(rt: HostRuntime) -> Result<(), Fail> {
     let mut five = b"seven".as_slice();

@@ -83,8 +83,8 @@ fn find_of<S: Shelf, W: Watch>(
     )
 }
 
-/// Looks for a match of two graphs, for which some matchings are candidates. Where they have other numbers of ports there is
-/// nothing to search.
+/// Looks for a match of two graphs, for which some matchings are candidates. Where they have other numbers of ports
+/// there is nothing to search.
 fn solve<W: Watch>(
     alloc: Global,
     asked: &Match<'_>,
@@ -131,7 +131,8 @@ fn search_in<'a, W: Watch>(
     watch: &'a W,
 ) -> Result<Solved, Stop>
     requires new { IsNew ledger.old }
-    ensures answer { IfOk result (λ solved. IsAnswered graphs.now (account_of (records_of solved.account)) solved.outcome) }
+    ensures answer { IfOk result
+        (λ solved. IsAnswered graphs.now (account_of (records_of solved.account)) solved.outcome) }
     ensures spent { (learned : ℕ) → result ≡ Err (Spent learned)
         → IsSpentOf graphs.now ledger.old.budget ledger.new }
 {

@@ -6,8 +6,9 @@ use net_core::Matching;
 use net_file::{Name, Named};
 use std::alloc::{AllocError, Global};
 
-/// The matching that pairs ports of equal names, none of them inverted, where the names of the first netlist's inputs are those of the
-/// second one's, each once, and those of the outputs too; else nothing. An answer doesn't rest on it: a search compares it first.
+/// The matching that pairs ports of equal names, none of them inverted, where the names of the first netlist's inputs
+/// are those of the second one's, each once, and those of the outputs too; else nothing. An answer doesn't rest on it:
+/// a search compares it first.
 pub(crate) fn paired_by_names(
     alloc: Global,
     first: &Named,

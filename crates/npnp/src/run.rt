@@ -40,10 +40,10 @@ const OUT_OF_MEMORY: &[u8] = b"out of memory\n";
 /// report. It knows these words, where each netlist is in BLIF or in the AIGER format:
 ///
 /// - `match FIRST SECOND ACCOUNT [BUDGET [SEED]]`: FIRST and SECOND are netlists, of which a match is sought: a
-///   matching, each port with its partner, under which all outputs agree on every vector. It is printed as a port table,
-///   a line for each port. ACCOUNT is written, the proof of the match or that there is none; its name is neither of the
-///   others. At most BUDGET clauses are learned, by default 1,000,000,000; SEED, by default 1, chooses the vectors that
-///   are simulated.
+///   matching, each port with its partner, under which all outputs agree on every vector. It is printed as a port
+///   table, a line for each port. ACCOUNT is written, the proof of the match or that there is none; its name is neither
+///   of the others. At most BUDGET clauses are learned, by default 1,000,000,000; SEED, by default 1, chooses the
+///   vectors that are simulated.
 /// - `check FIRST SECOND ACCOUNT`: FIRST and SECOND are netlists, and ACCOUNT is a text that claims a matching and
 ///   proves, by refutations, that it is a match of the two, or that proves by bans that no matching is one. A match
 ///   that it proves is printed as a port table.
@@ -68,7 +68,7 @@ pub fn run<S: Shelf, K: Sink>(
 ) -> Outcome
     requires { (S.state shelf.old).mode ≡ Closed }
 
-    // A matching is found only where it is a match of the two files' netlists, and the account that is held afterwards
+    // A matching is found only where it is a match of the two files' netlists, and the account as it is afterwards
     // proves it: a check by the same names accepts it.
     ensures matched { IsTrue S.tells → (matching : Matching) → result ≡ Outcome.Matched matching
         → IsMatchFound (S.state shelf.old).held (map string_bytes words.now) matching }
@@ -76,15 +76,15 @@ pub fn run<S: Shelf, K: Sink>(
         → IsProved (S.state shelf.new).held (map string_bytes words.now) (Verdict.Match matching) }
 
     // There is said to be no match exactly where no signed bijections make the two netlists equal, unless the budget
-    // was spent, a fault came or memory ran out; and the account that is held afterwards proves it.
+    // was spent, a fault came or memory ran out; and the account as it is afterwards proves it.
     ensures no_matching { IsTrue S.tells → IsSettled result
         → ((result ≡ Outcome.NoMatching)
         ↔ HasNoMatch (S.state shelf.old).held (map string_bytes words.now)) }
     ensures no_matching_account { IsTrue S.tells → result ≡ Outcome.NoMatching
         → IsProved (S.state shelf.new).held (map string_bytes words.now) Verdict.None }
 
-    // Where a match of two netlists is sought and no fault came and memory did not run out, one of the two is answered, or
-    // the budget was spent.
+    // Where a match of two netlists is sought and no fault came and memory did not run out, one of the two is answered,
+    // or the budget was spent.
     ensures answered { IsTrue S.tells → IsDecided result
         → IsAskedToMatch (S.state shelf.old).held (map string_bytes words.now)
         → IsOfMatch result }
@@ -129,15 +129,16 @@ pub fn run<S: Shelf, K: Sink>(
         ⊎ IsSpentOnTwo (S.state shelf.old).held (map string_bytes words.now) ledger
         ⊎ IsSpentOnPair (map string_bytes words.now) ledger }
 
-    // A pair is made exactly where the words ask for one, unless a write failed or memory ran out. The two files hold it
-    // then: netlists as it is printed, which are read as circuits of its functions, with a match of them.
+    // A pair is made exactly where the words ask for one, unless a write failed or memory ran out. The two files have
+    // it then: netlists as it is printed, which are read as circuits of its functions, with a match of them.
     ensures made { IsTold result
         → ((result ≡ Outcome.Made) ↔ AskForPair (map string_bytes words.now)) }
     ensures pair { IsTrue S.tells → result ≡ Outcome.Made
         → HoldsPair (S.state shelf.new).held (map string_bytes words.now) }
 
-    // A pair was tried only where its number is that of the words and the account, which the outcome has, is accepted for it:
-    // it proves a matching that is a match. Nothing else comes of a trial, but that the budget is spent on the pair.
+    // A pair was tried only where its number is that of the words and the account, which the outcome has, is accepted
+    // for it: it proves a matching that is a match. Nothing else comes of a trial, but that the budget is spent on the
+    // pair.
     ensures tried { (number : ℕ) (account : List ℕ) → result ≡ Outcome.Tried number account
         → IsTried (map string_bytes words.now) number account }
     ensures trial { IsTold result → (number : ℕ) → AsksTrial (map string_bytes words.now) number
@@ -150,8 +151,8 @@ pub fn run<S: Shelf, K: Sink>(
     ensures trial_no_call { (number : ℕ) → AsksTrial (map string_bytes words.now) number
         → shelf.new ≡ shelf.old }
 
-    // A fault has its cause outside, in this call: the output; or the shelf, where the words name files that are read, or
-    // files that are written, and then nothing is put.
+    // A fault has its cause outside, in this call: the output; or the shelf, where the words name files that are read,
+    // or files that are written, and then nothing is put.
     ensures read_fault { result ≡ Outcome.ReadFault
         → ReadFiles (map string_bytes words.now)
         × Rose (S.state shelf.old).faults (S.state shelf.new).faults }
@@ -165,9 +166,9 @@ pub fn run<S: Shelf, K: Sink>(
     ensures no_call_follows { NoCallFollows (S.state shelf.old) (S.state shelf.new) }
     ensures no_put_follows { NoPutFollows (K.state out.old) (K.state out.new) }
 
-    // No file changes but the account of a match, and that one only where there is an answer, and the two files of a pair. A
-    // failed write or running out of memory may leave a first part of an account that is accepted, or of the pair's first
-    // netlist, and only where that is whole a part of the second.
+    // No file changes but the account of a match, and that one only where there is an answer, and the two files of a
+    // pair. A failed write or running out of memory may leave a first part of an account that is accepted, or of the
+    // pair's first netlist, and only where that is whole a part of the second.
     ensures files { IsTrue S.tells → (name : List ℕ)
         → (NamesAccount (map string_bytes words.now) name → ⊥)
         → (NamesPair (map string_bytes words.now) name → ⊥)

@@ -19,8 +19,9 @@ use std::alloc::{AllocError, Global};
 use text_core::put_all;
 use watch_core::Watch;
 
-/// Makes the pair of a number, looks for a match of it with the default budget and seed, writes the account of the match in
-/// memory, and checks it. The error is an outcome whose report is one line: the budget was spent, or memory ran out.
+/// Makes the pair of a number, looks for a match of it with the default budget and seed, writes the account of the
+/// match in memory, and checks it. The error is an outcome whose report is one line: the budget was spent, or memory
+/// ran out.
 pub fn try_pair<W: Watch>(alloc: Global, trial: &Trial, watch: &W) -> Result<Ending, Outcome>
     ensures { Tries trial.now.number result }
 {

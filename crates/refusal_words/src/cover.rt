@@ -38,8 +38,8 @@ impl fmt::Display for Way<'_> {
 }
 
 impl<'a> Cover<'a> {
-    /// The last way that a ban excludes, by the references of a cover: two for each port of the first netlist and each of the
-    /// second, in order.
+    /// The last way that a ban excludes, by the references of a cover: two for each port of the first netlist and each
+    /// of the second, in order.
     pub(crate) fn last_way(&self, refs: &[Option<u64>]) -> Option<Way<'a>> {
         let place = refs.iter().rposition(|ban| ban.is_some())?;
         let ban = (*refs.get(place)?)?;

@@ -20,8 +20,8 @@ pub trait Seek {
     fn take(&mut self, alloc: Global, piece: &[u8]) -> Result<Wanted, ReadStop>;
 }
 
-/// Hands what a name holds to whoever looks for something there, up to the piece after which nothing more is wanted. A file that
-/// isn't there has no bytes.
+/// Hands what stands under a name to whoever looks for something there, up to the piece after which nothing more is
+/// wanted. A file that isn't there has no bytes.
 pub fn seek_in<S: Shelf, K: Seek>(
     alloc: Global,
     shelf: &mut S,

@@ -8,7 +8,8 @@ const COLUMNS: usize = 160;
 /// What stands for a character that isn't shown.
 const HIDDEN: char = '?';
 
-/// The bytes of a name or of a line, without what a terminal could take for a command, and no longer than a terminal's line.
+/// The bytes of a name or of a line, without what a terminal could take for a command, and no longer than a terminal's
+/// line.
 #[derive(Clone, Copy)]
 pub struct Shown<'a>(pub &'a [u8]);
 

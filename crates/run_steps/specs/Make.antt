@@ -27,13 +27,13 @@ pub record IsDrawn (number : ℕ) (pair : GenPair) : Type 0 where
   pub first_ordered : IsOrdered pair.first.graph
   pub second_ordered : IsOrdered pair.second.graph
 
--- What a name holds is read as a netlist that a graph computes.
+-- What stands under a name is read as a netlist that a graph computes.
 pub record HoldsComputed (content : Option (List ℕ)) (graph : Net) (netlist : Netlist) : Type 0 where
   pub holds : HoldsNetlist content netlist
   pub computes : Computes graph netlist.circuit
 
--- The words ask for a pair, and the two files hold it, the first netlist in the binary form of AIGER and the second as BLIF:
--- netlists that its graphs compute, and of which its matching is a match.
+-- The words ask for a pair, and the two files have it, the first netlist in the binary form of AIGER and the second as BLIF: netlists that its graphs compute,
+-- and of which its matching is a match.
 pub record HoldsPair (held : List ℕ → Option (List ℕ)) (words : List (List ℕ)) : Type 0 where
   pub wanted : Wanted
   pub asks : AsksMake words wanted
@@ -47,7 +47,7 @@ pub record HoldsPair (held : List ℕ → Option (List ℕ)) (words : List (List
   pub second_read : HoldsComputed (held wanted.second) pair.second.graph second_file
   pub matches : IsMatch first_file.circuit second_file.circuit pair.hidden.inputs pair.hidden.outputs
 
--- a file is as it was, or holds the first bytes of a text
+-- a file is as it was, or has the first bytes of a text
 abbrev pub IsCutFrom : List ℕ → Option (List ℕ) → Option (List ℕ) → Type 0
 IsCutFrom text before after = (after ≡ before) ⊎ ((count : ℕ) × (after ≡ Some (take count text)))
 

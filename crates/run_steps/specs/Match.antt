@@ -1,4 +1,4 @@
--- What a match says of the words and of the files, which are held before the run and afterwards.
+-- What a match says of the words and of the files, before the run and afterwards.
 use Rattle.std.specs.Prelude.{◌≡◌, ℕ, List, [], ◌∷◌, ◌++◌, codes, take, Option, Some}
 use Rattle.circuits.specs.Matches.{IsMatch, AreNpnpEqual}
 use Rattle.account_file.specs.Lines.{whole_lines}
@@ -54,7 +54,7 @@ pub record IsProved (held : List ℕ → Option (List ℕ)) (words : List (List 
   pub asks : AsksMatch words sought
   pub accepted : IsAccepted held (check_words sought.first sought.second sought.account) proved
 
--- The words ask for a match, and the account's name holds the first bytes of an account of the two files that is accepted.
+-- The words ask for a match, and under the account's name stand the first bytes of an account of the two files that is accepted.
 pub record HoldsPart (held : List ℕ → Option (List ℕ)) (words : List (List ℕ)) : Type 0 where
   pub sought : Sought
   pub asks : AsksMatch words sought

@@ -1,4 +1,4 @@
--- What the program answers, said of the words and of the files that are held.
+-- What the program answers, said of the words and of the files.
 use Rattle.std.specs.Prelude.{◌≡◌, ◌≢◌, ℕ, ◌⊎◌, List, Option}
 use Rattle.circuits.specs.Netlists.{Net}
 use Rattle.account_check.specs.declared.verdict.Verdict.TheVariants as verdict
@@ -88,7 +88,7 @@ pub record LeavesFiles (outcome : Outcome) : Type 0 where
   pub no_pair : outcome ≢ Made
   pub told : IsTold outcome
 
--- What the words alone say of an outcome, whatever the files hold.
+-- What the words alone say of an outcome, whatever the files have.
 pub record FollowsWords (words : List (List ℕ)) (outcome : Outcome) : Type 0 where
   pub made : outcome ≡ Made → AskForPair words
   pub pair : AskForPair words → IsTold outcome → outcome ≡ Made
@@ -100,7 +100,7 @@ pub record FollowsWords (words : List (List ℕ)) (outcome : Outcome) : Type 0 w
 abbrev pub MayBeCut : (List ℕ → Option (List ℕ)) → (List ℕ → Option (List ℕ)) → List (List ℕ) → Type 0
 MayBeCut before after words = ((name : List ℕ) → after name ≡ before name) ⊎ HoldsPart after words ⊎ HoldsPartOfPair before after words
 
--- what an outcome says of the files that are held before and afterwards
+-- what an outcome says of the files before and afterwards
 abbrev pub Leaves : (List ℕ → Option (List ℕ)) → (List ℕ → Option (List ℕ)) → List (List ℕ) → Outcome → Type 0
 Leaves before after words (Matched matching) = IsProved after words (verdict.Match matching)
 Leaves before after words NoMatching = IsProved after words verdict.None

@@ -80,13 +80,13 @@ pub record Concludes (tells : Bool) (name text : List ℕ) (ending : Ending) (ol
   pub last : NoCallFollows old new
   pub failed : result ≡ Err WriteFault → Rose old.faults new.faults
 
--- what the account's name holds is as before, or the first bytes of an account of two graphs that is accepted
+-- what stands under the account's name is as before, or the first bytes of an account of two graphs that is accepted
 abbrev pub IsCutOf : Graphs → Option (List ℕ) → Option (List ℕ) → Type 0
 IsCutOf graphs before after =
     (after ≡ before) ⊎ ((account : List ℕ) × (proved : Verdict) × Proves graphs account proved × HoldsFirst account after)
 
--- what ends a search for a match without an answer, by what the account's name holds before and afterwards: the budget is spent
--- and nothing was written, or a write was refused
+-- what ends a search for a match without an answer, by what stands under the account's name before and afterwards: the budget is spent and nothing was written,
+-- or a write was refused
 abbrev pub IsStopOfMatch : Bool → Graphs → ℕ → Option (List ℕ) → Option (List ℕ) → Outcome → Type 0
 IsStopOfMatch tells graphs budget before after outcome =
     (IsStopWithin graphs budget outcome × (IsTrue tells → after ≡ before))

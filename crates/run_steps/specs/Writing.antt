@@ -5,11 +5,11 @@ use Rattle.shelf_core.specs.State.{ShelfState, Writing}
 use Rattle.shelf_core.specs.declared.outside.ShelfStop.{ShelfStop}
 use Rattle.shelf_core.specs.declared.outside.ShelfStop.TheVariants.{Failed}
 
--- what a name holds is the first bytes of a text
+-- what stands under a name is the first bytes of a text
 abbrev pub HoldsFirst : List ℕ → Option (List ℕ) → Type 0
 HoldsFirst text content = (count : ℕ) × (content ≡ Some (take count text))
 
--- Writing a text under a name, in place of what it holds.
+-- Writing a text under a name, in place of what it has.
 pub record WritesFile (tells : Bool) (name text : List ℕ) (old new : ShelfState)
     (result : Result (Unit {0}) ShelfStop) : Type 0 where
   -- no other file changes

@@ -18,8 +18,8 @@ use shelf_core::Shelf;
 use std::alloc::{AllocError, Global};
 use text_core::Parts;
 
-/// Makes the pair of a number, and writes the first netlist in the binary form of AIGER and the second as BLIF. The error
-/// is an outcome whose report is one line: memory ran out, or a file was not written.
+/// Makes the pair of a number, and writes the first netlist in the binary form of AIGER and the second as BLIF. The
+/// error is an outcome whose report is one line: memory ran out, or a file was not written.
 pub fn make_files<S: Shelf>(
     alloc: Global,
     asked: &Make<'_>,

@@ -13,9 +13,9 @@ use text_core::Parts;
 /// The bytes that one append writes, but for the last ones.
 const PIECE: usize = 65_536;
 
-/// Writes an account under a name, in place of what the name holds: its lines up to the last one in pieces, and the
-/// last one by itself, so that a file that was cut off doesn't end as an account does. After a refusal no further call
-/// is made.
+/// Writes an account under a name, in place of what stands under the name: its lines up to the last one in pieces, and
+/// the last one by itself, so that a file that was cut off doesn't end as an account does. After a refusal no further
+/// call is made.
 pub fn write_account<S: Shelf>(
     alloc: Global,
     shelf: &mut S,
@@ -31,7 +31,7 @@ pub fn write_account<S: Shelf>(
     shelf.close()
 }
 
-/// Writes a text under a name, in place of what the name holds. After a refusal no further call is made.
+/// Writes a text under a name, in place of what stands under the name. After a refusal no further call is made.
 pub fn write_text<S: Shelf, P: Parts>(
     alloc: Global,
     shelf: &mut S,
@@ -61,8 +61,8 @@ fn append_account<S: Shelf>(
     shelf.append(last_line())
 }
 
-/// Writes a text to the open file in pieces. It is never whole in memory: parts of it are printed until a piece stands there,
-/// which is appended.
+/// Writes a text to the open file in pieces. It is never whole in memory: parts of it are printed until a piece stands
+/// there, which is appended.
 fn append_text<S: Shelf, P: Parts>(
     alloc: Global,
     shelf: &mut S,

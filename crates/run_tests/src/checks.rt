@@ -1,6 +1,6 @@
 //! Checks of accounts and reports of netlists: what they print and how they end.
 
-ghost use Rattle.std.specs.Prelude.{◌≡◌, false, None, [], cond};
+ghost use Rattle.std.specs.Prelude.{◌≡◌, ◌-◌, false, None, [], cond};
 ghost use Rattle.shelf_core.specs.State.{Closed, Reading, Writing};
 
 use crate::alterations::{Altered, check_altered};

@@ -234,7 +234,8 @@ fn pairs_many_inputs(rt: HostRuntime) -> Result<(), Fail> {
     Ok(())
 }
 
-/// The inputs of a netlist of 30 inputs in two orders, and what is the same: a chain of covers, each of which reads three inputs more.
+/// The inputs of a netlist of 30 inputs in two orders, and what is the same: a chain of covers, each of which reads
+/// three inputs more.
 const THIRTY: &[u8] =
     b".inputs x0 x1 x2 x3 x4 x5 x6 x7 x8 x9 x10 x11 x12 x13 x14 x15 x16 x17 x18 x19 x20 x21 x22 x23 x24 x25 x26 x27 x28 x29";
 

@@ -21,7 +21,8 @@ fn made(rt: &impl Abort, alloc: Global, words: &[&str]) -> Result<Vec<u8>, Fail>
     Ok(ended.account.unwrap_or(Vec::new(alloc)))
 }
 
-/// Seeks a match of two netlists, and checks the account of it: the status of both, and what is printed after the first words.
+/// Seeks a match of two netlists, and checks the account of it: the status of both, and what is printed after the first
+/// words.
 fn seek(rt: &impl Abort, alloc: Global, netlists: [&[u8]; 2]) -> Result<(), Fail> {
     let found = run_on(alloc, MATCH, netlists, None)?;
     let account = found.account.as_deref().unwrap_or(b"");
@@ -56,8 +57,8 @@ fn tries_a_pair(rt: HostRuntime) -> Result<(), Fail> {
     )
 }
 
-/// How many bytes stand under `t` where a call of `make` fails: create, append and close of either file. The first text has
-/// n bytes.
+/// How many bytes stand under `t` where a call of `make` fails: create, append and close of either file. The first text
+/// has n bytes.
 fn lengths(first: usize, second: usize) -> [[Option<usize>; 2]; 6] {
     [
         [None, None],

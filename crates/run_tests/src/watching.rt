@@ -95,8 +95,8 @@ fn match_counted(alloc: Global, netlists: [&[u8]; 2]) -> Result<(Ended, Told), A
     Ok((ended, sink.told.get()))
 }
 
-/// A match says that both files are read, then that a matching is guessed, and then of each output that it is proved; the
-/// report and the account are those of a run that nobody watches.
+/// A match says that both files are read, then that a matching is guessed, and then of each output that it is proved;
+/// the report and the account are those of a run that nobody watches.
 #[test]
 fn tells_what_a_match_is_at(rt: HostRuntime) -> Result<(), Fail> {
     let alloc = rt.alloc();

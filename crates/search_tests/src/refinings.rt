@@ -314,8 +314,8 @@ fn refines_small_circuits(rt: HostRuntime) -> Result<(), Fail> {
     Ok(())
 }
 
-/// Pairs of the ports of two ANDs whose outputs are paired, and what becomes of them: the output's other way clashes, and an
-/// input that is inverted would make the output fall where the other one rises.
+/// Pairs of the ports of two ANDs whose outputs are paired, and what becomes of them: the output's other way clashes,
+/// and an input that is inverted would make the output fall where the other one rises.
 const FATES: &[(Pair, Fate)] = &[
     (OUTPUT, Fate::Left),
     (OUTPUT_NEGATED, Fate::Clashes(OUTPUT)),
