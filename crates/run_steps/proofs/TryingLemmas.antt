@@ -17,10 +17,12 @@ use Rattle.net_core.specs.declared.matching.Matching.{Matching}
 use Rattle.run_steps.specs.Make.{IsPairOf}
 use Rattle.query_core.specs.Ledgers.{Ledgered}
 use Rattle.shelf_core.specs.State.{ShelfState}
+use Rattle.shelf_core.proofs.FaultLemmas.{none_failed}
 use Rattle.check_steps.specs.Lines.{line_of, IsOneLine}
 use Rattle.check_steps.specs.Words.{AsksTrial}
 use Rattle.run_steps.specs.Commands.{asked_trial}
-use Rattle.run_steps.specs.Outcomes.{FollowsWords, IsRight, IsSound, Leaves}
+use Rattle.check_steps.specs.Checks.{IsSound}
+use Rattle.run_steps.specs.Outcomes.{FollowsWords, IsRight, Leaves}
 use Rattle.run_steps.specs.Steps.{Decides, IsAnswered, IsEnding, IsProvedMatch, IsStopOfTrial, IsStopWithin, Tries}
 use Rattle.run_steps.specs.Trial.{IsSpentOnPairOf, IsTrialOf}
 use Rattle.check_steps.specs.declared.words.Trial.{Trial as TrialWords}
@@ -123,6 +125,7 @@ spent_decides tells trial state ledger spent = record {
   report = λ words asks. tt;
   ending = tt;
   early = (stop_line spent.graphs 1000000000 (Spent ledger) (inl (ledger, refl, spent.spent))).early;
+  last = none_failed state state refl;
   failed = λ e. absurd (cc e);
   unwritten = λ e. absurd (cc e);
 }
@@ -137,6 +140,7 @@ no_room_decides tells trial state = record {
   report = λ words asks. tt;
   ending = tt;
   early = (of_reading Memory tt).early;
+  last = none_failed state state refl;
   failed = λ e. absurd (cc e);
   unwritten = λ e. absurd (cc e);
 }
@@ -156,6 +160,7 @@ tries_decides tells trial state (Ok ending) tries =
       report = λ words asks. inl (subst IsOneLine (sym is) (record { unmatched = λ matching e. elim e [ inl f ↦ absurd (cc f) | inr f ↦ absurd (cc f) ]; no_rows = λ e. cc }), tries.answer.3);
       ending = subst IsEnding (sym is) (record { asked = λ e. cc; read = λ e. cc; unwritten = λ e. cc });
       early = tt;
+      last = none_failed state state refl;
       failed = λ e. absurd (cc e);
       unwritten = λ e. absurd (cc e);
     }
