@@ -32,12 +32,12 @@ carried h true false same never true = subst (λ one. NoFall one (h true false))
 carried h true true same never false = subst (λ one. NoFall one (h false true)) (sym same) (never true)
 carried h true true same never true = subst (NoFall (h true false)) same (never false)
 
-alike_at : (n : ℕ) (f : List Bool → Bool) (i j : ℕ) (inverted : Bool) (x : List Bool) → IsAlike n f i j inverted → length x ≡ n → cofactor f i false j (not inverted) x ≡ cofactor f i true j inverted x
+pub alike_at : (n : ℕ) (f : List Bool → Bool) (i j : ℕ) (inverted : Bool) (x : List Bool) → IsAlike n f i j inverted → length x ≡ n → cofactor f i false j (not inverted) x ≡ cofactor f i true j inverted x
 alike_at n f i j false x alike len = alike x len
 alike_at n f i j true x alike len = alike x len
 
 -- which inputs are exchanged doesn't depend on their order
-alike_back : (n : ℕ) (f : List Bool → Bool) (i j : ℕ) (inverted : Bool) → i ≢ j → IsAlike n f i j inverted → IsAlike n f j i inverted
+pub alike_back : (n : ℕ) (f : List Bool → Bool) (i j : ℕ) (inverted : Bool) → i ≢ j → IsAlike n f i j inverted → IsAlike n f j i inverted
 alike_back n f i j false apart alike =
     λ x len. ap f (sym (set_comm x i j true false apart)) ∙ (sym (alike x len) ∙ ap f (set_comm x i j false true apart))
 alike_back n f i j true apart alike =

@@ -23,8 +23,8 @@ use Rattle.claim_core.specs.Queries.{IsQuery, IsUnmet}
 use Rattle.claim_core.proofs.AssignmentLemmas.{assignment_there}
 use Rattle.claim_core.proofs.ClaimQueryLemmas.{claim_query_fits, holds-unmet}
 use Rattle.claim_core.proofs.ClaimLaws.{no_break, inside-fails, holds_or_fails, symmetric-swaps, skew-swaps}
-use Rattle.fact_tests.specs.Outputs.{IsAlike, IsDependence, IsSymmetry, dependence, half_swap, symmetry}
-use Rattle.claim_core.specs.Facts.{InSupport, IsSymmetric, IsSkew}
+use Rattle.fact_tests.specs.Outputs.{IsAlike, IsDependence, dependence, half_swap}
+use Rattle.claim_core.specs.Facts.{InSupport}
 
 -- an input is outside the support where both claims hold, and inside where one of them doesn't
 outside : (net : Net) (k i : ℕ) → i < net.inputs → ShapeHolds net k (Up i) → ShapeHolds net k (Down i) → InSupport net.inputs (output_bit net k) i → ⊥
@@ -89,15 +89,6 @@ pub alike_never : (net : Net) (k i j : ℕ) (inverted from : Bool) (one : Shape)
     → Decides false (IsAlike net.inputs (output_bit net k) i j inverted)
 alike_never net k i j inverted from one is never =
     (λ so. absurd (false≢true so), λ alike. absurd (never (subst (ShapeHolds net k) (sym is) (alike_half net k i j inverted from alike))))
-
-pub symmetry_is : (n : ℕ) (f : List Bool → Bool) (i j : ℕ) (symmetric skew : Bool)
-    → Decides symmetric (IsSymmetric n f i j)
-    → Decides skew (IsSkew n f i j)
-    → IsSymmetry n f i j (symmetry symmetric skew)
-symmetry_is n f i j true true one other = (one.0 refl, other.0 refl)
-symmetry_is n f i j true false one other = (one.0 refl, refuted other)
-symmetry_is n f i j false true one other = (refuted one, other.0 refl)
-symmetry_is n f i j false false one other = (refuted one, refuted other)
 
 -- what a fact's evidence says of its claim
 pub told_by : (graphs : Graphs) (claim : Claim) (evidence : Evidence) → IsGraph graphs.first → IsGraph graphs.second → IsClaim graphs claim

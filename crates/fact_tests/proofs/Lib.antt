@@ -12,3 +12,5 @@ mod ClaimFacts
 pub mod RowLemmas
 mod OneRow
 mod AlikeLemmas
+mod ExchangeLemmas
+mod ClassLemmas

@@ -17,6 +17,7 @@ use Rattle.claim_core.specs.declared.info.Sym.{Sym}
 use Rattle.claim_core.specs.Facts.{InSupport, IsSymmetric, IsSkew}
 use Rattle.claim_core.specs.Rows.{IsEntry, ListsSupport, IsPair, IsBefore, ListsPairs, IsRow, AreRows, AreRowsOf}
 use Rattle.fact_tests.specs.Outputs.{IsDependence, IsSymmetry, entry_of, pair_of}
+pub use Rattle.fact_tests.specs.Outputs.{input_at}
 
 -- what is among the first entries is among more
 any_more : {X : Type 0} (P : X → Type 0) (xs : List X) (x : X) → Any P xs → Any P (xs ++ x ∷ [])
@@ -53,10 +54,6 @@ support_more n f start end entries (Some unate) lists low there depends =
             | inr past ↦ Any-push (λ (entry : ℕ × Unate). entry.0 ≡ i) entries entry (omega (arith, below))
           ];
     }
-
--- the input at a place of the support; after the last one, the number of inputs
-abbrev pub input_at : ℕ → List (ℕ × Unate) → ℕ → ℕ
-input_at n entries t = (get_or entries t (n, Positive)).0
 
 pub input_at-le : (n : ℕ) (f : List Bool → Bool) (start : ℕ) (entries : List (ℕ × Unate)) (t : ℕ) → ListsSupport n f start n entries → input_at n entries t ≤ n
 input_at-le n f start entries t lists =
@@ -107,45 +104,9 @@ support_next n f start entries t b lists there later before inside =
     support_gap n f start entries (t + 1) b lists (omega (arith, (lists.within t (n, Positive) there).0, later))
     (λ k less h. omega (arith, ascending_at n f start entries k t lists (omega (arith, less)) there, later)) before inside
 
--- what stands after an entry is the rest of the support
-pub support_later : (n : ℕ) (f : List Bool → Bool) (entries : List (ℕ × Unate)) (t : ℕ) → ListsSupport n f 0 n entries → t < length entries → ListsSupport n f (input_at n entries t + 1) n (drop (t + 1) entries)
-support_later n f entries t lists there =
-    let P : ℕ × Unate → Type 0 = λ entry. (input_at n entries t + 1 ≤ entry.0) × (entry.0 < n) in
-    record {
-      right = All-drop (IsEntry n f) (t + 1) entries lists.right;
-      within = λ k d h.
-          let there' : t + 1 + k < length entries = omega (arith, h, length-drop (t + 1) entries) in
-          subst P (sym (get_or-drop (t + 1) entries k d)) (
-            omega (arith, lists.ascending t (t + 1 + k) (n, Positive) (omega arith) there', same_entry entries (t + 1 + k) d (n, Positive) there'),
-            (lists.within (t + 1 + k) d there').1,
-          );
-      ascending = λ i j d less h.
-          let last : t + 1 + j < length entries = omega (arith, h, length-drop (t + 1) entries) in
-          omega (
-            arith,
-            lists.ascending (t + 1 + i) (t + 1 + j) d (omega (arith, less)) last,
-            ap (λ (entry : ℕ × Unate). entry.0) (get_or-drop (t + 1) entries i d),
-            ap (λ (entry : ℕ × Unate). entry.0) (get_or-drop (t + 1) entries j d),
-          );
-      whole = λ b from below inside.
-          let found = lists.whole b (omega arith) below inside in
-          at b from found.0 found.1 found.2 found.3 found.4;
-    }
-  where
-    at : (b : ℕ) → input_at n entries t + 1 ≤ b → (k : ℕ) (entry : ℕ × Unate) → k < length entries → get_or entries k entry ≡ entry → entry.0 ≡ b → Any (λ (entry : ℕ × Unate). entry.0 ≡ b) (drop (t + 1) entries)
-    at b from k entry h is same =
-        elim (cases_lt t k) [
-          | inl less ↦
-              let back : t + 1 + (k - (t + 1)) ≡ k = omega (arith, less) in
-              (k - (t + 1), entry, omega (arith, h, less, length-drop (t + 1) entries), get_or-drop (t + 1) entries (k - (t + 1)) entry ∙ (ap (λ k. get_or entries k entry) back ∙ is), same)
-          | inr past ↦
-              let here : input_at n entries k ≡ b = same_entry entries k (n, Positive) entry h ∙ (ap (λ (entry : ℕ × Unate). entry.0) is ∙ same) in
-              absurd (omega (arith, ascending_at n f 0 entries k t lists past there, here, from))
-        ]
-
 -- pairs
 
-pub pairs_none : (n : ℕ) (f : List Bool → Bool) → ListsPairs n f 0 0 []
+pairs_none : (n : ℕ) (f : List Bool → Bool) → ListsPairs n f 0 0 []
 pairs_none n f = record {
   right = λ k d h. absurd (omega (arith, h));
   below = λ k d h. absurd (omega (arith, h));
@@ -261,11 +222,11 @@ rows_of net circuit rows computes are = record {
 -- the steps of the loops
 
 -- the input at a place, read at another default
-read_at : (n : ℕ) (entries : List (ℕ × Unate)) (t : ℕ) → t < length entries → (get_or entries t (0, Positive)).0 ≡ input_at n entries t
+pub read_at : (n : ℕ) (entries : List (ℕ × Unate)) (t : ℕ) → t < length entries → (get_or entries t (0, Positive)).0 ≡ input_at n entries t
 read_at n entries t h = same_entry entries t (0, Positive) (n, Positive) h
 
 -- the next input is above
-support_above : (n : ℕ) (f : List Bool → Bool) (start : ℕ) (entries : List (ℕ × Unate)) (t : ℕ) → ListsSupport n f start n entries → t < length entries → input_at n entries t + 1 ≤ input_at n entries (t + 1)
+pub support_above : (n : ℕ) (f : List Bool → Bool) (start : ℕ) (entries : List (ℕ × Unate)) (t : ℕ) → ListsSupport n f start n entries → t < length entries → input_at n entries t + 1 ≤ input_at n entries (t + 1)
 support_above n f start entries t lists there =
     elim (cases_lt (t + 1) (length entries)) [
       | inl less ↦ omega (arith, lists.ascending t (t + 1) (n, Positive) (omega arith) less)
@@ -273,50 +234,46 @@ support_above n f start entries t lists there =
     ]
 
 -- one pair more is decided, and no input of the support lies before the next
-pub pair_step : (n : ℕ) (f : List Bool → Bool) (first : ℕ) (others : List (ℕ × Unate)) (t second : ℕ) (pairs new : List (ℕ × ℕ × Sym)) (way : Option Sym)
-    → ListsSupport n f (first + 1) n others
-    → t < length others
-    → second ≡ (get_or others t (0, Positive)).0
+pub pair_step : (n : ℕ) (f : List Bool → Bool) (support : List (ℕ × Unate)) (first t second : ℕ) (pairs new : List (ℕ × ℕ × Sym)) (way : Option Sym)
+    → ListsSupport n f 0 n support
+    → t < length support
+    → second ≡ (get_or support t (0, Positive)).0
+    → first < second
     → InSupport n f first
-    → ListsPairs n f first (input_at n others t) pairs
+    → ListsPairs n f first (input_at n support t) pairs
     → IsSymmetry n f first second way
     → new ≡ pairs ++ pair_of first second way
-    → ListsPairs n f first (input_at n others (t + 1)) new
-pair_step n f first others t second pairs new way lists there read inside so_far decided is =
-    let here : second ≡ input_at n others t = read ∙ read_at n others t there in
-    let entry : IsEntry n f (get_or others t (n, Positive)) = lists.right t (n, Positive) there in
-    let order : first < second = omega (arith, (lists.within t (n, Positive) there).0, here) in
+    → ListsPairs n f first (input_at n support (t + 1)) new
+pair_step n f support first t second pairs new way lists there read order inside so_far decided is =
+    let here : second ≡ input_at n support t = read ∙ read_at n support t there in
+    let entry : IsEntry n f (get_or support t (n, Positive)) = lists.right t (n, Positive) there in
     let also : InSupport n f second = subst (InSupport n f) (sym here) entry.inside in
     let more = pairs_more n f first second pairs way (subst (λ j. ListsPairs n f first j pairs) (sym here) so_far) order (omega (arith, entry.there, here)) inside also decided in
-    pairs_skip n f first (second + 1) (input_at n others (t + 1)) new (subst (ListsPairs n f first (second + 1)) (sym is) more)
-    (omega (arith, here, support_above n f (first + 1) others t lists there))
-    (λ b after low before inside alike. support_next n f (first + 1) others t b lists there (omega (arith, low, here)) before inside)
+    pairs_skip n f first (second + 1) (input_at n support (t + 1)) new (subst (ListsPairs n f first (second + 1)) (sym is) more)
+    (omega (arith, here, support_above n f 0 support t lists there))
+    (λ b after low before inside alike. support_next n f 0 support t b lists there (omega (arith, low, here)) before inside)
 
--- all pairs of an input were decided
-pub pairs_end : (n : ℕ) (f : List Bool → Bool) (first : ℕ) (others : List (ℕ × Unate)) (t : ℕ) (pairs : List (ℕ × ℕ × Sym)) → length others ≤ t → ListsPairs n f first (input_at n others t) pairs → ListsPairs n f (first + 1) 0 pairs
-pairs_end n f first others t pairs past so_far =
-    pairs_next n f first pairs (subst (λ j. ListsPairs n f first j pairs) (ap (λ (entry : ℕ × Unate). entry.0) (get_or_past others t (n, Positive) past)) so_far)
+-- no input of the support lies between an input and the next
+pub pairs_begin : (n : ℕ) (f : List Bool → Bool) (support : List (ℕ × Unate)) (t : ℕ) (pairs : List (ℕ × ℕ × Sym)) → ListsSupport n f 0 n support → t < length support
+    → ListsPairs n f (input_at n support t) 0 pairs
+    → ListsPairs n f (input_at n support t) (input_at n support (t + 1)) pairs
+pairs_begin n f support t pairs lists there so_far =
+    pairs_skip n f (input_at n support t) 0 (input_at n support (t + 1)) pairs so_far (omega arith) (λ b after low before inside alike. support_next n f 0 support t b lists there after before inside)
+
+-- all pairs of an input were decided, and no input of the support lies before the next
+pub pairs_end : (n : ℕ) (f : List Bool → Bool) (support : List (ℕ × Unate)) (t last : ℕ) (pairs : List (ℕ × ℕ × Sym)) → ListsSupport n f 0 n support → t < length support → length support ≤ last
+    → ListsPairs n f (input_at n support t) (input_at n support last) pairs
+    → ListsPairs n f (input_at n support (t + 1)) 0 pairs
+pairs_end n f support t last pairs lists there past so_far =
+    let whole : ListsPairs n f (input_at n support t) n pairs = subst (λ j. ListsPairs n f (input_at n support t) j pairs) (ap (λ (entry : ℕ × Unate). entry.0) (get_or_past support last (n, Positive) past)) so_far in
+    pairs_jump n f (input_at n support t + 1) (input_at n support (t + 1)) pairs (pairs_next n f (input_at n support t) pairs whole)
+    (support_above n f 0 support t lists there)
+    (λ a low before. support_next n f 0 support t a lists there (omega (arith, low)) before)
 
 -- no pairs before those of the first input
 pub first_step : (n : ℕ) (f : List Bool → Bool) (support : List (ℕ × Unate)) (pairs : List (ℕ × ℕ × Sym)) → ListsSupport n f 0 n support → pairs ≡ [] → ListsPairs n f (input_at n support 0) 0 pairs
 first_step n f support pairs lists none =
     subst (ListsPairs n f (input_at n support 0) 0) (sym none) (pairs_jump n f 0 (input_at n support 0) [] (pairs_none n f) (omega arith) (λ a low before. support_first n f 0 support a lists low before))
-
--- the pairs of an input were added, and no input of the support lies before the next
-pub input_step : (n : ℕ) (f : List Bool → Bool) (support : List (ℕ × Unate)) (t : ℕ) (pairs : List (ℕ × ℕ × Sym)) → ListsSupport n f 0 n support → t < length support → ListsPairs n f ((get_or support t (0, Positive)).0 + 1) 0 pairs → ListsPairs n f (input_at n support (t + 1)) 0 pairs
-input_step n f support t pairs lists there so_far =
-    let here = read_at n support t there in
-    pairs_jump n f ((get_or support t (0, Positive)).0 + 1) (input_at n support (t + 1)) pairs so_far
-    (omega (arith, here, support_above n f 0 support t lists there))
-    (λ a low before. support_next n f 0 support t a lists there (omega (arith, low, here)) before)
-
--- what is after an entry, as a slice of the support
-pub later_slice : (n : ℕ) (f : List Bool → Bool) (support : List (ℕ × Unate)) (t : ℕ) → ListsSupport n f 0 n support → t < length support → ListsSupport n f ((get_or support t (0, Positive)).0 + 1) n (take (length support - (t + 1)) (drop (t + 1) support))
-later_slice n f support t lists there =
-    let here = read_at n support t there in
-    let all : take (length support - (t + 1)) (drop (t + 1) support) ≡ drop (t + 1) support = take_all (length support - (t + 1)) (drop (t + 1) support) (omega (arith, length-drop (t + 1) support)) in
-    subst (λ i. ListsSupport n f (i + 1) n (take (length support - (t + 1)) (drop (t + 1) support))) (sym here)
-    (subst (ListsSupport n f (input_at n support t + 1) n) (sym all) (support_later n f support t lists there))
 
 -- one input more is decided
 pub support_step : (n : ℕ) (f : List Bool → Bool) (i : ℕ) (entries new : List (ℕ × Unate)) (unate : Option Unate) → ListsSupport n f 0 i entries → i < n → IsDependence n f i unate → new ≡ entries ++ entry_of i unate → ListsSupport n f 0 (i + 1) new

@@ -1,5 +1,5 @@
 -- What an oracle is asked about an output of the first of its two circuits.
-use Rattle.std.specs.Prelude.{◌≡◌, ℕ, Bool, true, false, not, List, [], ◌∷◌, Option, None, Some}
+use Rattle.std.specs.Prelude.{◌≡◌, ℕ, Bool, true, false, not, List, [], ◌∷◌, Option, None, Some, slice_index_or}
 use Rattle.net_core.specs.Graph.{IsGraph}
 use Rattle.net_core.specs.Sides.{Graphs}
 use Rattle.query_core.specs.Ledgers.{Ledgered}
@@ -11,7 +11,6 @@ use Rattle.claim_core.specs.Claims.{output_bit}
 use Rattle.claim_core.specs.declared.info.Unate.{Unate}
 use Rattle.claim_core.specs.declared.info.Unate.TheVariants.{Positive, Negative, Binate}
 use Rattle.claim_core.specs.declared.info.Sym.{Sym}
-use Rattle.claim_core.specs.declared.info.Sym.TheVariants.{Symmetric, Skew, Both}
 use Rattle.claim_core.specs.Facts.{InSupport, IsSymmetric, IsSkew}
 use Rattle.claim_core.specs.Rows.{IsUnate, IsSym}
 
@@ -70,13 +69,6 @@ dependence true false = Some Positive
 dependence false true = Some Negative
 dependence false false = Some Binate
 
--- the ways in which two inputs may be exchanged, by whether they are symmetric, and whether they are skew symmetric
-abbrev pub symmetry : Bool → Bool → Option Sym
-symmetry true true = Some Both
-symmetry true false = Some Symmetric
-symmetry false true = Some Skew
-symmetry false false = None
-
 -- the entry of an input, where the function depends on it
 abbrev pub entry_of : ℕ → Option Unate → List (ℕ × Unate)
 entry_of i None = []
@@ -86,3 +78,7 @@ entry_of i (Some unate) = (i, unate) ∷ []
 abbrev pub pair_of : ℕ → ℕ → Option Sym → List (ℕ × ℕ × Sym)
 pair_of i j None = []
 pair_of i j (Some sym) = (i, j, sym) ∷ []
+
+-- the input at a place of the support; after the last one, the number of inputs
+abbrev pub input_at : ℕ → List (ℕ × Unate) → ℕ → ℕ
+input_at n entries t = (slice_index_or entries t (n, Positive)).0

@@ -8,6 +8,7 @@ mod book;
 mod circuit_info;
 mod decide;
 mod deciding;
+mod exchange_classes;
 mod fact_book;
 mod facts;
 mod first_output;
@@ -16,6 +17,7 @@ pub mod laws;
 mod nearby;
 mod rows;
 mod sightings;
+mod symmetric_pairs;
 mod symmetry_test;
 mod unate_test;
 

@@ -7,7 +7,7 @@ ghost use Rattle.claim_core.specs.Rows.{AreRows, IsRow};
 
 use crate::first_output::FirstOutput;
 use crate::func_support::support;
-use crate::symmetry_test::symmetries;
+use crate::symmetric_pairs::symmetries;
 use claim_core::OutputInfo;
 use cnf_core::Stop;
 use net_core::Graphs;

@@ -1,9 +1,10 @@
 -- Both ways were decided.
 use Rattle.std.proofs.Common.{refl, sym, subst}
-use Rattle.fact_tests.specs.Outputs.{IsSymmetry, function_at, inputs_in}
-use Rattle.fact_tests.proofs.ClaimFacts.{symmetry_is}
+use Rattle.fact_tests.specs.Exchanges.{IsSecond}
+use Rattle.fact_tests.specs.Outputs.{function_at, inputs_in}
+use Rattle.fact_tests.proofs.ClassLemmas.{second_is}
 use Rattle.fact_tests.proofs.Serving.{served_one, served_then, serves_err, serves_ok}
-use Rattle.fact_tests.proofs.symmetry_test.exchange.Goals as goal
+use Rattle.fact_tests.proofs.exchange_classes.pair_up.Goals as goal
 
 pub returns-in_err-skew-clause-serves : goal.returns-in_err-skew-clause-serves
 returns-in_err-skew-clause-serves g c =
@@ -13,8 +14,8 @@ pub returns-clause-serves : goal.returns-clause-serves
 returns-clause-serves g c =
     serves_ok _ _ _ _ _ _ refl (served_then _ _ _ _ _ _ (served_one _ _ _ _ _ c.in_ok-symmetric.ensures.serves) (served_one _ _ _ _ _ c.in_ok-skew.ensures.serves))
 
-pub returns-clause-sym : goal.returns-clause-sym
-returns-clause-sym g c =
+pub returns-clause-pair : goal.returns-clause-pair
+returns-clause-pair g c =
     let graphs = c.args.output.now.graphs.now in
     let f = function_at graphs c.args.output.now.number in
-    subst (IsSymmetry (inputs_in graphs) f c.args.first.0 c.args.second.0) (sym c.by_swaps.ensures) (symmetry_is (inputs_in graphs) f c.args.first.0 c.args.second.0 c.in_ok-symmetric.symmetric c.in_ok-skew.skew c.in_ok-symmetric.ensures.told c.in_ok-skew.ensures.told)
+    subst (IsSecond (inputs_in graphs) f c.args.first c.args.entry) (sym c.second_by.ensures) (second_is (inputs_in graphs) f c.args.first c.args.entry c.in_ok-symmetric.symmetric c.in_ok-skew.skew c.in_ok-symmetric.ensures.told c.in_ok-skew.ensures.told)

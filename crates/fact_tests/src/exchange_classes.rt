@@ -1,0 +1,451 @@
+//! The inputs of an output's support, sorted by which of them may be exchanged.
+
+ghost use Rattle.std.specs.Prelude.{◌≡◌, ◌<◌, ◌++◌, ◌∷◌, [], IfOk, IfSome, OnOk, length};
+ghost use Rattle.oracle_core.specs.Oracles.{Serves};
+ghost use Rattle.claim_core.specs.Rows.{IsEntry, ListsSupport};
+ghost use Rattle.fact_tests.specs.Outputs.{MayAsk, function_at, inputs_in};
+ghost use Rattle.fact_tests.specs.Exchanges.{Adds, AreClasses, IsClass, IsFound, IsJoined, IsNext, IsSecond, IsTried, IsWay, Sorts, classes_with, found_by, next_by, place_in, second_by, skew_by};
+
+use crate::first_output::FirstOutput;
+use crate::symmetry_test::are_alike;
+use claim_core::Unate;
+use cnf_core::Stop;
+use items::Items;
+use oracle_core::Oracle;
+use query_core::Ledger;
+use std::alloc::{AllocError, Global};
+
+/// Inputs of a support, sorted into classes: of one class any two may be exchanged, of two classes none. So n inputs of
+/// one class take n - 1 tests, each of an input with one of the class, and not one for each two inputs.
+#[derive(Drop)]
+pub(crate) struct Sorted {
+    pub classes: Items<Class>,
+    /// Where each input of the support belongs, in the order of the support.
+    pub places: Items<Place>,
+}
+
+/// Inputs of which any two may be exchanged.
+#[derive(Clone, Copy, Debug, Drop)]
+pub(crate) struct Class {
+    /// The least of them, and how the output depends on it.
+    pub first: (u32, Unate),
+    /// What is known of the others, where there are some.
+    pub others: Option<Others>,
+}
+
+/// The inputs of a class beside its first one.
+#[derive(Clone, Copy, Debug, Drop)]
+pub(crate) struct Others {
+    /// The greatest of them, with which the next input is tried: inputs that follow one another are often side by side in the
+    /// circuit, and what is asked of such inputs is answered sooner.
+    pub last: (u32, Unate),
+    /// Whether it may be exchanged with the first one inverted, else as it is.
+    pub inverted: bool,
+    /// Whether any two inputs of the class may be exchanged both ways.
+    pub both: bool,
+}
+
+/// Where an input belongs.
+#[derive(Clone, Copy, Debug, Drop)]
+pub(crate) struct Place {
+    /// The number of its class.
+    pub class: usize,
+    /// Whether it may be exchanged with the first input of its class inverted, else as it is.
+    pub inverted: bool,
+}
+
+/// The class to which the next input belongs.
+#[derive(Clone, Copy, Debug, Drop)]
+pub(crate) struct Found {
+    pub number: usize,
+    pub first: (u32, Unate),
+    /// What is known of the others, of which the input is the last one.
+    pub others: Others,
+}
+
+/// What is tried first with the next input. No answer depends on it.
+#[derive(Drop)]
+struct Tries {
+    /// The swap that is asked first (`are_alike`).
+    start: bool,
+    /// The class after that to which the last input belongs. Where the inputs of an operand come one after another, those of
+    /// the next operand belong to the same classes in the same order.
+    class: usize,
+}
+
+/// Sorts the inputs of the output's support.
+pub(crate) fn sort<O: Oracle>(
+    alloc: Global,
+    output: &FirstOutput<'_>,
+    support: &[(u32, Unate)],
+    oracle: &mut O,
+    ledger: &mut Ledger,
+) -> Result<Sorted, Stop>
+    requires may { MayAsk output.now.graphs.now (O.known oracle.old) ledger.old }
+    requires there { output.now.number < length output.now.graphs.now.first.outputs }
+    requires support { ListsSupport (inputs_in output.now.graphs.now)
+        (function_at output.now.graphs.now output.now.number) 0 (inputs_in output.now.graphs.now) support.now }
+    ensures serves { Serves (O.known oracle.old) (O.known oracle.new) ledger.old ledger.new result }
+    ensures sorts { IfOk result (Sorts (inputs_in output.now.graphs.now)
+        (function_at output.now.graphs.now output.now.number) support.now (length support.now)) }
+{
+    let mut sorted = Sorted {
+        classes: Items::new(alloc),
+        places: Items::new(alloc),
+    };
+    add_all(alloc, output, support, &mut sorted, oracle, ledger)?;
+    Ok(sorted)
+}
+
+/// Adds all inputs of the output's support to an empty list.
+fn add_all<O: Oracle>(
+    alloc: Global,
+    output: &FirstOutput<'_>,
+    support: &[(u32, Unate)],
+    sorted: &mut Sorted,
+    oracle: &mut O,
+    ledger: &mut Ledger,
+) -> Result<(), Stop>
+    requires may { MayAsk output.now.graphs.now (O.known oracle.old) ledger.old }
+    requires there { output.now.number < length output.now.graphs.now.first.outputs }
+    requires support { ListsSupport (inputs_in output.now.graphs.now)
+        (function_at output.now.graphs.now output.now.number) 0 (inputs_in output.now.graphs.now) support.now }
+    requires classes { sorted.old.classes ≡ [] }
+    requires places { sorted.old.places ≡ [] }
+    ensures serves { Serves (O.known oracle.old) (O.known oracle.new) ledger.old ledger.new result }
+    ensures sorts { OnOk result (Sorts (inputs_in output.now.graphs.now)
+        (function_at output.now.graphs.now output.now.number) support.now (length support.now) sorted.new) }
+{
+    let mut tries = Tries {
+        start: false,
+        class: 0,
+    };
+    for entry in support.iter() {
+        add(alloc, output, *entry, sorted, &mut tries, oracle, ledger)?;
+    }
+    Ok(())
+}
+
+/// Adds the next input to the class to which it belongs, or to a new one.
+fn add<O: Oracle>(
+    alloc: Global,
+    output: &FirstOutput<'_>,
+    entry: (u32, Unate),
+    sorted: &mut Sorted,
+    tries: &mut Tries,
+    oracle: &mut O,
+    ledger: &mut Ledger,
+) -> Result<(), Stop>
+    requires may { MayAsk output.now.graphs.now (O.known oracle.old) ledger.old }
+    requires there { output.now.number < length output.now.graphs.now.first.outputs }
+    requires entry { IsEntry (inputs_in output.now.graphs.now)
+        (function_at output.now.graphs.now output.now.number) entry }
+    requires classes { AreClasses (inputs_in output.now.graphs.now)
+        (function_at output.now.graphs.now output.now.number) entry.0 sorted.old.classes }
+    ensures serves { Serves (O.known oracle.old) (O.known oracle.new) ledger.old ledger.new result }
+    ensures adds { OnOk result (Adds (inputs_in output.now.graphs.now)
+        (function_at output.now.graphs.now output.now.number) entry.0 sorted.old sorted.new) }
+{
+    let found = find(alloc, output, entry, &sorted.classes, tries, oracle, ledger)?;
+    let place = put(entry, found, sorted)?;
+    tries.class = place.class.wrapping_add(1);
+    Ok(())
+}
+
+/// Puts the next input into the class that was found, else into a new one. Answers where it belongs.
+fn put(entry: (u32, Unate), found: Option<Found>, sorted: &mut Sorted) -> Result<Place, AllocError>
+    requires found { IfSome found (λ found. found.number < length sorted.old.classes) }
+    ensures classes { OnOk result (sorted.new.classes ≡ classes_with entry found sorted.old.classes) }
+    ensures places { OnOk result (sorted.new.places ≡ sorted.old.places ++ place_in found sorted.old.classes ∷ []) }
+{
+    let place = put_class(entry, found, &mut sorted.classes)?;
+    sorted.places.push(place)?;
+    Ok(place)
+}
+
+/// The same for the classes alone.
+fn put_class(
+    entry: (u32, Unate),
+    found: Option<Found>,
+    classes: &mut Items<Class>,
+) -> Result<Place, AllocError>
+    requires found { IfSome found (λ found. found.number < length classes.old) }
+    ensures classes { OnOk result (classes.new ≡ classes_with entry found classes.old) }
+    ensures place { IfOk result (λ place. place ≡ place_in found classes.old) }
+{
+    match found {
+        Some(found) => {
+            let Found {
+                number,
+                first,
+                others,
+            } = found;
+            let grown = Class {
+                first,
+                others: Some(others),
+            };
+            classes.set(number, grown);
+            Ok(Place {
+                class: number,
+                inverted: others.inverted,
+            })
+        }
+        None => {
+            let class = classes.len();
+            classes.push(Class {
+                first: entry,
+                others: None,
+            })?;
+            Ok(Place {
+                class,
+                inverted: false,
+            })
+        }
+    }
+}
+
+/// The class to which an input after those of all classes belongs; None where it may be exchanged with none of their inputs.
+fn find<O: Oracle>(
+    alloc: Global,
+    output: &FirstOutput<'_>,
+    entry: (u32, Unate),
+    classes: &[Class],
+    tries: &mut Tries,
+    oracle: &mut O,
+    ledger: &mut Ledger,
+) -> Result<Option<Found>, Stop>
+    requires may { MayAsk output.now.graphs.now (O.known oracle.old) ledger.old }
+    requires there { output.now.number < length output.now.graphs.now.first.outputs }
+    requires entry { IsEntry (inputs_in output.now.graphs.now)
+        (function_at output.now.graphs.now output.now.number) entry }
+    requires classes { AreClasses (inputs_in output.now.graphs.now)
+        (function_at output.now.graphs.now output.now.number) entry.0 classes.now }
+    ensures serves { Serves (O.known oracle.old) (O.known oracle.new) ledger.old ledger.new result }
+    ensures found { IfOk result (IsFound (inputs_in output.now.graphs.now)
+        (function_at output.now.graphs.now output.now.number) classes.now entry) }
+{
+    let start = &mut tries.start;
+    match try_class(
+        alloc,
+        output,
+        entry,
+        classes,
+        tries.class,
+        start,
+        oracle,
+        ledger,
+    )? {
+        Some(found) => Ok(Some(found)),
+        None => find_among(alloc, output, entry, classes, start, oracle, ledger),
+    }
+}
+
+/// The first class to which the input belongs.
+fn find_among<O: Oracle>(
+    alloc: Global,
+    output: &FirstOutput<'_>,
+    entry: (u32, Unate),
+    classes: &[Class],
+    start: &mut bool,
+    oracle: &mut O,
+    ledger: &mut Ledger,
+) -> Result<Option<Found>, Stop>
+    requires may { MayAsk output.now.graphs.now (O.known oracle.old) ledger.old }
+    requires there { output.now.number < length output.now.graphs.now.first.outputs }
+    requires entry { IsEntry (inputs_in output.now.graphs.now)
+        (function_at output.now.graphs.now output.now.number) entry }
+    requires classes { AreClasses (inputs_in output.now.graphs.now)
+        (function_at output.now.graphs.now output.now.number) entry.0 classes.now }
+    ensures serves { Serves (O.known oracle.old) (O.known oracle.new) ledger.old ledger.new result }
+    ensures found { IfOk result (IsFound (inputs_in output.now.graphs.now)
+        (function_at output.now.graphs.now output.now.number) classes.now entry) }
+{
+    for number in 0..classes.len() {
+        let found = try_class(alloc, output, entry, classes, number, start, oracle, ledger)?;
+        match found {
+            Some(found) => return Ok(Some(found)),
+            None => {}
+        }
+    }
+    Ok(None)
+}
+
+/// The class of a number, where there is one and the input belongs to it.
+fn try_class<O: Oracle>(
+    alloc: Global,
+    output: &FirstOutput<'_>,
+    entry: (u32, Unate),
+    classes: &[Class],
+    number: usize,
+    start: &mut bool,
+    oracle: &mut O,
+    ledger: &mut Ledger,
+) -> Result<Option<Found>, Stop>
+    requires may { MayAsk output.now.graphs.now (O.known oracle.old) ledger.old }
+    requires there { output.now.number < length output.now.graphs.now.first.outputs }
+    requires entry { IsEntry (inputs_in output.now.graphs.now)
+        (function_at output.now.graphs.now output.now.number) entry }
+    requires classes { AreClasses (inputs_in output.now.graphs.now)
+        (function_at output.now.graphs.now output.now.number) entry.0 classes.now }
+    ensures serves { Serves (O.known oracle.old) (O.known oracle.new) ledger.old ledger.new result }
+    ensures tried { IfOk result (IsTried (inputs_in output.now.graphs.now)
+        (function_at output.now.graphs.now output.now.number) classes.now entry number) }
+{
+    if number >= classes.len() {
+        return Ok(None);
+    }
+    let class = classes[number];
+    let others = join(alloc, output, entry, class, start, oracle, ledger)?;
+    Ok(found_by(number, class, others))
+}
+
+/// What was found by a class's others, once the input is the last of them.
+fn found_by(number: usize, class: Class, others: Option<Others>) -> Option<Found>
+    ensures { result ≡ found_by number class others }
+{
+    let others = others?;
+    Some(Found {
+        number,
+        first: class.first,
+        others,
+    })
+}
+
+/// The others of a class once the input is the last of them; None where it doesn't belong to the class.
+fn join<O: Oracle>(
+    alloc: Global,
+    output: &FirstOutput<'_>,
+    entry: (u32, Unate),
+    class: Class,
+    start: &mut bool,
+    oracle: &mut O,
+    ledger: &mut Ledger,
+) -> Result<Option<Others>, Stop>
+    requires may { MayAsk output.now.graphs.now (O.known oracle.old) ledger.old }
+    requires there { output.now.number < length output.now.graphs.now.first.outputs }
+    requires entry { IsEntry (inputs_in output.now.graphs.now)
+        (function_at output.now.graphs.now output.now.number) entry }
+    requires class { IsClass (inputs_in output.now.graphs.now)
+        (function_at output.now.graphs.now output.now.number) entry.0 class }
+    ensures serves { Serves (O.known oracle.old) (O.known oracle.new) ledger.old ledger.new result }
+    ensures joined { IfOk result (IsJoined (inputs_in output.now.graphs.now)
+        (function_at output.now.graphs.now output.now.number) class entry) }
+{
+    match class.others {
+        Some(others) => follow(alloc, output, others, entry, start, oracle, ledger),
+        None => pair_up(alloc, output, class.first, entry, start, oracle, ledger),
+    }
+}
+
+/// The second input of a class.
+fn pair_up<O: Oracle>(
+    alloc: Global,
+    output: &FirstOutput<'_>,
+    first: (u32, Unate),
+    entry: (u32, Unate),
+    start: &mut bool,
+    oracle: &mut O,
+    ledger: &mut Ledger,
+) -> Result<Option<Others>, Stop>
+    requires may { MayAsk output.now.graphs.now (O.known oracle.old) ledger.old }
+    requires there { output.now.number < length output.now.graphs.now.first.outputs }
+    requires order { first.0 < entry.0 }
+    requires first { IsEntry (inputs_in output.now.graphs.now)
+        (function_at output.now.graphs.now output.now.number) first }
+    requires entry { IsEntry (inputs_in output.now.graphs.now)
+        (function_at output.now.graphs.now output.now.number) entry }
+    ensures serves { Serves (O.known oracle.old) (O.known oracle.new) ledger.old ledger.new result }
+    ensures pair { IfOk result (IsSecond (inputs_in output.now.graphs.now)
+        (function_at output.now.graphs.now output.now.number) first entry) }
+{
+    let symmetric = are_alike(alloc, output, first, entry, false, start, oracle, ledger)?;
+    let skew = are_alike(alloc, output, first, entry, true, start, oracle, ledger)?;
+    Ok(second_by(entry, symmetric, skew))
+}
+
+/// The second input of a class, by whether it and the first one are symmetric, and whether they are skew symmetric.
+fn second_by(entry: (u32, Unate), symmetric: bool, skew: bool) -> Option<Others>
+    ensures { result ≡ second_by entry symmetric skew }
+{
+    if !symmetric & !skew {
+        return None;
+    }
+    Some(Others {
+        last: entry,
+        inverted: !symmetric,
+        both: symmetric & skew,
+    })
+}
+
+/// An input more of a class of two or more.
+fn follow<O: Oracle>(
+    alloc: Global,
+    output: &FirstOutput<'_>,
+    others: Others,
+    entry: (u32, Unate),
+    start: &mut bool,
+    oracle: &mut O,
+    ledger: &mut Ledger,
+) -> Result<Option<Others>, Stop>
+    requires may { MayAsk output.now.graphs.now (O.known oracle.old) ledger.old }
+    requires there { output.now.number < length output.now.graphs.now.first.outputs }
+    requires order { others.last.0 < entry.0 }
+    requires last { IsEntry (inputs_in output.now.graphs.now)
+        (function_at output.now.graphs.now output.now.number) others.last }
+    requires entry { IsEntry (inputs_in output.now.graphs.now)
+        (function_at output.now.graphs.now output.now.number) entry }
+    ensures serves { Serves (O.known oracle.old) (O.known oracle.new) ledger.old ledger.new result }
+    ensures follows { IfOk result (IsNext (inputs_in output.now.graphs.now)
+        (function_at output.now.graphs.now output.now.number) others entry) }
+{
+    let way = way_of(alloc, output, others.last, entry, start, oracle, ledger)?;
+    Ok(next_by(others, entry, way))
+}
+
+/// The others of a class with an input more, which may be exchanged with the last one in this way.
+fn next_by(others: Others, entry: (u32, Unate), way: Option<bool>) -> Option<Others>
+    ensures { result ≡ next_by others entry way }
+{
+    let inverted = way?;
+    Some(Others {
+        last: entry,
+        inverted: others.inverted ^ inverted,
+        both: others.both,
+    })
+}
+
+/// Whether two inputs may be exchanged each inverted, or as they are; None where neither is so.
+fn way_of<O: Oracle>(
+    alloc: Global,
+    output: &FirstOutput<'_>,
+    first: (u32, Unate),
+    second: (u32, Unate),
+    start: &mut bool,
+    oracle: &mut O,
+    ledger: &mut Ledger,
+) -> Result<Option<bool>, Stop>
+    requires may { MayAsk output.now.graphs.now (O.known oracle.old) ledger.old }
+    requires there { output.now.number < length output.now.graphs.now.first.outputs }
+    requires order { first.0 < second.0 }
+    requires first { IsEntry (inputs_in output.now.graphs.now)
+        (function_at output.now.graphs.now output.now.number) first }
+    requires second { IsEntry (inputs_in output.now.graphs.now)
+        (function_at output.now.graphs.now output.now.number) second }
+    ensures serves { Serves (O.known oracle.old) (O.known oracle.new) ledger.old ledger.new result }
+    ensures way { IfOk result (IsWay (inputs_in output.now.graphs.now)
+        (function_at output.now.graphs.now output.now.number) first.0 second.0) }
+{
+    let symmetric = are_alike(alloc, output, first, second, false, start, oracle, ledger)?;
+    if symmetric {
+        return Ok(Some(false));
+    }
+    let skew = are_alike(alloc, output, first, second, true, start, oracle, ledger)?;
+    Ok(skew_by(skew))
+}
+
+/// The way of two inputs that aren't symmetric.
+fn skew_by(skew: bool) -> Option<bool>
+    ensures { result ≡ skew_by skew }
+{
+    if skew { Some(true) } else { None }
+}
