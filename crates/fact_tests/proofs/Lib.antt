@@ -14,3 +14,4 @@ mod OneRow
 mod AlikeLemmas
 mod ExchangeLemmas
 mod ClassLemmas
+mod LocalLemmas

@@ -5,6 +5,7 @@ pub mod Kept
 pub mod Books
 pub mod Outputs
 pub mod Exchanges
+pub mod LocalExchanges
 pub use Rattle.account_core.specs.Facts as DecidedFacts
 pub use Rattle.sim_signature.specs.Supports as Reached
 pub use Rattle.oracle_core.specs.Oracles

@@ -1,5 +1,5 @@
 -- What an oracle is asked about an output of the first of its two circuits.
-use Rattle.std.specs.Prelude.{◌≡◌, ℕ, Bool, true, false, not, List, [], ◌∷◌, Option, None, Some, slice_index_or}
+use Rattle.std.specs.Prelude.{◌≡◌, ℕ, ◌<◌, Bool, true, false, not, List, length, [], ◌∷◌, Option, None, Some, slice_index_or}
 use Rattle.net_core.specs.Graph.{IsGraph}
 use Rattle.net_core.specs.Sides.{Graphs}
 use Rattle.query_core.specs.Ledgers.{Ledgered}
@@ -9,6 +9,7 @@ use Rattle.claim_core.specs.declared.claims.Shape.{Shape}
 use Rattle.claim_core.specs.declared.claims.Shape.TheVariants.{Swap}
 use Rattle.claim_core.specs.Claims.{output_bit}
 use Rattle.claim_core.specs.declared.info.Unate.{Unate}
+use Rattle.fact_tests.specs.declared.first_output.FirstOutput.{FirstOutput}
 use Rattle.claim_core.specs.declared.info.Unate.TheVariants.{Positive, Negative, Binate}
 use Rattle.claim_core.specs.declared.info.Sym.{Sym}
 use Rattle.claim_core.specs.Facts.{InSupport, IsSymmetric, IsSkew}
@@ -21,6 +22,12 @@ pub record MayAsk (graphs : Graphs) (known : Known) (ledger : Ledgered) : Type 0
   pub second : IsGraph graphs.second
   pub facts : AreFacts known.graphs known.facts
   pub suits : Suits known ledger
+
+-- The output is there, and what is kept of the first circuit is of it.
+pub record IsOutput (output : FirstOutput) : Type 0 where
+  pub there : output.number < length output.graphs.now.first.outputs
+  pub supports : output.supports.now ≡ output.graphs.now.first
+  pub readers : output.readers.now ≡ output.graphs.now.first
 
 -- how many inputs the first circuit has, and the function of its output k
 abbrev pub inputs_in : Graphs → ℕ

@@ -5,6 +5,7 @@ ghost use Rattle.oracle_core.specs.Oracles.{Serves, Suits};
 ghost use Rattle.claim_core.specs.Rows.{AreRows};
 
 use crate::fact_book::FactBook;
+use crate::readers::Readers;
 use crate::rows::rows_by;
 use claim_core::OutputInfo;
 use cnf_core::Stop;
@@ -17,8 +18,9 @@ use watch_core::Watch;
 
 /// Of each output of the first circuit the inputs that it depends on, and how, and the pairs of these inputs that may be
 /// exchanged. An output depends on no input that it doesn't reach through gates, and of these nothing is asked. The others
-/// are decided by claims; of two swaps that make a symmetry the second is asked only where the first holds. Inputs that may
-/// be exchanged are classes, so each input is held against one of each class.
+/// are decided by claims; of two swaps that make a symmetry the second is asked only where the first holds, and neither where
+/// the gates near the two inputs show it. Inputs that may be exchanged are classes, so each input is held against one of each
+/// class.
 ///
 /// # Errors
 ///
@@ -37,5 +39,6 @@ pub fn info<W: Watch>(
 {
     let _facts = book.facts();
     let supports = Supports::new(alloc, graphs.first())?;
-    rows_by(alloc, graphs, &supports, book, ledger)
+    let readers = Readers::new(alloc, graphs.first())?;
+    rows_by(alloc, graphs, &supports, &readers, book, ledger)
 }

@@ -3,7 +3,7 @@
 ghost use Rattle.std.specs.Prelude.{◌≡◌, ◌<◌, ◌++◌, ◌∷◌, [], IfOk, IfSome, OnOk, length};
 ghost use Rattle.oracle_core.specs.Oracles.{Serves};
 ghost use Rattle.claim_core.specs.Rows.{IsEntry, ListsSupport};
-ghost use Rattle.fact_tests.specs.Outputs.{MayAsk, function_at, inputs_in};
+ghost use Rattle.fact_tests.specs.Outputs.{IsOutput, MayAsk, function_at, inputs_in};
 ghost use Rattle.fact_tests.specs.Exchanges.{Adds, AreClasses, IsClass, IsFound, IsJoined, IsNext, IsSecond, IsTried, IsWay, Sorts, classes_with, found_by, next_by, place_in, second_by, skew_by};
 
 use crate::first_output::FirstOutput;
@@ -25,7 +25,7 @@ pub(crate) struct Sorted {
 }
 
 /// Inputs of which any two may be exchanged.
-#[derive(Clone, Copy, Debug, Drop)]
+#[derive(Clone, Copy, Drop)]
 pub(crate) struct Class {
     /// The least of them, and how the output depends on it.
     pub first: (u32, Unate),
@@ -34,7 +34,7 @@ pub(crate) struct Class {
 }
 
 /// The inputs of a class beside its first one.
-#[derive(Clone, Copy, Debug, Drop)]
+#[derive(Clone, Copy, Drop)]
 pub(crate) struct Others {
     /// The greatest of them, with which the next input is tried: inputs that follow one another are often side by side in the
     /// circuit, and what is asked of such inputs is answered sooner.
@@ -46,7 +46,7 @@ pub(crate) struct Others {
 }
 
 /// Where an input belongs.
-#[derive(Clone, Copy, Debug, Drop)]
+#[derive(Clone, Copy, Drop)]
 pub(crate) struct Place {
     /// The number of its class.
     pub class: usize,
@@ -55,7 +55,7 @@ pub(crate) struct Place {
 }
 
 /// The class to which the next input belongs.
-#[derive(Clone, Copy, Debug, Drop)]
+#[derive(Clone, Copy, Drop)]
 pub(crate) struct Found {
     pub number: usize,
     pub first: (u32, Unate),
@@ -82,7 +82,7 @@ pub(crate) fn sort<O: Oracle>(
     ledger: &mut Ledger,
 ) -> Result<Sorted, Stop>
     requires may { MayAsk output.now.graphs.now (O.known oracle.old) ledger.old }
-    requires there { output.now.number < length output.now.graphs.now.first.outputs }
+    requires output { IsOutput output.now }
     requires support { ListsSupport (inputs_in output.now.graphs.now)
         (function_at output.now.graphs.now output.now.number) 0 (inputs_in output.now.graphs.now) support.now }
     ensures serves { Serves (O.known oracle.old) (O.known oracle.new) ledger.old ledger.new result }
@@ -107,7 +107,7 @@ fn add_all<O: Oracle>(
     ledger: &mut Ledger,
 ) -> Result<(), Stop>
     requires may { MayAsk output.now.graphs.now (O.known oracle.old) ledger.old }
-    requires there { output.now.number < length output.now.graphs.now.first.outputs }
+    requires output { IsOutput output.now }
     requires support { ListsSupport (inputs_in output.now.graphs.now)
         (function_at output.now.graphs.now output.now.number) 0 (inputs_in output.now.graphs.now) support.now }
     requires classes { sorted.old.classes ≡ [] }
@@ -137,7 +137,7 @@ fn add<O: Oracle>(
     ledger: &mut Ledger,
 ) -> Result<(), Stop>
     requires may { MayAsk output.now.graphs.now (O.known oracle.old) ledger.old }
-    requires there { output.now.number < length output.now.graphs.now.first.outputs }
+    requires output { IsOutput output.now }
     requires entry { IsEntry (inputs_in output.now.graphs.now)
         (function_at output.now.graphs.now output.now.number) entry }
     requires classes { AreClasses (inputs_in output.now.graphs.now)
@@ -215,7 +215,7 @@ fn find<O: Oracle>(
     ledger: &mut Ledger,
 ) -> Result<Option<Found>, Stop>
     requires may { MayAsk output.now.graphs.now (O.known oracle.old) ledger.old }
-    requires there { output.now.number < length output.now.graphs.now.first.outputs }
+    requires output { IsOutput output.now }
     requires entry { IsEntry (inputs_in output.now.graphs.now)
         (function_at output.now.graphs.now output.now.number) entry }
     requires classes { AreClasses (inputs_in output.now.graphs.now)
@@ -251,7 +251,7 @@ fn find_among<O: Oracle>(
     ledger: &mut Ledger,
 ) -> Result<Option<Found>, Stop>
     requires may { MayAsk output.now.graphs.now (O.known oracle.old) ledger.old }
-    requires there { output.now.number < length output.now.graphs.now.first.outputs }
+    requires output { IsOutput output.now }
     requires entry { IsEntry (inputs_in output.now.graphs.now)
         (function_at output.now.graphs.now output.now.number) entry }
     requires classes { AreClasses (inputs_in output.now.graphs.now)
@@ -282,7 +282,7 @@ fn try_class<O: Oracle>(
     ledger: &mut Ledger,
 ) -> Result<Option<Found>, Stop>
     requires may { MayAsk output.now.graphs.now (O.known oracle.old) ledger.old }
-    requires there { output.now.number < length output.now.graphs.now.first.outputs }
+    requires output { IsOutput output.now }
     requires entry { IsEntry (inputs_in output.now.graphs.now)
         (function_at output.now.graphs.now output.now.number) entry }
     requires classes { AreClasses (inputs_in output.now.graphs.now)
@@ -322,7 +322,7 @@ fn join<O: Oracle>(
     ledger: &mut Ledger,
 ) -> Result<Option<Others>, Stop>
     requires may { MayAsk output.now.graphs.now (O.known oracle.old) ledger.old }
-    requires there { output.now.number < length output.now.graphs.now.first.outputs }
+    requires output { IsOutput output.now }
     requires entry { IsEntry (inputs_in output.now.graphs.now)
         (function_at output.now.graphs.now output.now.number) entry }
     requires class { IsClass (inputs_in output.now.graphs.now)
@@ -348,7 +348,7 @@ fn pair_up<O: Oracle>(
     ledger: &mut Ledger,
 ) -> Result<Option<Others>, Stop>
     requires may { MayAsk output.now.graphs.now (O.known oracle.old) ledger.old }
-    requires there { output.now.number < length output.now.graphs.now.first.outputs }
+    requires output { IsOutput output.now }
     requires order { first.0 < entry.0 }
     requires first { IsEntry (inputs_in output.now.graphs.now)
         (function_at output.now.graphs.now output.now.number) first }
@@ -388,7 +388,7 @@ fn follow<O: Oracle>(
     ledger: &mut Ledger,
 ) -> Result<Option<Others>, Stop>
     requires may { MayAsk output.now.graphs.now (O.known oracle.old) ledger.old }
-    requires there { output.now.number < length output.now.graphs.now.first.outputs }
+    requires output { IsOutput output.now }
     requires order { others.last.0 < entry.0 }
     requires last { IsEntry (inputs_in output.now.graphs.now)
         (function_at output.now.graphs.now output.now.number) others.last }
@@ -425,7 +425,7 @@ fn way_of<O: Oracle>(
     ledger: &mut Ledger,
 ) -> Result<Option<bool>, Stop>
     requires may { MayAsk output.now.graphs.now (O.known oracle.old) ledger.old }
-    requires there { output.now.number < length output.now.graphs.now.first.outputs }
+    requires output { IsOutput output.now }
     requires order { first.0 < second.0 }
     requires first { IsEntry (inputs_in output.now.graphs.now)
         (function_at output.now.graphs.now output.now.number) first }

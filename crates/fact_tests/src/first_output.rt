@@ -7,6 +7,7 @@ ghost use Rattle.claim_core.specs.Claims.{IsPlaced, ShapeHolds};
 ghost use Rattle.fact_tests.specs.Outputs.{MayAsk};
 ghost use Rattle.sim_signature.specs.Supports.{output_reaches};
 
+use crate::readers::Readers;
 use cnf_core::Stop;
 use net_core::{Graphs, Side};
 use oracle_core::Oracle;
@@ -20,6 +21,8 @@ pub(crate) struct FirstOutput<'a> {
     pub graphs: &'a Graphs<'a>,
     /// What the outputs of the first circuit reach.
     pub supports: &'a Supports<'a>,
+    /// Where the signals of the first circuit are read.
+    pub readers: &'a Readers<'a>,
     pub number: u32,
 }
 

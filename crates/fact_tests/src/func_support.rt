@@ -2,7 +2,7 @@
 
 ghost use Rattle.std.specs.Prelude.{◌≡◌, ◌<◌, ◌++◌, IfOk, OnOk, length};
 ghost use Rattle.oracle_core.specs.Oracles.{Serves};
-ghost use Rattle.fact_tests.specs.Outputs.{MayAsk, entry_of, function_at, inputs_in};
+ghost use Rattle.fact_tests.specs.Outputs.{IsOutput, MayAsk, entry_of, function_at, inputs_in};
 ghost use Rattle.claim_core.specs.Rows.{ListsSupport};
 
 use crate::first_output::FirstOutput;
@@ -22,8 +22,7 @@ pub(crate) fn support<O: Oracle>(
     ledger: &mut Ledger,
 ) -> Result<Items<(u32, Unate)>, Stop>
     requires may { MayAsk output.now.graphs.now (O.known oracle.old) ledger.old }
-    requires supports { output.now.supports.now ≡ output.now.graphs.now.first }
-    requires there { output.now.number < length output.now.graphs.now.first.outputs }
+    requires output { IsOutput output.now }
     ensures serves { Serves (O.known oracle.old) (O.known oracle.new) ledger.old ledger.new result }
     ensures support { IfOk result (ListsSupport (inputs_in output.now.graphs.now)
         (function_at output.now.graphs.now output.now.number) 0 (inputs_in output.now.graphs.now)) }

@@ -2,11 +2,12 @@
 
 ghost use Rattle.std.specs.Prelude.{◌≡◌, ◌<◌, IfOk, length};
 ghost use Rattle.oracle_core.specs.Oracles.{Serves, Suits};
-ghost use Rattle.fact_tests.specs.Outputs.{MayAsk, function_at, inputs_in};
+ghost use Rattle.fact_tests.specs.Outputs.{IsOutput, MayAsk, function_at, inputs_in};
 ghost use Rattle.claim_core.specs.Rows.{AreRows, IsRow};
 
 use crate::first_output::FirstOutput;
 use crate::func_support::support;
+use crate::readers::Readers;
 use crate::symmetric_pairs::symmetries;
 use claim_core::OutputInfo;
 use cnf_core::Stop;
@@ -21,11 +22,13 @@ pub(crate) fn rows_by<'a, O: Oracle>(
     alloc: Global,
     graphs: &'a Graphs<'a>,
     supports: &'a Supports<'a>,
+    readers: &'a Readers<'a>,
     oracle: &mut O,
     ledger: &mut Ledger,
 ) -> Result<Vec<OutputInfo>, Stop>
     requires graphs { (O.known oracle.old).graphs ≡ graphs.now }
     requires supports { supports.now ≡ graphs.now.first }
+    requires readers { readers.now ≡ graphs.now.first }
     requires suits { Suits (O.known oracle.old) ledger.old }
     ensures serves { Serves (O.known oracle.old) (O.known oracle.new) ledger.old ledger.new result }
     ensures rows { IfOk result (λ rows. AreRows graphs.now.first rows.items) }
@@ -38,6 +41,7 @@ pub(crate) fn rows_by<'a, O: Oracle>(
         let output = FirstOutput {
             graphs,
             supports,
+            readers,
             number,
         };
         let row = row(alloc, &output, oracle, ledger)?;
@@ -54,8 +58,7 @@ fn row<O: Oracle>(
     ledger: &mut Ledger,
 ) -> Result<OutputInfo, Stop>
     requires may { MayAsk output.now.graphs.now (O.known oracle.old) ledger.old }
-    requires supports { output.now.supports.now ≡ output.now.graphs.now.first }
-    requires there { output.now.number < length output.now.graphs.now.first.outputs }
+    requires output { IsOutput output.now }
     ensures serves { Serves (O.known oracle.old) (O.known oracle.new) ledger.old ledger.new result }
     ensures row { IfOk result (IsRow (inputs_in output.now.graphs.now)
         (function_at output.now.graphs.now output.now.number)) }

@@ -4,7 +4,7 @@ ghost use Rattle.std.specs.Prelude.{◌≡◌, ◌+◌, ◌<◌, ◌++◌, ℕ, 
 ghost use Rattle.oracle_core.specs.Oracles.{Serves};
 ghost use Rattle.claim_core.specs.Rows.{ListsPairs, ListsSupport};
 ghost use Rattle.fact_tests.specs.Exchanges.{AreClasses, IsPlace, Sorts, both_by, sym_by};
-ghost use Rattle.fact_tests.specs.Outputs.{IsSymmetry, MayAsk, function_at, input_at, inputs_in, pair_of};
+ghost use Rattle.fact_tests.specs.Outputs.{IsOutput, IsSymmetry, MayAsk, function_at, input_at, inputs_in, pair_of};
 
 use crate::exchange_classes::{Class, Others, Place, Sorted, sort};
 use crate::first_output::FirstOutput;
@@ -24,7 +24,7 @@ pub(crate) fn symmetries<O: Oracle>(
     ledger: &mut Ledger,
 ) -> Result<Items<(u32, u32, Sym)>, Stop>
     requires may { MayAsk output.now.graphs.now (O.known oracle.old) ledger.old }
-    requires there { output.now.number < length output.now.graphs.now.first.outputs }
+    requires output { IsOutput output.now }
     requires support { ListsSupport (inputs_in output.now.graphs.now)
         (function_at output.now.graphs.now output.now.number) 0 (inputs_in output.now.graphs.now) support.now }
     ensures serves { Serves (O.known oracle.old) (O.known oracle.new) ledger.old ledger.new result }

@@ -4,10 +4,11 @@ ghost use Rattle.std.specs.Prelude.{◌≡◌, ◌<◌, ℕ, IfOk, length};
 ghost use Rattle.std.specs.Bool.{Decides};
 ghost use Rattle.oracle_core.specs.Oracles.{Serves};
 ghost use Rattle.claim_core.specs.Claims.{IsPlaced};
-ghost use Rattle.fact_tests.specs.Outputs.{IsAlike, MayAsk, function_at, half_swap, inputs_in, may_be_alike};
+ghost use Rattle.fact_tests.specs.Outputs.{IsAlike, IsOutput, MayAsk, function_at, half_swap, inputs_in, may_be_alike};
 ghost use Rattle.claim_core.specs.Rows.{IsEntry};
 
 use crate::first_output::FirstOutput;
+use crate::local_exchange::hides;
 use claim_core::Unate;
 use cnf_core::Stop;
 use oracle_core::Oracle;
@@ -15,7 +16,7 @@ use query_core::{Ledger, Shape};
 use std::alloc::Global;
 
 /// Whether the two inputs may be exchanged: as they are, or each inverted. That is so where two swaps hold, which aren't asked
-/// where unateness tells the inputs apart. The one that starts is asked first, and where it holds the other starts from then
+/// where unateness tells the inputs apart, and where the gates near the inputs show it. The one that starts is asked first, and where it holds the other starts from then
 /// on: of a carry one holds for the inputs of lesser digits, and is expensive, and the other one for those of greater digits.
 pub(crate) fn are_alike<O: Oracle>(
     alloc: Global,
@@ -28,7 +29,7 @@ pub(crate) fn are_alike<O: Oracle>(
     ledger: &mut Ledger,
 ) -> Result<bool, Stop>
     requires may { MayAsk output.now.graphs.now (O.known oracle.old) ledger.old }
-    requires there { output.now.number < length output.now.graphs.now.first.outputs }
+    requires output { IsOutput output.now }
     requires order { first.0 < second.0 }
     requires first { IsEntry (inputs_in output.now.graphs.now)
         (function_at output.now.graphs.now output.now.number) first }
@@ -40,6 +41,16 @@ pub(crate) fn are_alike<O: Oracle>(
 {
     if !may_be_alike(first.1, second.1, inverted) {
         return Ok(false);
+    }
+    if hides(
+        alloc,
+        output.readers,
+        output.number,
+        first.0,
+        second.0,
+        inverted,
+    )? {
+        return Ok(true);
     }
     let from = *start;
     let one = half_swap(first.0, second.0, inverted, from);

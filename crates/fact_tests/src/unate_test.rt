@@ -2,7 +2,7 @@
 
 ghost use Rattle.std.specs.Prelude.{◌≡◌, ◌<◌, IfOk, length};
 ghost use Rattle.oracle_core.specs.Oracles.{Serves};
-ghost use Rattle.fact_tests.specs.Outputs.{IsDependence, MayAsk, dependence, function_at, inputs_in};
+ghost use Rattle.fact_tests.specs.Outputs.{IsDependence, IsOutput, MayAsk, dependence, function_at, inputs_in};
 
 use crate::first_output::FirstOutput;
 use claim_core::Unate;
@@ -21,8 +21,7 @@ pub(crate) fn unateness<O: Oracle>(
     ledger: &mut Ledger,
 ) -> Result<Option<Unate>, Stop>
     requires may { MayAsk output.now.graphs.now (O.known oracle.old) ledger.old }
-    requires supports { output.now.supports.now ≡ output.now.graphs.now.first }
-    requires there { output.now.number < length output.now.graphs.now.first.outputs }
+    requires output { IsOutput output.now }
     requires input { input < output.now.graphs.now.first.inputs }
     ensures serves { Serves (O.known oracle.old) (O.known oracle.new) ledger.old ledger.new result }
     ensures unate { IfOk result (IsDependence (inputs_in output.now.graphs.now)

@@ -8,7 +8,7 @@ use Rattle.fact_tests.proofs.unate_test.unateness.Goals as goal
 
 pub returns-then-not-reaches-clause-unate : goal.returns-then-not-reaches-clause-unate
 returns-then-not-reaches-clause-unate g c =
-    unreached_outside c.args.output.now.graphs.now.first c.args.output.now.number c.args.input c.requires.may.first.ordered c.requires.there (sym c.reaches.ensures ∙ c.if-not-reaches.true)
+    unreached_outside c.args.output.now.graphs.now.first c.args.output.now.number c.args.input c.requires.may.first.ordered c.requires.output.there (sym c.reaches.ensures ∙ c.if-not-reaches.true)
 
 pub returns-in_err-never_rises-clause-serves : goal.returns-in_err-never_rises-clause-serves
 returns-in_err-never_rises-clause-serves g c =
