@@ -196,7 +196,14 @@ fn names_what_is_missing(rt: HostRuntime) -> Result<(), Fail> {
 }
 
 /// Words that ask what is known of a netlist, named `A`, with the netlist, the status and the report.
-static INFOS: [(&[&str], &[u8], u8, &[u8]); 8] = [
+static INFOS: [(&[&str], &[u8], u8, &[u8]); 9] = [
+    // a budget that is enough for all that can be asked of it
+    (
+        &["info", "A", "174960"],
+        AND,
+        0,
+        b"inputs 2\noutputs 1\ngates 1\noutput 0 o0 support 2\ninput 0 i0 positive\ninput 1 i1 positive\npair 0 1 symmetric\n",
+    ),
     (
         &["info", "A"],
         MIXED,

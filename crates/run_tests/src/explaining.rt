@@ -3,7 +3,7 @@
 ghost use Rattle.std.specs.Prelude.{◌≡◌, ◌≤◌, IfOk};
 ghost use Rattle.shelf_core.specs.State.{Closed};
 
-use crate::files::{A, AND, B, EMPTY, THREE, TWO, XOR};
+use crate::files::{A, AND, B, C17, C17_MOVED, EMPTY, THREE, TWO, XOR};
 use crate::runs::{CHECK, MATCH, files_of, words_of};
 use explain::{FileFault, FolderFault, Notice, Told, Warning, explain, fault_of_words, folder_of};
 use npnp::outcome::Outcome;
@@ -225,6 +225,34 @@ fn tells_why_there_is_no_match(rt: HostRuntime) -> Result<(), Fail> {
             files,
             Some(account),
         )?;
+        assert_eq!(rt; told.as_str(), *text);
+    }
+    Ok(())
+}
+
+/// Words by which nothing may be learned, netlists, and what is told of the budget that is spent.
+static SPENT: [(&[&str], [&[u8]; 2], &str); 3] = [
+    (
+        &["info", "A", "0"],
+        [AND, EMPTY],
+        "npnp: the budget of 0 learned clauses was spent\nnpnp: 174960 are enough for these circuits\n",
+    ),
+    (
+        &["match", "A", "B", "t", "0"],
+        [A, B],
+        "npnp: the budget of 0 learned clauses was spent\nnpnp: 629856 are enough for these circuits\n",
+    ),
+    (
+        &["match", "A", "B", "t", "0"],
+        [C17, C17_MOVED],
+        "npnp: the budget of 0 learned clauses was spent\nnpnp: 10^23 are known to be enough for these circuits; fewer are likely to be\n",
+    ),
+];
+
+#[test]
+fn tells_what_budget_is_enough(rt: HostRuntime) -> Result<(), Fail> {
+    for (words, netlists, text) in SPENT.iter() {
+        let told = told_of_run(rt.alloc(), words, *netlists, None)?;
         assert_eq!(rt; told.as_str(), *text);
     }
     Ok(())

@@ -4,6 +4,8 @@
 #[cfg(test)]
 mod bans;
 #[cfg(test)]
+mod budgets;
+#[cfg(test)]
 mod claims;
 #[cfg(test)]
 mod comparisons;
