@@ -1,4 +1,5 @@
-use Rattle.std.proofs.Common.{refl}
+use Rattle.std.proofs.Common.{refl, ap, arith}
+use Rattle.pair_search.specs.Progress.{left}
 use Rattle.match_search.proofs.StepLemmas.{steps_ok, steps_stop, way_start, way_stays}
 use Rattle.match_search.proofs.branching.go_on.Goals as goal
 
@@ -16,3 +17,9 @@ returns-in-None-clause-steps g c = steps_ok (way_stays refl (way_start c.require
 
 pub returns-in-Some-2-clause-steps : goal.returns-in-Some-2-clause-steps
 returns-in-Some-2-clause-steps g c = steps_ok (way_stays refl (way_start c.requires.may) (c.in_ok-branch.ensures.stays _ c.requires.may.trail.trail.justified))
+
+pub returns-in-Some-2-clause-ahead : goal.returns-in-Some-2-clause-ahead
+returns-in-Some-2-clause-ahead g c = record {
+  impasse_is = (rw c.in-Some-2.is at c.in_ok-branch.ensures.impasse) c.args.session.now.book.now;
+  less = omega (arith, ap left (rw c.in-Some-2.is at c.in_ok-branch.ensures.stuck));
+}
