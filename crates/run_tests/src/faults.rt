@@ -1,5 +1,7 @@
 //! Calls of the outside that fail in turn.
 
+ghost use Rattle.std.specs.Prelude.{◌≤◌};
+
 use crate::files::{A, AND, B, EMPTY, XOR};
 use crate::runs::{CHECK, Ended, Failing, MATCH, NEVER, NONE, run_failing};
 use std::alloc::{AllocError, Global};
@@ -110,7 +112,27 @@ const INFO: &[&str] = &["info", "A"];
 /// Words that ask for files to be read, and how many calls that makes: open, read and close of each.
 static READING: [(&[&str], u64); 2] = [(CHECK, 9), (INFO, 3)];
 
-/// Runs on two netlists without ports and their account, where the calls that read fail in turn, each the last one of its run.
+/// Runs on two netlists without ports and their account where a call fails: the run ends with status 6 and this report, by so
+/// many calls of the shelf, and leaves the account.
+fn expect_fault(
+    rt: &impl Abort,
+    alloc: Global,
+    words: &[&str],
+    failing: Failing,
+    want: (&[u8], u64),
+) -> Result<(), Fail>
+    requires { 1 ≤ failing.cut }
+{
+    let (report, calls) = want;
+    let ended = run_failing(alloc, words, [EMPTY, EMPTY], Some(OF_EMPTY), failing)?;
+    assert_eq!(rt;
+        (ended.outcome(), ended.calls),
+        ((6, report, Some(OF_EMPTY)), calls)
+    );
+    Ok(())
+}
+
+/// The calls that read fail in turn, each the last one of its run.
 fn expect_read_faults(
     rt: &impl Abort,
     alloc: Global,
@@ -119,14 +141,8 @@ fn expect_read_faults(
 ) -> Result<(), Fail> {
     for call in 0..calls {
         let failing = Failing { call, ..NONE };
-        let ended = run_failing(alloc, words, [EMPTY, EMPTY], Some(OF_EMPTY), failing)?;
-        assert_eq!(rt;
-            (ended.outcome(), ended.calls),
-            (
-                (6, b"read fault\n".as_slice(), Some(OF_EMPTY)),
-                call.saturating_add(1)
-            )
-        );
+        let want: (&[u8], u64) = (b"read fault\n", call.saturating_add(1));
+        expect_fault(rt, alloc, words, failing, want)?;
     }
     Ok(())
 }
@@ -172,13 +188,9 @@ static UNPRINTED: [(&[&str], u64); 3] = [(CHECK, 9), (INFO, 3), (&["make", "7", 
 
 #[test]
 fn ends_where_nothing_can_be_printed(rt: HostRuntime) -> Result<(), Fail> {
-    let failing = Failing { put: 0, ..NONE };
     for (words, calls) in UNPRINTED.iter() {
-        let ended = run_failing(rt.alloc(), *words, [EMPTY, EMPTY], Some(OF_EMPTY), failing)?;
-        assert_eq!(&rt;
-            (ended.outcome(), ended.calls),
-            ((6, b"".as_slice(), Some(OF_EMPTY)), *calls)
-        );
+        let failing = Failing { put: 0, ..NONE };
+        expect_fault(&rt, rt.alloc(), *words, failing, (b"", *calls))?;
     }
     Ok(())
 }
