@@ -119,16 +119,17 @@ fn expect_fault(
     alloc: Global,
     words: &[&str],
     failing: Failing,
-    want: (&[u8], u64),
+    report: &[u8],
+    calls: u64,
 ) -> Result<(), Fail>
     requires { 1 ≤ failing.cut }
 {
-    let (report, calls) = want;
     let ended = run_failing(alloc, words, [EMPTY, EMPTY], Some(OF_EMPTY), failing)?;
     assert_eq!(rt;
-        (ended.outcome(), ended.calls),
-        ((6, report, Some(OF_EMPTY)), calls)
+        (ended.status, ended.report.as_slice(), ended.calls),
+        (6, report, calls)
     );
+    assert!(rt; ended.account.as_deref() == Some(OF_EMPTY));
     Ok(())
 }
 
@@ -141,8 +142,8 @@ fn expect_read_faults(
 ) -> Result<(), Fail> {
     for call in 0..calls {
         let failing = Failing { call, ..NONE };
-        let want: (&[u8], u64) = (b"read fault\n", call.saturating_add(1));
-        expect_fault(rt, alloc, words, failing, want)?;
+        let calls = call.saturating_add(1);
+        expect_fault(rt, alloc, words, failing, b"read fault\n", calls)?;
     }
     Ok(())
 }
@@ -190,7 +191,7 @@ static UNPRINTED: [(&[&str], u64); 3] = [(CHECK, 9), (INFO, 3), (&["make", "7", 
 fn ends_where_nothing_can_be_printed(rt: HostRuntime) -> Result<(), Fail> {
     for (words, calls) in UNPRINTED.iter() {
         let failing = Failing { put: 0, ..NONE };
-        expect_fault(&rt, rt.alloc(), *words, failing, (b"", *calls))?;
+        expect_fault(&rt, rt.alloc(), *words, failing, b"", *calls)?;
     }
     Ok(())
 }
