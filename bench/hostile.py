@@ -6,6 +6,7 @@ import argparse
 import os
 import sys
 import tempfile
+import threading
 from measured_run import timed
 
 ZERO, ONE = ".names {}\n", ".names {}\n1\n"
@@ -81,6 +82,22 @@ def rows_netlist(count):
     return ".model m\n.inputs a b\n.outputs o\n.names a b o\n" + "01 1\n" * count + ".end\n"
 
 
+class Pipe:
+    """A file that is a pipe, through which so many bytes come."""
+
+    def __init__(self, count):
+        self.left = count
+
+    def fill(self, path):
+        piece = b"y\n" * 32_768
+        try:
+            with open(path, "wb", buffering=0) as it:
+                while self.left > 0:
+                    self.left -= it.write(piece[: self.left])
+        except BrokenPipeError:
+            pass  # the rest isn't wanted
+
+
 # a name; the two sizes; what is written, by size; the words; the first line that is wanted, or the status alone
 def rows():
     both = ("first", "second", "account")
@@ -97,11 +114,18 @@ def rows():
     yield "chain over eight inputs (info)", (25_000, 50_000), lambda n: (chain(n, AND, 8),), ("info", "first"), "inputs"
     yield "rows of one cover (info)", (125_000, 250_000), lambda n: (rows_netlist(n),), ("info", "first"), "inputs"
     yield "bytes of a file that isn't a netlist (info)", (30_000_000, 60_000_000), lambda n: ("a" * n,), ("info", "first"), "malformed"
+    # more than a netlist may have: what comes after that isn't read, so the larger one costs as much
+    yield "bytes of a pipe (info)", (75_000_000, 150_000_000), lambda n: (Pipe(n),), ("info", "first"), "too large"
 
 
 def run(program, limit, folder, texts, words):
     for name, text in zip(("first", "second", "account"), texts):
-        with open(os.path.join(folder, name), "w", encoding="ascii") as it:
+        path = os.path.join(folder, name)
+        if isinstance(text, Pipe):
+            os.mkfifo(path)
+            threading.Thread(target=text.fill, args=(path,), daemon=True).start()
+            continue
+        with open(path, "w", encoding="ascii") as it:
             it.write(text)
     paths = [os.path.join(folder, it) if it in ("first", "second", "account") else it for it in words]
     printed, status, seconds, memory = timed(limit, folder, program, *paths)

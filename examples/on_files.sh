@@ -117,13 +117,15 @@ wants 4 'usage'
 wants 4 'usage' info c17.blif 18446744073709551616
 wants 6 'read fault' check folder b.aag a-b.account
 wants 6 'read fault' check a.aag b.aag folder
-# what comes through a pipe is read to its end; a device without an end is a fault
+# what comes through a pipe is read to its end; a device without an end is too large for a netlist, and a fault as an account
 wants 0 'accepted match' check <(cat a.aag) <(cat b.aag) <(cat a-b.account)
 mkfifo named_pipe
 cat c17.blif >named_pipe &
 wants 0 'accepted match' check named_pipe c17_moved.aig c17.account
 wants 5 'malformed first 28 0' check /dev/null b.aag a-b.account
-wants 6 'read fault' check /dev/zero b.aag a-b.account
+wants 5 'too large first' check /dev/zero b.aag a-b.account
+wants 5 'too large first' info /dev/zero
+wants 6 'read fault' check a.aag b.aag /dev/zero
 
 # what the program says of itself
 wants 0 'npnp match FIRST SECOND ACCOUNT [BUDGET [SEED]]' --help

@@ -1,7 +1,9 @@
 ghost use Rattle.std.specs.Prelude.{◌≡◌, ◌≢◌, Err, IfOk, OnOk, string_bytes};
 ghost use Rattle.shelf_core.specs.State.{Closed, Reading};
 
-use shelf_core::{DiskShelf, SafeShelf, SafeSink, Shelf, ShelfStop, Sink, StdSink, Stream};
+use shelf_core::{
+    DiskShelf, FileStop, SafeShelf, SafeSink, Shelf, ShelfStop, Sink, StdSink, Stream,
+};
 use std::alloc::{AllocError, Global};
 use std::fs;
 use std::fs::File;
@@ -240,22 +242,49 @@ fn reads_five(stream: &mut Stream<Global>) -> bool {
 #[test]
 fn holds_a_stream_within_its_bound(rt: HostRuntime) -> Result<(), Fail> {
     let mut five = b"seven".as_slice();
-    let mut stream = Stream::read_from(rt.alloc(), &mut five, 5)?;
-    assert!(rt; reads_five(&mut stream));
+    let mut found = Stream::read_from(rt.alloc(), &mut five, 5)?;
+    let held = found.as_mut().is_some_and(reads_five);
+    assert!(rt; held);
     Ok(())
 }
 
-fn goes_on_past<F: Read>(alloc: Global, file: &mut F, bound: usize) -> bool {
-    Stream::read_from(alloc, file, bound).is_err()
+/// Whether a stream goes on past a bound.
+fn goes_on_past<F: Read>(alloc: Global, file: &mut F, bound: usize) -> Result<bool, FileStop> {
+    Ok(Stream::read_from(alloc, file, bound)?.is_none())
 }
 
-/// A stream that goes on past its bound is a failure.
+/// Of a stream that goes on past its bound nothing is held.
 #[test]
-fn refuses_a_stream_past_its_bound(rt: HostRuntime) -> Result<(), Fail> {
+fn holds_no_stream_past_its_bound(rt: HostRuntime) -> Result<(), Fail> {
     let mut six = b"eleven".as_slice();
-    assert!(rt; goes_on_past(rt.alloc(), &mut six, 5));
+    assert!(rt; goes_on_past(rt.alloc(), &mut six, 5)?);
     let mut endless = File::open(&rt, "/dev/zero")?;
-    assert!(rt; goes_on_past(rt.alloc(), &mut endless, 100_000));
+    assert!(rt; goes_on_past(rt.alloc(), &mut endless, 100_000)?);
+    Ok(())
+}
+
+/// Whether a file opens with a length, fails at its first read and closes.
+fn is_longer_than_kept(
+    shelf: &mut DiskShelf<HostRuntime>,
+    name: &str,
+    len: u64,
+) -> Result<bool, ShelfStop>
+    requires { (⟦<DiskShelf<HostRuntime> as Shelf>⟧.state shelf.old).mode ≡ Closed }
+{
+    let Some(found) = shelf.open(name)? else {
+        return Ok(false);
+    };
+    let mut buf = [b'-'; 3];
+    let refused = shelf.read(&mut buf) == Err(ShelfStop::Failed);
+    shelf.close()?;
+    Ok((found == len) & refused)
+}
+
+/// A device that never ends opens as a file that is longer than a netlist may be.
+#[test]
+fn opens_an_endless_device_as_too_long(rt: HostRuntime) -> Result<(), Fail> {
+    let mut shelf = DiskShelf::new(rt);
+    assert!(rt; is_longer_than_kept(&mut shelf, "/dev/zero", 67_108_865)?);
     Ok(())
 }
 

@@ -6,12 +6,16 @@ mod folders;
 mod people;
 mod progress;
 
+ghost use Rattle.std.specs.Prelude.{◌≡◌, IfOk};
+ghost use Rattle.shelf_core.specs.State.{Closed};
+
 use crate::people::People;
 use crate::progress::Progress;
+use check_steps::{Command, command_asked};
 use explain::Notice;
 use npnp::outcome::Outcome;
 use npnp::run::run;
-use shelf_core::{DiskShelf, StdSink};
+use shelf_core::{DiskShelf, Shelf, StdSink};
 use std::process::ExitCode;
 use std::rt::Env;
 use std::{env, io};
@@ -40,7 +44,7 @@ fn run_words(rt: HostRuntime) -> io::Result<u8> {
 fn run_told(rt: HostRuntime, words: &[String]) -> io::Result<Outcome> {
     let people = People::new(rt.clone()?);
     people.warn(words);
-    let mut shelf = DiskShelf::new(rt.clone()?);
+    let mut shelf = shelf_for(rt.clone()?, words)?;
     let progress = Progress::new(&rt)?;
     let alloc = rt.alloc();
     let mut out = StdSink::watched(rt, progress);
@@ -49,6 +53,17 @@ fn run_told(rt: HostRuntime, words: &[String]) -> io::Result<Outcome> {
     let error = out.last_error().or(shelf.last_error());
     people.explain(words, &outcome, error);
     Ok(outcome)
+}
+
+/// The machine's files, where the account of a check may come through a long pipe.
+fn shelf_for(rt: HostRuntime, words: &[String]) -> io::Result<DiskShelf<HostRuntime>>
+    ensures { IfOk result (λ shelf. (⟦<DiskShelf<HostRuntime> as Shelf>⟧.state shelf).mode ≡ Closed) }
+{
+    let mut shelf = DiskShelf::new(rt);
+    if let Some(Command::Check(check)) = command_asked(words) {
+        shelf.expect_long(check.account)?;
+    }
+    Ok(shelf)
 }
 
 /// Prints what the program says of itself, and answers the status.

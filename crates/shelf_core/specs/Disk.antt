@@ -9,12 +9,14 @@ abbrev pub disk_mode : {F A : Type 0} → Opened F A → Mode
 disk_mode opened.No = Closed
 disk_mode (opened.Reading file left) = Reading
 disk_mode (opened.Held stream) = Reading
+disk_mode (opened.Endless left) = Reading
 disk_mode (opened.Writing file room) = Writing
 
 abbrev pub disk_left : {F A : Type 0} → Opened F A → ℕ
 disk_left opened.No = 0
 disk_left (opened.Reading file left) = left
 disk_left (opened.Held stream) = stream
+disk_left (opened.Endless left) = left
 disk_left (opened.Writing file room) = 0
 
 -- open for reading, with n bytes unread

@@ -7,18 +7,22 @@ use crate::file_id::{FileId, output_file};
 use crate::file_limit::file_size_limit;
 use crate::outside::{Shelf, ShelfStop};
 use crate::stream::{Stream, read_next};
-use std::alloc::{Alloc, Allocator};
+use std::alloc::{Alloc, AllocError, Allocator};
 use std::fs::{File, OpenFile, OpenOptions};
 use std::io::{ErrorKind, Read, Write};
 use std::mem;
 use std::rt::{Files, Runtime};
 
-/// The most bytes that are taken from a pipe or a device: 1 GiB.
-const STREAM_BOUND: usize = 1 << 30;
+/// The most bytes that are taken from a pipe or a device, unless more are expected: as many as a netlist may have.
+const STREAM_BOUND: usize = 67_108_864;
+
+/// The most bytes that are taken from one of which more are expected: 1 GiB.
+const LONG_STREAM_BOUND: usize = 1 << 30;
 
 /// The machine's files, by their paths. It does not tell what they hold. What is neither a file nor a directory, as a pipe
-/// or a device, is read to its end when it is opened, since its length isn't known before; past 1 GiB that is a fault.
-/// A directory opens, and fails at its first read. A regular file that was read or made isn't made anew, nor is the file
+/// or a device, is read to its end when it is opened, since its length isn't known before. One that goes on past
+/// 67,108,864 bytes, or where more are expected past 1 GiB, opens with a length of one byte more than that, and fails at its
+/// first read. A directory opens, and fails at its first read. A regular file that was read or made isn't made anew, nor is the file
 /// that standard output goes to, whatever names lead to them: to create one is a fault, and leaves it as it is. A file that
 /// would grow past the limit that the system sets to the size of a file is a fault. A file that was written is closed once
 /// the device holds it. Each error of the machine is a fault, but that a path to be read leads to nothing.
@@ -30,6 +34,8 @@ pub struct DiskShelf<R: Runtime> {
     used: Vec<FileId, R::A>,
     /// The name that the last `open` or `create` was given.
     name: String<R::A>,
+    /// The name under which a long pipe is expected; empty where none is.
+    long: String<R::A>,
     faults: Faults,
 }
 
@@ -38,6 +44,8 @@ enum Opened<F, A: Allocator> {
     No,
     Reading { file: F, left: u64 },
     Held(Stream<A>),
+    /// A pipe or a device that goes on past the most that is taken from it, with a length past that.
+    Endless { left: u64 },
     Writing { file: F, room: Room },
 }
 
@@ -60,6 +68,7 @@ impl<F: Drop, A: Allocator> Drop for Opened<F, A> {
                 left: _left,
             } => {}
             Opened::Held(_stream) => {}
+            Opened::Endless { left: _left } => {}
             Opened::Writing {
                 file: _file,
                 room: _room,
@@ -76,13 +85,23 @@ impl<R: Runtime> DiskShelf<R> {
     {
         let used = Vec::new(rt.alloc());
         let name = String::new(rt.alloc());
+        let long = String::new(rt.alloc());
         DiskShelf {
             rt,
             opened: Opened::No,
             used,
             name,
+            long,
             faults: Faults::none(),
         }
+    }
+
+    /// Takes up to 1 GiB from a pipe or a device of this name, as an account may be.
+    pub fn expect_long(&mut self, name: &str) -> Result<(), AllocError>
+        ensures { (⟦<DiskShelf<R> as Shelf>⟧.state self.new) ≡ (⟦<DiskShelf<R> as Shelf>⟧.state self.old) }
+    {
+        self.long = String::from_str(self.rt.alloc(), name)?;
+        Ok(())
     }
 
     /// The last call that failed, with the name that the last `open` or `create` was given; `None` where none failed.
@@ -103,7 +122,12 @@ impl<R: Runtime> Shelf for DiskShelf<R> {
     fn open(&mut self, name: &str) -> Result<Option<u64>, ShelfStop> {
         let copy = String::from_str(self.rt.alloc(), name).map_err(FileStop::from);
         self.name = self.faults.note(copy)?;
-        let found = open_to_read(&self.rt, name, &mut self.used);
+        let bound = if name == self.long.as_str() {
+            LONG_STREAM_BOUND
+        } else {
+            STREAM_BOUND
+        };
+        let found = open_to_read(&self.rt, name, bound, &mut self.used);
         let Some((opened, left)) = self.faults.note(found)? else {
             return Ok(None);
         };
@@ -115,6 +139,7 @@ impl<R: Runtime> Shelf for DiskShelf<R> {
         let answer = match &mut self.opened {
             Opened::Reading { file, left } => read_some(file, buf, left),
             Opened::Held(stream) => Ok(stream.read(buf)),
+            Opened::Endless { .. } => Err(FileStop::Failed(FileFault::TooLong)),
             _ => unreachable!(),
         };
         self.faults.note(answer)
@@ -143,10 +168,11 @@ impl<R: Runtime> Shelf for DiskShelf<R> {
 }
 
 /// The file of a path, open for reading, with the number of its bytes; `None` where the path leads to nothing. A regular
-/// file is noted as one that is used.
+/// file is noted as one that is used. Of a pipe or a device at most `bound` bytes are kept.
 fn open_to_read<R: Files + Alloc>(
     rt: &R,
     name: &str,
+    bound: usize,
     used: &mut Vec<FileId, R::A>,
 ) -> Result<Option<(Opened<R::File, R::A>, u64)>, FileStop>
     ensures { IfOk result (λ found. IfSome found (λ sized. IsOpenToRead sized.0 sized.1)) }
@@ -157,9 +183,7 @@ fn open_to_read<R: Files + Alloc>(
     };
     let metadata = file.metadata()?;
     if !metadata.is_file() && !metadata.is_dir() {
-        let stream = Stream::read_from(rt.alloc(), &mut file, STREAM_BOUND)?;
-        let left = stream.left() as u64;
-        return Ok(Some((Opened::Held(stream), left)));
+        return Ok(Some(open_stream(rt.alloc(), &mut file, bound)?));
     }
     if metadata.is_file() {
         used.push(FileId::of(&metadata))?;
@@ -167,6 +191,27 @@ fn open_to_read<R: Files + Alloc>(
     // a directory has no bytes: it is to fail at its first read, also where its length is 0
     let left = metadata.len().max(u64::from(metadata.is_dir()));
     Ok(Some((Opened::Reading { file, left }, left)))
+}
+
+/// A pipe or a device, read to its end, with the number of its bytes; one that goes on past `bound` has one byte more than
+/// that, and nothing of it is kept.
+fn open_stream<F: Read, A: Allocator>(
+    alloc: A,
+    file: &mut F,
+    bound: usize,
+) -> Result<(Opened<F, A>, u64), FileStop>
+    ensures { IfOk result (λ sized. IsOpenToRead sized.0 sized.1) }
+{
+    match Stream::read_from(alloc, file, bound)? {
+        Some(stream) => {
+            let left = stream.left() as u64;
+            Ok((Opened::Held(stream), left))
+        }
+        None => {
+            let left = (bound as u64).saturating_add(1);
+            Ok((Opened::Endless { left }, left))
+        }
+    }
 }
 
 /// The file of a path, empty and open for writing; it is made where the path leads to nothing. A regular file that is used

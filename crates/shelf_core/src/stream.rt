@@ -1,7 +1,7 @@
-ghost use Rattle.std.specs.Prelude.{◌≡◌, ◌+◌, ◌<◌, ◌≤◌, length, IfOk, vec_len};
+ghost use Rattle.std.specs.Prelude.{◌≡◌, ◌+◌, ◌<◌, ◌≤◌, length, IfOk, IfSome, vec_len};
 
 use crate::copy::copy_some;
-use crate::file_error::{FileFault, FileStop};
+use crate::file_error::FileStop;
 use std::alloc::Allocator;
 use std::io;
 use std::io::{ErrorKind, Read};
@@ -28,23 +28,27 @@ impl<A: Allocator> Model for Stream<A> {
 }
 
 impl<A: Allocator> Stream<A> {
-    /// Reads a stream to its end. One that goes on past `bound` bytes is a failure.
-    pub fn read_from<F: Read>(alloc: A, file: &mut F, bound: usize) -> Result<Stream<A>, FileStop>
-        ensures { IfOk result (λ stream. stream ≤ bound) }
+    /// Reads a stream to its end; `None` where it goes on past `bound` bytes. No more are kept at any time.
+    pub fn read_from<F: Read>(
+        alloc: A,
+        file: &mut F,
+        bound: usize,
+    ) -> Result<Option<Stream<A>>, FileStop>
+        ensures { IfOk result (λ found. IfSome found (λ stream. stream ≤ bound)) }
     {
         let mut bytes = Vec::new(alloc);
         let mut piece = [0; PIECE];
         for _ in 0..u64::MAX {
             let count = read_next(file, &mut piece)?;
             if count == 0 {
-                return Ok(Stream { bytes, at: 0 });
+                return Ok(Some(Stream { bytes, at: 0 }));
             }
             if count > bound.saturating_sub(bytes.len()) {
-                return Err(FileStop::Failed(FileFault::TooLong));
+                return Ok(None);
             }
             bytes.extend_from_slice(&piece[..count])?;
         }
-        Err(FileStop::Failed(FileFault::TooLong))
+        Ok(None)
     }
 
     /// How many bytes are unread.
