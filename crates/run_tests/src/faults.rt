@@ -1,5 +1,7 @@
 //! Calls of the outside that fail in turn.
 
+ghost use Rattle.std.specs.Prelude.{◌≤◌};
+
 use crate::files::{A, AND, B, EMPTY, XOR};
 use crate::runs::{CHECK, Ended, Failing, MATCH, NEVER, NONE, run_failing};
 use std::alloc::{AllocError, Global};
@@ -110,8 +112,28 @@ const INFO: &[&str] = &["info", "A"];
 /// Words that ask for files to be read, and how many calls that makes: open, read and close of each.
 static READING: [(&[&str], u64); 2] = [(CHECK, 9), (INFO, 3)];
 
-/// Runs on two netlists without ports and their account, where the calls that read fail in turn, each the last one of
-/// its run.
+/// Runs on two netlists without ports and their account where a call fails: the run ends with status 6 and this report, by so
+/// many calls of the shelf, and leaves the account.
+fn expect_fault(
+    rt: &impl Abort,
+    alloc: Global,
+    words: &[&str],
+    failing: Failing,
+    report: &[u8],
+    calls: u64,
+) -> Result<(), Fail>
+    requires { 1 ≤ failing.cut }
+{
+    let ended = run_failing(alloc, words, [EMPTY, EMPTY], Some(OF_EMPTY), failing)?;
+    assert_eq!(rt;
+        (ended.status, ended.report.as_slice(), ended.calls),
+        (6, report, calls)
+    );
+    assert!(rt; ended.account.as_deref() == Some(OF_EMPTY));
+    Ok(())
+}
+
+/// The calls that read fail in turn, each the last one of its run.
 fn expect_read_faults(
     rt: &impl Abort,
     alloc: Global,
@@ -120,14 +142,8 @@ fn expect_read_faults(
 ) -> Result<(), Fail> {
     for call in 0..calls {
         let failing = Failing { call, ..NONE };
-        let ended = run_failing(alloc, words, [EMPTY, EMPTY], Some(OF_EMPTY), failing)?;
-        assert_eq!(rt;
-            (ended.outcome(), ended.calls),
-            (
-                (6, b"read fault\n".as_slice(), Some(OF_EMPTY)),
-                call.saturating_add(1)
-            )
-        );
+        let calls = call.saturating_add(1);
+        expect_fault(rt, alloc, words, failing, b"read fault\n", calls)?;
     }
     Ok(())
 }
@@ -144,8 +160,8 @@ fn calls_nothing_after_a_fault(rt: HostRuntime) -> Result<(), Fail> {
 const BAD_LINE: &[u8] =
     b"npnp 1\nfails b 0 up 0 =11\nfails b 0 down 0 =10\nfails b 0 up 1 =10\nfails b 0 down 1 =01\nholds a 0 up 0\nl : 0 7 1\nban o0+0 : tally binate 0 1 2 3 / 4\nban o0-0 : tally binate 0 1 2 3 / 4\nban : cover out 0 / 0 / 0 1\nnone ban 2\nend\n";
 
-/// A call that fails, and how the check ends then. Of 16 bytes a read, calls 0 to 3 and 4 to 8 are those of the
-/// netlists; 9 opens the account, 10 and 11 read its first two lines, and 12 closes it.
+/// A call that fails, and how the check ends then. Of 16 bytes a read, calls 0 to 3 and 4 to 8 are those of the netlists; 9
+/// opens the account, 10 and 11 read its first two lines, and 12 closes it.
 static AROUND_THE_CLOSE: [(u64, u8, &[u8]); 2] = [
     (12, 6, b"read fault\n"),
     (13, 2, b"rejected line 2 vector\n"),
@@ -173,13 +189,9 @@ static UNPRINTED: [(&[&str], u64); 3] = [(CHECK, 9), (INFO, 3), (&["make", "7", 
 
 #[test]
 fn ends_where_nothing_can_be_printed(rt: HostRuntime) -> Result<(), Fail> {
-    let failing = Failing { put: 0, ..NONE };
     for (words, calls) in UNPRINTED.iter() {
-        let ended = run_failing(rt.alloc(), *words, [EMPTY, EMPTY], Some(OF_EMPTY), failing)?;
-        assert_eq!(&rt;
-            (ended.outcome(), ended.calls),
-            ((6, b"".as_slice(), Some(OF_EMPTY)), *calls)
-        );
+        let failing = Failing { put: 0, ..NONE };
+        expect_fault(&rt, rt.alloc(), *words, failing, b"", *calls)?;
     }
     Ok(())
 }
