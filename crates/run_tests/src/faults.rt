@@ -112,8 +112,8 @@ const INFO: &[&str] = &["info", "A"];
 /// Words that ask for files to be read, and how many calls that makes: open, read and close of each.
 static READING: [(&[&str], u64); 2] = [(CHECK, 9), (INFO, 3)];
 
-/// Runs on two netlists without ports and their account where a call fails: the run ends with status 6 and this report, by so
-/// many calls of the shelf, and leaves the account.
+/// Runs on two netlists without ports and their account where a call fails: the run ends with status 6 and this report,
+/// by so many calls of the shelf, and leaves the account.
 fn expect_fault(
     rt: &impl Abort,
     alloc: Global,
@@ -160,8 +160,8 @@ fn calls_nothing_after_a_fault(rt: HostRuntime) -> Result<(), Fail> {
 const BAD_LINE: &[u8] =
     b"npnp 1\nfails b 0 up 0 =11\nfails b 0 down 0 =10\nfails b 0 up 1 =10\nfails b 0 down 1 =01\nholds a 0 up 0\nl : 0 7 1\nban o0+0 : tally binate 0 1 2 3 / 4\nban o0-0 : tally binate 0 1 2 3 / 4\nban : cover out 0 / 0 / 0 1\nnone ban 2\nend\n";
 
-/// A call that fails, and how the check ends then. Of 16 bytes a read, calls 0 to 3 and 4 to 8 are those of the netlists; 9
-/// opens the account, 10 and 11 read its first two lines, and 12 closes it.
+/// A call that fails, and how the check ends then. Of 16 bytes a read, calls 0 to 3 and 4 to 8 are those of the
+/// netlists; 9 opens the account, 10 and 11 read its first two lines, and 12 closes it.
 static AROUND_THE_CLOSE: [(u64, u8, &[u8]); 2] = [
     (12, 6, b"read fault\n"),
     (13, 2, b"rejected line 2 vector\n"),
