@@ -420,7 +420,8 @@ impl Shelf for TooLong {
 
 /// Checks over files that are too long: the status, what is printed, and how many calls there were.
 fn expect_of_long_files(
-    rt: &HostRuntime,
+    rt: &impl Abort,
+    alloc: Global,
     close_fails: bool,
     want: (u8, &[u8], u64),
 ) -> Result<(), Fail> {
@@ -432,8 +433,8 @@ fn expect_of_long_files(
         faults: 0,
         before: 0,
     };
-    let mut sink = SafeSink::new(rt.alloc());
-    let status = status_of(rt.alloc(), CHECK, &mut shelf, &mut sink)?;
+    let mut sink = SafeSink::new(alloc);
+    let status = status_of(alloc, CHECK, &mut shelf, &mut sink)?;
     assert_eq!(rt; (status, sink.written(), shelf.calls), want);
     Ok(())
 }
@@ -441,10 +442,10 @@ fn expect_of_long_files(
 /// By two calls: open and close.
 #[test]
 fn closes_a_long_netlist_unread(rt: HostRuntime) -> Result<(), Fail> {
-    expect_of_long_files(&rt, false, (5, b"too large first\n", 2))
+    expect_of_long_files(&rt, rt.alloc(), false, (5, b"too large first\n", 2))
 }
 
 #[test]
 fn says_that_a_long_netlist_was_not_closed(rt: HostRuntime) -> Result<(), Fail> {
-    expect_of_long_files(&rt, true, (6, b"read fault\n", 2))
+    expect_of_long_files(&rt, rt.alloc(), true, (6, b"read fault\n", 2))
 }
