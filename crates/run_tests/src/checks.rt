@@ -7,6 +7,7 @@ use crate::alterations::{Altered, check_altered};
 use crate::files::{A, AND, AND_OR, B, C17, C17_MOVED, EMPTY, OR, TABLE, WIRE, XOR};
 use crate::runs::{CHECK, MATCH, Row, check_rows, expect, line, run_on, status_of};
 use shelf_core::{SafeSink, Shelf, ShelfStop};
+use std::alloc::Global;
 use std::test::Fail;
 
 /// Thirteen inputs and nothing else.
