@@ -8,6 +8,7 @@ use crate::files::{A, AND, AND_OR, B, C17, C17_MOVED, EMPTY, OR, TABLE, WIRE, XO
 use crate::runs::{CHECK, MATCH, Row, check_rows, expect, line, run_on, status_of};
 use shelf_core::{SafeSink, Shelf, ShelfStop};
 use std::alloc::Global;
+use std::process::Abort;
 use std::test::Fail;
 
 /// Thirteen inputs and nothing else.
