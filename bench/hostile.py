@@ -149,7 +149,7 @@ def rows():
     yield "names of an XOR in the opposite order (match)", (512, 1024), lambda n: (chain(n, XOR), turned(chain(n, XOR)), ""), ("match", *both), "matched"
     yield "rows of one cover with themselves (match)", (250_000, 500_000), lambda n: (rows_netlist(n),) * 2 + ("",), ("match", *both), "matched"
     yield "OR of all inputs (info)", (128, 256), lambda n: (chain(n, OR),), ("info", "first"), "inputs"
-    yield "XOR of all inputs (info)", (64, 128), lambda n: (chain(n, XOR),), ("info", "first"), "inputs"
+    yield "XOR of all inputs (info)", (128, 256), lambda n: (chain(n, XOR),), ("info", "first"), "inputs"
     yield "chain over eight inputs (info)", (25_000, 50_000), lambda n: (chain(n, AND, 8),), ("info", "first"), "inputs"
     yield "rows of one cover (info)", (125_000, 250_000), lambda n: (rows_netlist(n),), ("info", "first"), "inputs"
     yield "bytes of a file that isn't a netlist (info)", (30_000_000, 60_000_000), lambda n: ("a" * n,), ("info", "first"), "malformed"
