@@ -1,5 +1,9 @@
 //! Steps of bans of an AND and an OR of two inputs.
 
+ghost use Rattle.std.specs.Prelude.{All};
+ghost use Rattle.account_core.specs.Ports.{IsKnown};
+ghost use Rattle.account_core.specs.Steps.{AreNamesKnown};
+
 use crate::graphs::and_or;
 use account_core::Step;
 use ban_check::{
@@ -63,8 +67,24 @@ fn is_shown<'a>(
         return Ok(false);
     };
     let mut evaluator = Evaluator::new(alloc, graphs);
-    let shown = has_shown(alloc, &mut evaluator, pairs, step)?;
+    let shown = has_shown_by(alloc, &mut evaluator, given, pairs, step)?;
     Ok(shown & keeps_rule(alloc, graphs, given, &ordered, step)?)
+}
+
+/// Whether a vector shows a ban, if its step is by one, where what the step names was given.
+fn has_shown_by(
+    alloc: Global,
+    evaluator: &mut Evaluator<'_>,
+    given: &Given,
+    pairs: &[Pair],
+    step: &Step,
+) -> Result<bool, AllocError>
+    requires known { All (IsKnown evaluator.old) pairs.now }
+    requires names { AreNamesKnown evaluator.old given.now step.now }
+{
+    // of what was given the contract alone speaks
+    let _ = given;
+    has_shown(alloc, evaluator, pairs, step)
 }
 
 /// Whether a ban is shown by a vector, by two facts, and by a fact that isn't there. The AND of a 0 is 0, and the OR of
