@@ -27,12 +27,12 @@ const CHOICE: Sample = Sample {
 const INFORMED: &[(Sample, u64, usize, &[(u32, Unate)])] = &[
     // a constant reaches no input
     (CONSTANT, 0, 0, &[]),
-    // two claims of either of two inputs, and the two swaps by which they may be exchanged; both are positive, so that
-    // inverted they may not
+    // two claims of either of two inputs; that they may be exchanged is seen at the gate that both feed, and both are
+    // positive, so that inverted they may not
     (
         AND_OF_THREE,
         99,
-        6,
+        4,
         &[(0, Unate::Positive), (1, Unate::Positive)],
     ),
     // each claim of the four inputs fails, and each first swap of the six pairs
