@@ -1,5 +1,3 @@
-//! A log that is checked line by line.
-
 ghost use Rattle.std.specs.Prelude.{◌≡◌, ◌<◌, ◌++◌, ◌∷◌, [], true, IfOk, OnOk, OnErr, Ok, Err, None, Some, length};
 ghost use Rattle.circuits.specs.Matches.{HavePorts};
 ghost use Rattle.cnf_core.specs.Derivations.{is_empty, line_fault};
@@ -37,8 +35,7 @@ impl<'a> Model for OpenLog<'a> {
     ghost invariant = { λ a. IsLogSoFar a.refuter.base.graphs a.refuter.base.query a.refuter.taken };
 }
 
-// By hand, and so one call wherever a value ends: a derived drop is expanded there, field by field, and makes proofs
-// long.
+// By hand: a derived drop is expanded, field by field, wherever a value ends, and makes proofs long.
 impl Drop for OpenLog<'_> {
     fn drop(self) {
         let OpenLog { refuter: _refuter } = self;

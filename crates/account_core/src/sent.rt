@@ -1,4 +1,4 @@
-//! What pairs of inputs make of three-valued vectors.
+//! Values of the first circuit's inputs, 0, 1 or X, sent to those of the second by pairs of inputs.
 
 ghost use Rattle.std.specs.Prelude.{◌≡◌, ◌≢◌, ◌<◌, ℕ, IfOk, length, replicate};
 ghost use Rattle.circuits.specs.declared.port.PortKind.TheVariants.{Input};
@@ -10,8 +10,8 @@ use net_core::SignalValue;
 use std::alloc::{AllocError, Global};
 use word_sim::Tri;
 
-/// What the inputs of the second circuit get: an input's value where it is paired, by the pair's sign, and X elsewhere. Of two
-/// pairs that go to one input the earlier one counts.
+/// What the inputs of the second circuit get: an input's value where it is paired, by the pair's sign, and X elsewhere.
+/// Of two pairs that go to one input the earlier one counts.
 ///
 /// # Errors
 ///

@@ -1,5 +1,6 @@
 -- How far a text was read.
-use Rattle.std.specs.Prelude.{◌≡◌, ℕ, ◌+◌, ◌-◌, ◌*◌, ◌≤◌, Bool, List, [], ◌∷◌, ◌++◌, length, drop, All, Option, None, Some, IfSome, is_some, Result, Ok, Err, if◌then◌else◌}
+use Rattle.std.specs.Prelude.{◌≡◌, ℕ, ◌+◌, ◌-◌, ◌*◌, ◌≤◌, Bool, List, [], ◌∷◌, ◌++◌, length, drop, All, Option, None, Some, IfSome, is_some, Result, Ok, Err}
+use Rattle.std.specs.Prelude.{if◌then◌else◌}
 use Rattle.std.specs.List.{flat_map, position_or_len}
 use Rattle.text_core.specs.Bytes.{is_line_feed}
 use Rattle.account_file.specs.declared.record.Record.{Record}
@@ -39,7 +40,7 @@ abbrev pub IsCounted : Option RecordFault → ℕ → ℕ → ℕ → Type 0
 IsCounted None line left total = 2 * line + left ≤ total
 IsCounted (Some fault) line left total = Unit {0}
 
--- What each reader keeps: of the bytes that it holds, the first were read, and no line feed is among the first after
+-- What is so of each reader: of the bytes that it has, the first were read, and no line feed is among the first after
 -- them.
 pub record IsReader (bytes : List ℕ) (start looked line : ℕ) (fault : Option RecordFault) (total : ℕ) : Type 0 where
   pub within : start ≤ length bytes

@@ -1,25 +1,22 @@
-//! What of a ban isn't among held pairs.
-
 ghost use Rattle.std.specs.Prelude.{◌≡◌, ◌↔◌, ◌∷◌, Contains, IsTrue};
 ghost use Rattle.circuits.specs.declared.port.Pair.{Pair as AnyPair};
 ghost use Rattle.ban_check.specs.Held.{AreMissing, IsAllMissing};
 
 use crate::held::Held;
-use crate::ports::are_same;
 use circuits::Pair;
 
-/// What of a ban isn't among held pairs.
+/// Which pairs of an earlier ban aren't among those of the ban that is checked.
 #[derive(Clone, Copy, Drop)]
 pub(crate) enum Missing {
-    /// Each of its pairs is.
+    /// All are.
     None,
-    /// One pair isn't.
+    /// This one alone isn't.
     One(Pair),
-    /// Pairs that differ aren't.
+    /// Several that differ aren't.
     Several,
 }
 
-/// What of a ban isn't among held pairs.
+/// Which pairs of an earlier ban aren't among those of the ban that is checked.
 pub(crate) fn missing_of(held: &Held<'_>, ban: &[Pair]) -> Missing
     ensures { AreMissing held.now ban.now result }
 {
@@ -48,7 +45,7 @@ fn with_missing(missing: Missing, pair: Pair) -> Missing
     match missing {
         Missing::None => Missing::One(pair),
         Missing::One(one) => {
-            if are_same(one, pair) {
+            if one == pair {
                 missing
             } else {
                 Missing::Several
@@ -64,7 +61,7 @@ pub(crate) fn is_all(missing: Missing, pair: Pair) -> bool
 {
     match missing {
         Missing::None => true,
-        Missing::One(one) => are_same(one, pair),
+        Missing::One(one) => one == pair,
         Missing::Several => false,
     }
 }

@@ -2,7 +2,8 @@
 
 ghost use Rattle.std.specs.Prelude.{◌≡◌, ◌↔◌, ℕ, ◌+◌, ◌≤◌, Any, IfSome, IsTrue, Some};
 ghost use Rattle.account_core.specs.Tallies.{shapes_of, IsTally, SayOf};
-ghost use Rattle.ban_check.specs.Counted.{one_input, twin_input, ArePaired, AreTooMany, GoOverInputs, GoOverTwice, HaveTooMany, IsNext, SaysOf};
+ghost use Rattle.ban_check.specs.Counted.{one_input, twin_input, ArePaired, AreTooMany, GoOverInputs, GoOverTwice};
+ghost use Rattle.ban_check.specs.Counted.{HaveTooMany, IsNext, SaysOf};
 
 use crate::given::Given;
 use account_core::{Tallied, port_on};
@@ -10,8 +11,8 @@ use circuits::{Pair, PortKind};
 use claim_core::{Claim, Shape};
 use net_core::Graphs;
 
-/// Whether facts tell that one of two paired outputs has some inputs, and facts of the other one that it lacks others,
-/// which are together more than a circuit has.
+/// Whether by some facts one of two paired outputs has inputs of a kind, by others the other one lacks inputs of it,
+/// and both are together more than a circuit has.
 pub(crate) fn is_tally(
     graphs: &Graphs<'_>,
     given: &Given,
@@ -53,7 +54,7 @@ fn joins(pair: Pair, one: Claim, other: Claim) -> bool
         & (port_on(other.side, pair) == other.output)
 }
 
-// Whether facts hold, or fail, and are of a claim's output.
+// Whether facts are of a claim's output, all of claims that hold, or all of claims that fail.
 fn say_of(given: &Given, numbers: &[u64], holds: bool, claim: Claim) -> bool
     ensures { IsTrue result ↔ SayOf given.now numbers.now holds claim.side claim.output }
 {
@@ -62,7 +63,7 @@ fn say_of(given: &Given, numbers: &[u64], holds: bool, claim: Claim) -> bool
         .all(|number| says(given, *number, holds, claim))
 }
 
-// Whether a fact holds, or fails, and is of a claim's output.
+// Whether a fact is of a claim's output, and of a claim that holds, or of one that fails.
 fn says(given: &Given, number: u64, holds: bool, claim: Claim) -> bool
     ensures { IsTrue result ↔ SaysOf given.now number holds claim }
 {

@@ -1,10 +1,9 @@
-//! The list of bits.
-
 ghost use Rattle.std.proofs.Common.{rules};
 ghost use Rattle.std.specs.Bool.{beq};
 ghost use Rattle.std.specs.Cmp.Lexicographic.{pointwise, lists_per, lists_equiv};
 ghost use Rattle.std.specs.Cmp.Rules.{comparing};
-ghost use Rattle.std.specs.Prelude.{◌≡◌, ◌≢◌, ℕ, ◌+◌, ◌*◌, ◌^◌, ◌<◌, ◌≤◌, ◌∷◌, [], ◌++◌, length, false, slice_index_or, IfOk, OnOk, OnErr, nat_eq};
+ghost use Rattle.std.specs.Prelude.{◌≡◌, ◌≢◌, ℕ, ◌+◌, ◌*◌, ◌^◌, ◌<◌, ◌≤◌, ◌∷◌, [], ◌++◌, length, false, slice_index_or};
+ghost use Rattle.std.specs.Prelude.{IfOk, OnOk, OnErr, nat_eq};
 ghost use Rattle.bit_list.specs.Packing.{packed_bit, word_bit};
 
 use items::Items;
@@ -128,7 +127,8 @@ fn with_bit(word: u64, place: usize, bit: bool) -> u64
     if bit { word | 1 << place } else { word }
 }
 
-/// Whether the words are the same, each of which is below 2^64.
+/// Whether the words are the same.
+// A function for its other clauses: below 2^64, words that are equal have the same bits.
 fn same_words(first: &[u64], second: &[u64]) -> bool
     ensures value { result ≡ pointwise nat_eq first.now second.now }
     ensures first { (k : ℕ) → slice_index_or first.now k 0 < 2 ^ 64 }

@@ -10,7 +10,8 @@ use Rattle.check_steps.specs.Held.{Netlist}
 use Rattle.check_steps.specs.declared.outcome.Which.{Which}
 use Rattle.check_steps.specs.declared.outcome.Which.TheVariants.{First, Second, Account}
 use Rattle.check_steps.specs.declared.outcome.Outcome.{Outcome}
-use Rattle.check_steps.specs.declared.outcome.Outcome.TheVariants.{AcceptedMatch, AcceptedRefusal, Rejected, Matched, NoMatching, Spent, Usage, Absent, TooLarge, Malformed, Informed, Made, Tried, ReadFault, WriteFault, Memory}
+use Rattle.check_steps.specs.declared.outcome.Outcome.TheVariants.{AcceptedMatch, AcceptedRefusal, Rejected, Matched, NoMatching, Spent, Usage, Absent}
+use Rattle.check_steps.specs.declared.outcome.Outcome.TheVariants.{TooLarge, Malformed, Informed, Made, Tried, ReadFault, WriteFault, Memory}
 
 -- the word for a file
 abbrev pub file_word : Which → List ℕ

@@ -2,7 +2,8 @@
 
 ghost use Rattle.std.specs.Prelude.{◌≡◌, ◌≢◌, ◌⊎◌, ℕ, [], ◌↔◌, IsTrue, List, map, IfSome, IfNone, string_bytes};
 ghost use Rattle.check_steps.specs.Asks.{Ask, sought_by, wanted_by};
-ghost use Rattle.check_steps.specs.Words.{AreBudgetAndSeed, AreNames, AreTwoNames, AskNothing, AsksCheck, AsksInfo, AsksMake, AsksMatch, AsksTrial, IsNumber, Sought, Wanted};
+ghost use Rattle.check_steps.specs.Words.{AreBudgetAndSeed, AreNames, AreTwoNames, AskNothing, AsksCheck, AsksInfo};
+ghost use Rattle.check_steps.specs.Words.{AsksMake, AsksMatch, AsksTrial, IsNumber, Sought, Wanted};
 
 use text_core::{Cursor, decimal};
 

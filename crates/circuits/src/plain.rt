@@ -1,12 +1,14 @@
 //! The definitions of this crate as programs: slow and obvious, for circuits of a few ports. Each contract
 //! is the definition itself, so that what a test computes here is what the definition says.
 
-ghost use Rattle.std.specs.Prelude.{◌≡◌, ◌≢◌, ◌<◌, ◌≤◌, ◌+◌, ◌↔◌, All, AllPairs, Any, IfOk, IsTrue, OnOk, length, map, vec_len};
+ghost use Rattle.std.specs.Prelude.{◌≡◌, ◌≢◌, ◌<◌, ◌≤◌, ◌+◌, ◌↔◌, All, AllPairs, Any, IfOk, IsTrue, OnOk, length, map};
+ghost use Rattle.std.specs.Prelude.{vec_len};
 ghost use Rattle.circuits.specs.Literals.{EachAt, signal_of, literal_bit, vector_of};
 ghost use Rattle.circuits.specs.Netlists.{IsOrdered, Fits, gate_bit, with_gates, valuation_of, function_of};
 ghost use Rattle.circuits.specs.Bijections.{IsSignedBijection, moved, entries_of};
 ghost use Rattle.circuits.specs.Functions.{as_circuit};
-ghost use Rattle.circuits.specs.Matches.{OutputsAgree, HavePorts, AgreeOn, AgreeOnAll, IsMatch, IsMatchOfFunctions, IsPartOfMatch, AreNpnpEqual, HaveNpnpEqualFunctions};
+ghost use Rattle.circuits.specs.Matches.{OutputsAgree, HavePorts, AgreeOn, AgreeOnAll, IsMatch, IsMatchOfFunctions};
+ghost use Rattle.circuits.specs.Matches.{IsPartOfMatch, AreNpnpEqual, HaveNpnpEqualFunctions};
 
 use crate::netlist::{Gate, Lit, Netlist};
 use std::alloc::{AllocError, Global};
@@ -157,7 +159,7 @@ pub fn move_vector(
 }
 
 /// Whether p of the inputs and q of the outputs are a match of two netlists: they are signed bijections, the
-/// netlists have as many inputs and as many outputs, and all outputs agree on every vector. It tries all
+/// netlists have the same numbers of inputs and outputs, and all outputs agree on every vector. It tries all
 /// vectors, so the inputs are at most 16.
 ///
 /// # Errors
@@ -200,7 +202,7 @@ fn is_match_of_functions(
     agree_on_all(alloc, first, second, p, q)
 }
 
-/// Whether the netlists have as many ports, and p and q are signed bijections of them.
+/// Whether the netlists have the same numbers of ports, and p and q are signed bijections of them.
 fn have_ports(first: &Netlist, second: &Netlist, p: &[(u32, bool)], q: &[(u32, bool)]) -> bool
     ensures { IsTrue result ↔ HavePorts first.now second.now p.now q.now }
 {

@@ -1,5 +1,3 @@
-//! What the inputs of a cone get.
-
 ghost use Rattle.std.specs.Prelude.{◌≡◌, ◌<◌, ◌==◌, false, IfOk, length, slice_index_or, fold, if◌then◌else◌};
 ghost use Rattle.std.specs.Cmp.Lexicographic.{pointwise, lists_per, lists_equiv};
 ghost use Rattle.std.specs.List.{flat_map};
@@ -49,7 +47,7 @@ impl Model for Feeds {
     ghost view = { λ a. feeds_in a.form };
 }
 
-// By hand, and so one call wherever a value ends: a derived drop is expanded there, field by field, and makes proofs long.
+// By hand: a derived drop is expanded, field by field, wherever a value ends, and makes proofs long.
 impl Drop for Feeds {
     fn drop(self) {
         let Feeds { form: _form } = self;

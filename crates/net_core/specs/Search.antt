@@ -6,12 +6,13 @@ use Rattle.circuits.specs.Levels.{HasLevel, HaveLevel, HasNoLevel, IsAcyclic, Is
 use Rattle.net_core.specs.declared.levels.Frame.{Frame}
 use Rattle.net_core.specs.declared.levels.Visit.{Visit}
 use Rattle.net_core.specs.declared.levels.Visit.TheVariants.{New, Open, Level}
-use Rattle.net_core.specs.declared.levels.Seen.{Seen}
-use Rattle.net_core.specs.declared.levels.Seen.TheVariants.{Below, Fresh, Above}
+use Rattle.net_core.specs.declared.levels.Edge.{Edge}
+use Rattle.net_core.specs.declared.levels.Edge.TheVariants.{Finished, Tree, Back}
 use Rattle.net_core.specs.declared.levels.SearchEvent.{SearchEvent}
 use Rattle.net_core.specs.declared.levels.SearchEvent.TheVariants.{Enter, Close, Loop}
 use Rattle.net_core.specs.declared.order_fault.OrderFault.{OrderFault}
 use Rattle.net_core.specs.declared.order_fault.OrderFault.TheVariants.{Cycle, TooManyGates, Memory}
+use Rattle.net_core.specs.Limits.{most_gates}
 
 abbrev pub visit_of : List Visit → ℕ → Visit
 visit_of visits k = slice_index_or visits k New
@@ -83,11 +84,11 @@ pub record IsAt (circuit : Circuit) (visits : List Visit) (visit : Visit) (s e :
   pub at : s ≡ signal_at circuit e
   pub is : visit_of visits e ≡ visit
 
--- what was seen at a signal
-abbrev pub IsSeen : Circuit → List Visit → List ℕ → ℕ → Seen → Type 0
-IsSeen circuit visits stack s (Fresh e) = IsAt circuit visits New s e
-IsSeen circuit visits stack s Above = (e : ℕ) × IsAt circuit visits Open s e
-IsSeen circuit visits stack s (Below level) = IsFound circuit (left visits stack) s level
+-- what kind of edge leads to a signal
+abbrev pub IsEdge : Circuit → List Visit → List ℕ → ℕ → Edge → Type 0
+IsEdge circuit visits stack s (Tree e) = IsAt circuit visits New s e
+IsEdge circuit visits stack s Back = (e : ℕ) × IsAt circuit visits Open s e
+IsEdge circuit visits stack s (Finished level) = IsFound circuit (left visits stack) s level
 
 -- what is to be done at a definition on the stack
 abbrev pub IsNextEvent : Circuit → List Visit → List ℕ → ℕ → SearchEvent → Type 0
@@ -105,7 +106,7 @@ IsNextEvent circuit visits stack d (Close level) = HasLevel circuit (signal_at c
 -- what each fault says
 abbrev pub IsFaultOf : Circuit → OrderFault → Type 0
 IsFaultOf circuit (Cycle d) = IsFirstLooped circuit d
-IsFaultOf circuit TooManyGates = IsAcyclic circuit × (1000000 < gates_in circuit)
+IsFaultOf circuit TooManyGates = IsAcyclic circuit × (most_gates < gates_in circuit)
 IsFaultOf circuit Memory = Unit {0}
 
 -- what a fault says while the search from a root goes on

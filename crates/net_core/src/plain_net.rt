@@ -1,5 +1,3 @@
-//! Netlists as their files give them: the definitions stand in any order.
-
 ghost use Rattle.std.specs.Prelude.{◌≡◌, ◌+◌, ◌^◌, ◌<◌, length};
 ghost use Rattle.circuits.specs.Circuits.{IsClosed, def_at};
 ghost use Rattle.net_core.specs.PlainNets.{IsPlainNet};
@@ -11,7 +9,7 @@ use std::marker::Model;
 /// A netlist whose definitions may stand in any order. Signal 0 is false, input i is signal i + 1, and
 /// definition d is signal inputs + 1 + d. Each signal that a definition or an output names is there, and
 /// each row of a cover is as wide as its names. There are fewer than 2^32 outputs, and fewer than 2^30
-/// signals: the ordered graph has as many inputs and at most 1,000,000 gates, so its literals have 32 bits.
+/// signals: the ordered graph has the same inputs and at most 1,000,000 gates, so its literals have 32 bits.
 #[derive(Debug, Drop)]
 pub struct PlainNet {
     pub inputs: u32,

@@ -1,6 +1,7 @@
 ghost use Rattle.std.specs.Prelude.{◌≤◌, All, length};
 ghost use Rattle.circuits.specs.Functions.{Computes, as_circuit};
 ghost use Rattle.circuits.specs.Netlists.{Net};
+ghost use Rattle.net_core.specs.Limits.{most_bytes};
 ghost use Rattle.net_file.specs.declared.named.Named.{Named};
 ghost use Rattle.net_print.specs.BlifLines.{blif_text};
 ghost use Rattle.net_print.specs.Files.{aag_text, aig_text};
@@ -42,16 +43,16 @@ pub fn blif_reads_back()
         → Computes net (printed_circuit net) }
 {}
 
-/// What is printed is no longer than what is read: a netlist within the limits as BLIF, and in the binary form of AIGER where
-/// no name has more than 20,000 bytes.
+/// What is printed is no longer than what is read: a netlist within the limits as BLIF, and in the binary form of AIGER
+/// where no name has more than 20,000 bytes.
 #[tactic(auto, using(crate::proofs::SizeLemmas::aig_short, crate::proofs::SizeLemmas::blif_short))]
 pub fn printed_is_short()
     ensures blif { (net : Net)
         → IsWithinLimits net
-        → length (blif_text net) ≤ 67108864 }
+        → length (blif_text net) ≤ most_bytes }
     ensures aig { (named : Named)
         → IsPrintable named
         → All IsShortName named.input_names
         → All IsShortName named.output_names
-        → length (aig_text named) ≤ 67108864 }
+        → length (aig_text named) ≤ most_bytes }
 {}

@@ -1,5 +1,3 @@
-//! The clauses of a query's two cones.
-
 ghost use Rattle.std.specs.Prelude.{◌≡◌, ◌<◌, ◌≤◌, ◌^◌, All, Contains, IfOk, length};
 ghost use Rattle.cnf_core.specs.Clauses.{clause_at, literals_of, variable_of};
 ghost use Rattle.claim_core.specs.ConeClauses.{AreConeIds};
@@ -39,7 +37,7 @@ impl<'a> Model for ConeClauses<'a> {
     ghost invariant = { λ a. IsConing a.graphs.now a.query a.left a.right a.ids.items };
 }
 
-// By hand, and so one call wherever a value ends: a derived drop is expanded there, field by field, and makes proofs long.
+// By hand: a derived drop is expanded, field by field, wherever a value ends, and makes proofs long.
 impl Drop for ConeClauses<'_> {
     fn drop(self) {
         let ConeClauses {

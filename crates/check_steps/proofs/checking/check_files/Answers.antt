@@ -1,4 +1,4 @@
--- What the files decide, one after the other: no call changes what is held.
+-- What the files decide, one after the other: no call changes a file.
 use Rattle.std.proofs.Common.{ℕ, List, inl, ◌∙◌, subst, arith}
 use Rattle.std.proofs.lemmas.Result.{err_from_is_err_and}
 use Rattle.check_steps.specs.Held.{HoldsGraph}
