@@ -12,8 +12,8 @@ use items::Items;
 use net_core::Side;
 use std::alloc::{AllocError, Global};
 
-/// Ports of the first circuit, and ports of the second, of one kind. Where they are more than either circuit has, one of
-/// the first ones goes to one of the second ones.
+/// Ports of the first circuit, and ports of the second, of one kind. Where they are more than either circuit has, one
+/// of the first ones goes to one of the second ones.
 #[derive(Debug, Drop, PartialEq, Eq)]
 pub struct Block {
     pub kind: PortKind,

@@ -14,8 +14,8 @@ use std::marker::Model;
 /// Bans in the order in which they came, each under its number, from 0. Contracts see it as the list of the bans.
 /// Whether their steps are valid is for those to say who see the circuits and the facts.
 ///
-/// A ban is found by its first pair: the bans with one first pair are a chain, from the last back to the first, and those without
-/// pairs are one.
+/// A ban is found by its first pair: the bans with one first pair are a chain, from the last back to the first, and
+/// those without pairs are one.
 #[derive(Debug)]
 pub struct BanBook {
     bans: Vec<Ban>,
@@ -25,7 +25,8 @@ pub struct BanBook {
     before: Vec<Option<u64>>,
 }
 
-// By hand, and so one call wherever a value ends: a derived drop is expanded there, field by field, and makes proofs long.
+// By hand, and so one call wherever a value ends: a derived drop is expanded there, field by field, and makes proofs
+// long.
 impl Drop for BanBook {
     fn drop(self) {
         let BanBook {

@@ -13,8 +13,9 @@ fn clash(one: Pair, other: Pair) -> bool
     (one.kind == other.kind) & (one != other) & ((one.from == other.from) | (one.to == other.to))
 }
 
-/// A held pair that the way clashes with, if there is one. It goes over the list: a conflict's pairs for each way of a port that is
-/// covered, and all held ones where open pairs are refined, of which the whole matchings of a search have none.
+/// A held pair that the way clashes with, if there is one. It goes over the list: a conflict's pairs for each way of a
+/// port that is covered, and all held ones where open pairs are refined, of which the whole matchings of a search have
+/// none.
 pub fn clashing(held: &[Pair], way: Pair) -> Option<Pair>
     ensures found { IfSome result (Contains held.now) }
     ensures clash { IfSome result (λ pair. Clash pair way) }

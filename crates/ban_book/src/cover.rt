@@ -19,7 +19,8 @@ use items::{Few, Items};
 use std::alloc::{AllocError, Global};
 
 #[tactic(auto, using(crate::proofs::HoldLemmas::holds_none))]
-/// Holds the ban of these pairs, in order, for a block of which all ways are closed beside them, and answers its number.
+/// Holds the ban of these pairs, in order, for a block of which all ways are closed beside them, and answers its
+/// number.
 pub fn hold_cover(
     alloc: Global,
     graphs: &PairableGraphs<'_>,

@@ -21,7 +21,8 @@ pub struct Carried {
     pub image: Claim,
 }
 
-/// The claim of an input with a value at an output of the first circuit, and the one that the pairs of both carry it to.
+/// The claim of an input with a value at an output of the first circuit, and the one that the pairs of both carry it
+/// to.
 pub fn carry(input: Pair, output: Pair, value: bool) -> Carried
     ensures claim { result.claim ≡ record { side = AnySide.First; output = output.from; shape = one_input input.from value } }
     ensures image { result.image ≡ record {
@@ -44,8 +45,8 @@ pub fn carry(input: Pair, output: Pair, value: bool) -> Carried
     }
 }
 
-/// The numbers of two facts that tell pairs apart: a claim fails, and the one that the pairs carry it to holds, or that they carry
-/// to it.
+/// The numbers of two facts that tell pairs apart: a claim fails, and the one that the pairs carry it to holds, or that
+/// they carry to it.
 #[derive(Clone, Copy, Debug, Drop, PartialEq, Eq)]
 pub struct Unlike {
     pub fails: u64,

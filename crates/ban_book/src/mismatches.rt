@@ -19,8 +19,8 @@ pub(crate) struct Apart {
     pub(crate) unlike: Unlike,
 }
 
-/// The ban of an input's pair and an output's where a claim of the first circuit is told otherwise than the one that they carry
-/// it to, by the outputs' rows: of the first such input among some pairs.
+/// The ban of an input's pair and an output's where a claim of the first circuit is told otherwise than the one that
+/// they carry it to, by the outputs' rows: of the first such input among some pairs.
 pub(crate) fn mismatch_by_rows(
     alloc: Global,
     pairs: &[Pair],

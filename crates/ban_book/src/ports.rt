@@ -38,7 +38,8 @@ pub fn two_inputs(one: u32, one_value: bool, other: u32, other_value: bool) -> S
     }
 }
 
-/// The value that an input has at its place, of the opposite ones where values are exchanged, as an inverted output does.
+/// The value that an input has at its place, of the opposite ones where values are exchanged, as an inverted output
+/// does.
 pub fn moved_value(exchanged: bool, input: Pair, value: bool) -> bool
     ensures { result ≡ moved_value exchanged input value }
 {

@@ -18,8 +18,8 @@ pub struct Lists {
     pub both: Items<u64>,
 }
 
-/// The ban of a pair of outputs that facts are for: of one claim an input that holds, and two that fail, by the inputs in which
-/// outputs are binate; of one that fails, and two that hold, by the inputs that they depend on.
+/// The ban of a pair of outputs that facts are for: of one claim an input that holds, and two that fail, by the inputs
+/// in which outputs are binate; of one that fails, and two that hold, by the inputs that they depend on.
 ///
 /// # Errors
 ///
@@ -45,7 +45,8 @@ pub fn tally_ban(alloc: Global, pair: Pair, holds: bool, lists: Lists) -> Result
     Ok(Ban { pairs, step })
 }
 
-/// The ban of a pair of outputs of which one depends on more inputs than the other one, or is binate in more, by the outputs' rows.
+/// The ban of a pair of outputs of which one depends on more inputs than the other one, or is binate in more, by the
+/// outputs' rows.
 pub(crate) fn tally_by_rows(
     alloc: Global,
     pair: Pair,

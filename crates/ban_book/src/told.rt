@@ -10,8 +10,9 @@ pub struct Told {
     pub holds: bool,
 }
 
-/// What facts say of an output's two claims of one input: that it never falls where the input goes up, and that it never falls
-/// where the input goes down. The output depends on the input where one fails, and is binate in it where both fail.
+/// What facts say of an output's two claims of one input: that it never falls where the input goes up, and that it
+/// never falls where the input goes down. The output depends on the input where one fails, and is binate in it where
+/// both fail.
 #[derive(Clone, Copy, Debug, Drop, PartialEq, Eq)]
 pub struct InputTold {
     pub up: Told,

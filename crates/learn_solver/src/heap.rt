@@ -8,13 +8,14 @@ ghost use Rattle.learn_solver.specs.Heaps.{AreInverse, are_held, exchanged};
 use std::alloc::{AllocError, Global};
 use std::marker::Model;
 
-/// A set of the numbers below a bound. The one with the greatest key comes out first, and of those with the same key the
-/// greatest number (a binary heap: Williams, 1964). Each number has a key, whether it is held or not. Contracts see for each
-/// number whether it is held; which one comes out is in none. Only `new` takes memory.
+/// A set of the numbers below a bound. The one with the greatest key comes out first, and of those with the same key
+/// the greatest number (a binary heap: Williams, 1964). Each number has a key, whether it is held or not. Contracts see
+/// for each number whether it is held; which one comes out is in none. Only `new` takes memory.
 #[derive(Drop)]
 pub(crate) struct Heap {
     keys: Vec<u64>,
-    /// All numbers, the held ones first. Of these the one at place k comes out before those at places 2 k + 1 and 2 k + 2.
+    /// All numbers, the held ones first. Of these the one at place k comes out before those at places 2 k + 1 and 2 k +
+    /// 2.
     numbers: Vec<usize>,
     /// Where each number stands.
     places: Vec<usize>,

@@ -22,8 +22,8 @@ use items::Items;
 use std::alloc::{AllocError, Global};
 use std::marker::Model;
 
-/// A formula, some of its clauses, and lines that were derived from it: lemmas, then learned ones. The solver looks for a
-/// model of these clauses, and keeps the reference to the formula.
+/// A formula, some of its clauses, and lines that were derived from it: lemmas, then learned ones. The solver looks for
+/// a model of these clauses, and keeps the reference to the formula.
 #[derive(Drop)]
 pub struct Solver<'a, B: Base> {
     base: &'a B,
@@ -281,10 +281,10 @@ impl<'a, B: Base> Solver<'a, B> {
     }
 }
 
-/// Looks for a model of the solver's clauses. The lines of the ledger's open entry are the solver's lemmas, and each learned
-/// line is charged to it, the closing empty one too. Spent comes at a conflict that is met with the budget spent: its line is
-/// the solver's last one, and the ledger's refused one. Running out of memory may leave both anyhow. Since each line has all
-/// the literals of no clause before it, one call learns at most 3^n lines over n variables.
+/// Looks for a model of the solver's clauses. The lines of the ledger's open entry are the solver's lemmas, and each
+/// learned line is charged to it, the closing empty one too. Spent comes at a conflict that is met with the budget
+/// spent: its line is the solver's last one, and the ledger's refused one. Running out of memory may leave both anyhow.
+/// Since each line has all the literals of no clause before it, one call learns at most 3^n lines over n variables.
 pub fn solve<B: Base, L: Charge>(
     alloc: Global,
     solver: &mut Solver<'_, B>,
@@ -306,9 +306,9 @@ pub fn solve<B: Base, L: Charge>(
     Ok(verdict)
 }
 
-/// The same, where parts of the question are searched first (explicit learning: Lu, Wang, Cheng, Moon and Hanna, DATE 2003):
-/// for each candidate in order, whether its two literals can be true together. What is learned from that serves all that
-/// comes after. No answer depends on the candidates. A refutation is the solver's lines (`Solver::into_log`).
+/// The same, where parts of the question are searched first (explicit learning: Lu, Wang, Cheng, Moon and Hanna, DATE
+/// 2003): for each candidate in order, whether its two literals can be true together. What is learned from that serves
+/// all that comes after. No answer depends on the candidates. A refutation is the solver's lines (`Solver::into_log`).
 pub fn solve_guided<B: Base, G: QuestionGuide, L: Charge>(
     alloc: Global,
     solver: &mut Solver<'_, B>,

@@ -10,9 +10,9 @@ use net_core::Graph;
 use std::alloc::{AllocError, Global};
 use std::simd::prelude::*;
 
-/// A column for the vectors as they are, and one for each input inverted: in each a block for each of `count` outputs from
-/// the output `first` on. One pass over the gates serves all of these outputs, and for an inverted input only the gates are
-/// evaluated again that it reaches.
+/// A column for the vectors as they are, and one for each input inverted: in each a block for each of `count` outputs
+/// from the output `first` on. One pass over the gates serves all of these outputs, and for an inverted input only the
+/// gates are evaluated again that it reaches.
 ///
 /// # Errors
 ///

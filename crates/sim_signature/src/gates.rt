@@ -22,8 +22,8 @@ pub(crate) fn evaluate(graph: &Graph, inputs: &[u64x8], blocks: &mut [u64x8])
     run_gate_blocks(gates, inputs.len() + 1, blocks);
 }
 
-/// Gives each signal that an inverted input reaches another block in `after`, and marks these signals alone; no other gate is
-/// evaluated. `before` has what each signal has before.
+/// Gives each signal that an inverted input reaches another block in `after`, and marks these signals alone; no other
+/// gate is evaluated. `before` has what each signal has before.
 pub(crate) fn evaluate_inverted(
     graph: &Graph,
     inputs: &[u64x8],

@@ -15,7 +15,8 @@ use word_sim::alternating;
 /// How many inputs a circuit has at most whose vectors are all tried: a word holds as many.
 pub(crate) const FEW: u32 = 6;
 
-/// 512 vectors, a block of eight words for each input: all vectors of at most six inputs, else some that a generator draws.
+/// 512 vectors, a block of eight words for each input: all vectors of at most six inputs, else some that a generator
+/// draws.
 ///
 /// # Errors
 ///
@@ -83,9 +84,10 @@ fn drawn_block(generator: &mut Pcg32) -> u64x8 {
     ])
 }
 
-/// 512 vectors near one, a block of eight words for each input, drawn by a generator: of the first 128 each input is inverted
-/// on one of 16, of the others on one of 32, of 64 and of 128. So circuits of a hundred inputs, where few vectors are near
-/// with fewer inverted, and those of few inputs, where one of 128 mostly leaves the vector as it is, both get many.
+/// 512 vectors near one, a block of eight words for each input, drawn by a generator: of the first 128 each input is
+/// inverted on one of 16, of the others on one of 32, of 64 and of 128. So circuits of a hundred inputs, where few
+/// vectors are near with fewer inverted, and those of few inputs, where one of 128 mostly leaves the vector as it is,
+/// both get many.
 ///
 /// # Errors
 ///

@@ -11,8 +11,8 @@ use std::alloc::{AllocError, Global};
 use std::marker::Model;
 
 /// The literals that were assigned, in order, with their levels and reasons (the implication graph of Marques-Silva and
-/// Sakallah, GRASP, 1999, kept as a list by Eén and Sörensson, MiniSat, 2003). The level is the number of decisions. The
-/// first `walked` literals are those whose consequences were looked for. No variable is assigned twice. Only
+/// Sakallah, GRASP, 1999, kept as a list by Eén and Sörensson, MiniSat, 2003). The level is the number of decisions.
+/// The first `walked` literals are those whose consequences were looked for. No variable is assigned twice. Only
 /// `with_variables` takes memory.
 #[derive(Debug)]
 pub struct Trail {
@@ -23,7 +23,8 @@ pub struct Trail {
     walked: usize,
 }
 
-// By hand, and so one call wherever a value ends: a derived drop is expanded there, field by field, and makes proofs long.
+// By hand, and so one call wherever a value ends: a derived drop is expanded there, field by field, and makes proofs
+// long.
 impl Drop for Trail {
     fn drop(self) {
         let Trail {
@@ -89,7 +90,8 @@ impl Trail {
         });
     }
 
-    // Adds a literal at the end, of a variable that is free. Its level is the present one, or for a decision the next one.
+    // Adds a literal at the end, of a variable that is free. Its level is the present one, or for a decision the next
+    // one.
     fn push(&mut self, entry: Assigned)
         requires free { IsFree self.old entry.literal }
         requires level { entry.level ≡ self.old.level + (if is_none entry.reason then 1 else 0) }

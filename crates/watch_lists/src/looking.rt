@@ -73,8 +73,8 @@ fn look_at(trail: &Trail, clauses: &Arena, id: u64, other: SatLit) -> Look
     }
 }
 
-// A literal of a clause that isn't false, beside a watched one, where the other watched one is false. A binary clause has
-// none.
+// A literal of a clause that isn't false, beside a watched one, where the other watched one is false. A binary clause
+// has none.
 fn third(trail: &Trail, clauses: &Arena, id: u64, other: SatLit) -> Option<SatLit>
     requires there { id < length clauses.now.clauses }
     requires half { IsHalfFalse (literals trail.now.entries) (clause_at clauses.now.clauses id) other }
@@ -87,8 +87,8 @@ fn third(trail: &Trail, clauses: &Arena, id: u64, other: SatLit) -> Option<SatLi
     beside(trail, clauses.get(id), other)
 }
 
-/// A literal of a clause that isn't false, beside another one. The first is as good as any: the literals that became false
-/// are at no certain places.
+/// A literal of a clause that isn't false, beside another one. The first is as good as any: the literals that became
+/// false are at no certain places.
 pub(crate) fn beside(trail: &Trail, clause: &[SatLit], other: SatLit) -> Option<SatLit>
     ensures found { IfSome result (IsBeside (literals trail.now.entries) clause.now other) }
     ensures none { IfNone result (All (IsOut (literals trail.now.entries) other) clause.now) }
