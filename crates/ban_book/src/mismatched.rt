@@ -24,7 +24,11 @@ pub struct Carried {
 /// The claim of an input with a value at an output of the first circuit, and the one that the pairs of both carry it
 /// to.
 pub fn carry(input: Pair, output: Pair, value: bool) -> Carried
-    ensures claim { result.claim ≡ record { side = AnySide.First; output = output.from; shape = one_input input.from value } }
+    ensures claim { result.claim ≡ record {
+      side = AnySide.First;
+      output = output.from;
+      shape = one_input input.from value;
+    } }
     ensures image { result.image ≡ record {
       side = AnySide.Second;
       output = output.to;

@@ -51,7 +51,8 @@ fn first_apart(
     requires from { All (λ pair. pair.kind ≡ Input → pair.from < length first.now) pairs.now }
     requires to { All (λ pair. pair.kind ≡ Input → pair.to < length second.now) pairs.now }
     ensures some { IfSome result (λ apart. Contains pairs.now apart.input × IsApart output first.now second.now apart) }
-    ensures none { IfNone result (All (λ pair. pair.kind ≡ Input → AreAlike output first.now second.now pair) pairs.now) }
+    ensures none { IfNone result
+        (All (λ pair. pair.kind ≡ Input → AreAlike output first.now second.now pair) pairs.now) }
 {
     for input in pairs.iter() {
         if let Some(apart) = told_apart(*input, output, first, second) {

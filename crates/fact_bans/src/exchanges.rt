@@ -122,7 +122,9 @@ fn carried(pairs: SwapPairs, values: (bool, bool)) -> Carried
     ensures image { result.image ≡ record {
       side = AnySide.Second;
       output = pairs.output.to;
-      shape = two_inputs pairs.one.to (moved_value pairs.output.flip pairs.one values.0) pairs.other.to (moved_value pairs.output.flip pairs.other values.1);
+      shape = two_inputs
+          pairs.one.to (moved_value pairs.output.flip pairs.one values.0)
+          pairs.other.to (moved_value pairs.output.flip pairs.other values.1);
     } }
 {
     let SwapPairs { one, other, output } = pairs;

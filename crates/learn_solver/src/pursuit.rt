@@ -29,7 +29,8 @@ impl<'a, B: Base> Solver<'a, B> {
         ledger: &mut L,
     ) -> Result<Option<Finding>, Stop>
         requires { CanGo self.old (L.charging ledger.old) search.old }
-        ensures gone { IfOk result (HasGone self.old self.new (L.charging ledger.old) (L.charging ledger.new) search.new) }
+        ensures gone { IfOk result
+            (HasGone self.old self.new (L.charging ledger.old) (L.charging ledger.new) search.new) }
         ensures stop { IfErr result (IsStopped self.old self.new (L.charging ledger.old) (L.charging ledger.new)) }
     {
         if let Some(soon) = self.pursue(alloc, search, FIRST, ledger)? {
@@ -58,7 +59,8 @@ impl<'a, B: Base> Solver<'a, B> {
         ledger: &mut L,
     ) -> Result<Option<Finding>, Stop>
         requires { CanGo self.old (L.charging ledger.old) search.old }
-        ensures gone { IfOk result (HasGone self.old self.new (L.charging ledger.old) (L.charging ledger.new) search.new) }
+        ensures gone { IfOk result
+            (HasGone self.old self.new (L.charging ledger.old) (L.charging ledger.new) search.new) }
         ensures stop { IfErr result (IsStopped self.old self.new (L.charging ledger.old) (L.charging ledger.new)) }
     {
         for candidate in candidates.iter() {
@@ -80,7 +82,8 @@ impl<'a, B: Base> Solver<'a, B> {
         ledger: &mut L,
     ) -> Result<Option<Finding>, Stop>
         requires { CanGo self.old (L.charging ledger.old) search.old }
-        ensures gone { IfOk result (HasGone self.old self.new (L.charging ledger.old) (L.charging ledger.new) search.new) }
+        ensures gone { IfOk result
+            (HasGone self.old self.new (L.charging ledger.old) (L.charging ledger.new) search.new) }
         ensures stop { IfErr result (IsStopped self.old self.new (L.charging ledger.old) (L.charging ledger.new)) }
     {
         let end = self.count().saturating_add(most);

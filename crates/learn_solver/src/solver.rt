@@ -53,7 +53,11 @@ impl<'a, B: Base> Solver<'a, B> {
         requires ids { All (λ id. id < length (B.formula base.now).clauses) ids.now }
         requires derived { AreDerived (B.formula base.now) lemmas.now }
         requires filled { list_any is_empty (clauses_of lemmas.now) ≡ false }
-        ensures { IfOk result (λ solver. solver ≡ record { formula = B.formula base.now; ids = ids.now; lines = lemmas.now }) }
+        ensures { IfOk result (λ solver. solver ≡ record {
+          formula = B.formula base.now;
+          ids = ids.now;
+          lines = lemmas.now;
+        }) }
     {
         let ids = Vec::from_slice(alloc, ids)?;
         let lines = copied(alloc, lemmas)?;
@@ -163,7 +167,8 @@ impl<'a, B: Base> Solver<'a, B> {
             (literals search.old.trail.entries) }
         requires walked { search.old.trail.walked ≡ length search.old.trail.entries }
         ensures { IfOk result (λ answer. MatchOption answer
-            (IsDecided self.now search.old.trail search.new.trail search.new.watches search.new.tools) (IsFinding self.now)) }
+            (IsDecided self.now search.old.trail search.new.trail search.new.watches search.new.tools)
+            (IsFinding self.now)) }
     {
         let Some(literal) = search.tools.decision(&search.trail) else {
             let variables = self.base.variables();
@@ -210,7 +215,8 @@ impl<'a, B: Base> Solver<'a, B> {
         ledger: &mut L,
     ) -> Result<Option<Finding>, Stop>
         requires { CanGo self.old (L.charging ledger.old) search.old }
-        ensures gone { IfOk result (HasGone self.old self.new (L.charging ledger.old) (L.charging ledger.new) search.new) }
+        ensures gone { IfOk result
+            (HasGone self.old self.new (L.charging ledger.old) (L.charging ledger.new) search.new) }
         ensures less { IfOk result (λ answer. IfNone answer
             (remaining (L.charging ledger.new) search.new.trail < remaining (L.charging ledger.old) search.old.trail)) }
         ensures stop { IfErr result (IsStopped self.old self.new (L.charging ledger.old) (L.charging ledger.new)) }
@@ -293,7 +299,8 @@ pub fn solve<B: Base, L: Charge>(
     requires unrefuted { list_any is_empty (clauses_of solver.old.lines) ≡ false }
     requires asking { IsAsking (L.charging ledger.old) solver.old.lines }
     ensures verdict { IfOk result (IsVerdict solver.new) }
-    ensures lines { IfOk result (λ _. IsExtended solver.old solver.new (L.charging ledger.old) (L.charging ledger.new)) }
+    ensures lines { IfOk result
+        (λ _. IsExtended solver.old solver.new (L.charging ledger.old) (L.charging ledger.new)) }
     ensures not_spent { IfOk result (λ _. IsAsking (L.charging ledger.new) solver.new.lines) }
     ensures stop { IfErr result (IsStopped solver.old solver.new (L.charging ledger.old) (L.charging ledger.new)) }
     ensures bounded { IfOk result
@@ -318,7 +325,8 @@ pub fn solve_guided<B: Base, G: QuestionGuide, L: Charge>(
     requires unrefuted { list_any is_empty (clauses_of solver.old.lines) ≡ false }
     requires asking { IsAsking (L.charging ledger.old) solver.old.lines }
     ensures found { IfOk result (IsFinding solver.new) }
-    ensures lines { IfOk result (λ _. IsExtended solver.old solver.new (L.charging ledger.old) (L.charging ledger.new)) }
+    ensures lines { IfOk result
+        (λ _. IsExtended solver.old solver.new (L.charging ledger.old) (L.charging ledger.new)) }
     ensures not_spent { IfOk result (λ _. IsAsking (L.charging ledger.new) solver.new.lines) }
     ensures stop { IfErr result (IsStopped solver.old solver.new (L.charging ledger.old) (L.charging ledger.new)) }
     ensures bounded { IfOk result

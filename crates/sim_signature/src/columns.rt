@@ -57,8 +57,12 @@ fn add_inverted(
     requires inputs { inputs ≡ simulation.old.net.inputs }
     requires there { first + count ≤ length simulation.old.net.outputs }
     requires few { first + count < 2 ^ 32 }
-    requires columns { AreColumns (record { net = simulation.old.net; first = first; count = count; blocks = simulation.old.blocks })
-        0 columns.old.items }
+    requires columns { AreColumns (record {
+      net = simulation.old.net;
+      first = first;
+      count = count;
+      blocks = simulation.old.blocks;
+    }) 0 columns.old.items }
     ensures { OnOk result
         (AreColumns (record { net = simulation.old.net; first = first; count = count; blocks = simulation.old.blocks })
         inputs columns.new.items) }

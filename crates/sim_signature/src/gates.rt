@@ -144,7 +144,8 @@ fn gate_after(gate: Gate, before: &[u64x8], after: &[u64x8], marks: &[bool]) -> 
     requires after { length after.now ≡ length before.now }
     requires marks { length marks.now ≡ length before.now }
     ensures { (w v : ℕ) → w < 8 → v < 64
-        → block_bit w v result ≡ bit_of_gate (λ s. block_bit w v (the_block_after before.now after.now marks.now s)) gate }
+        → block_bit w v result
+        ≡ bit_of_gate (λ s. block_bit w v (the_block_after before.now after.now marks.now s)) gate }
 {
     and_lanes(
         block_after(before, after, marks, gate.a.signal() as usize),

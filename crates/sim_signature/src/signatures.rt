@@ -42,8 +42,12 @@ impl<'a> Model for Signatures<'a> {
 
     ghost view = { λ a. record { net = a.graph.now; first = a.first; count = a.count; blocks = a.inputs.items } };
 
-    ghost invariant = { λ a. AreSigned (record { net = a.graph.now; first = a.first; count = a.count; blocks = a.inputs.items })
-        a.columns.items };
+    ghost invariant = { λ a. AreSigned (record {
+      net = a.graph.now;
+      first = a.first;
+      count = a.count;
+      blocks = a.inputs.items;
+    }) a.columns.items };
 }
 
 impl<'a> Signatures<'a> {

@@ -156,7 +156,8 @@ fn push_gates(gates: &[Gate], words: &mut Vec<u64>) -> Result<(), AllocError>
 /// The words of literals' signals.
 fn words_of(alloc: Global, literals: &[Lit], words: &[u64]) -> Result<Items<u64>, AllocError>
     requires { All (λ literal. signal_of literal < length words.now) literals.now }
-    ensures { IfOk result (λ list. list ≡ map (λ literal. slice_index_or words.now (signal_of literal) 0) literals.now) }
+    ensures { IfOk result
+        (λ list. list ≡ map (λ literal. slice_index_or words.now (signal_of literal) 0) literals.now) }
 {
     let mut list = Items::new(alloc);
     for literal in literals.iter() {

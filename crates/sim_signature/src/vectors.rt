@@ -39,7 +39,8 @@ pub(crate) fn vectors(
 /// All vectors of at most six inputs: bit v of each word stands for the vector with the number v.
 fn all_vectors(alloc: Global, inputs: u32) -> Result<Vec<u64x8>, AllocError>
     requires { inputs ≤ 6 }
-    ensures vectors { IfOk result (λ blocks. (w v : ℕ) → w < 8 → v < 64 → pattern blocks.items w v ≡ vector_of inputs v) }
+    ensures vectors { IfOk result
+        (λ blocks. (w v : ℕ) → w < 8 → v < 64 → pattern blocks.items w v ≡ vector_of inputs v) }
     ensures inputs { IfOk result (λ blocks. length blocks.items ≡ inputs) }
 {
     let mut blocks = Vec::with_capacity(alloc, inputs as usize)?;

@@ -43,7 +43,12 @@ impl Model for Trail {
 
     ghost Value = { Trailing };
 
-    ghost view = { λ a. record { variables = length a.places.items; entries = a.entries.items; level = a.level; walked = a.walked } };
+    ghost view = { λ a. record {
+      variables = length a.places.items;
+      entries = a.entries.items;
+      level = a.level;
+      walked = a.walked;
+    } };
 
     ghost invariant = { λ a. IsKept a.entries a.places.items a.level a.walked };
 }

@@ -38,8 +38,10 @@ pub(crate) fn target(
     requires there { id < length clauses.now.clauses }
     requires known { AreKnown trail.old.variables (clause_at clauses.now.clauses id) }
     requires half { IsHalfFalse (literals trail.old.entries) (clause_at clauses.now.clauses id) other }
-    ensures target { IfSome result (IsTarget trail.old trail.new (clause_at clauses.now.clauses id) id other falsified) }
-    ensures conflict { IfNone result (effect_of (literals trail.old.entries) (clause_at clauses.now.clauses id) ≡ AllFalse) }
+    ensures target { IfSome result
+        (IsTarget trail.old trail.new (clause_at clauses.now.clauses id) id other falsified) }
+    ensures conflict { IfNone result
+        (effect_of (literals trail.old.entries) (clause_at clauses.now.clauses id) ≡ AllFalse) }
     ensures same { IfNone result (trail.new ≡ trail.old) }
 {
     match look_at(trail, clauses, id, other) {

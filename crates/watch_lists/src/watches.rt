@@ -43,7 +43,11 @@ impl Model for Watches {
 
     ghost Value = { Watching };
 
-    ghost view = { λ a. record { variables = a.variables; clauses = a.clauses.clauses; watches = a.threads.watches.items } };
+    ghost view = { λ a. record {
+      variables = a.variables;
+      clauses = a.clauses.clauses;
+      watches = a.threads.watches.items;
+    } };
 
     ghost invariant = { λ a. AreKept a.variables a.clauses.clauses a.threads.watches.items a.threads.heads.items };
 }
