@@ -143,7 +143,7 @@ pub record IsDeleting (graphs : Graphs) (old now : Lent) (pair : Pair) (start do
 step_later : (graphs : Graphs) (lent : Lent) (start before after : Domained) (step : Ahead) → left before ≤ left start → IsAhead graphs lent before after step → IsAhead graphs lent start after step
 step_later graphs lent start before after ahead.Deeper less is = omega (arith, less, is)
 step_later graphs lent start before after (ahead.Match matching logs) less is = is
-step_later graphs lent start before after (ahead.Impasse impasse) less is = record { impasse_is = is.impasse_is; less = omega (arith, less, is.less) }
+step_later graphs lent start before after (ahead.Conflict conflict) less is = record { conflict_is = is.conflict_is; less = omega (arith, less, is.less) }
 
 -- a step after others after which no more is left
 pub ahead_later : (graphs : Graphs) (lent : Lent) (start before after : Domained) (result : Result Ahead Stop) → left before ≤ left start → IfOk result (IsAhead graphs lent before after) → IfOk result (IsAhead graphs lent start after)

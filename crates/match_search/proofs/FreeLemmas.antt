@@ -12,7 +12,7 @@ use Rattle.ban_book.proofs.BlockListLemmas.{any_of_contained}
 use Rattle.pair_domains.specs.declared.entry.Entry.{Entry}
 use Rattle.pair_domains.specs.Trails.{IsHeldAt, held_in}
 use Rattle.pair_domains.proofs.EntryLemmas.{of_at}
-use Rattle.pair_search.specs.Conflicts.{FitPorts}
+use Rattle.pair_search.specs.ConflictSets.{FitPorts}
 use Rattle.pair_search.specs.declared.port.Port.{Port}
 
 -- a port of a held pair is taken

@@ -17,8 +17,8 @@ use Rattle.fact_bans.specs.Serving.{HoldsBans, MayHold}
 use Rattle.oracle_core.specs.Oracles.{Known, Serves, Suits}
 use Rattle.match_guess.specs.declared.trials.Trials.{Trials}
 use Rattle.match_guess.specs.Trials.{AreTrials}
-use Rattle.pair_search.specs.declared.impasse.Impasse.{Impasse}
-use Rattle.pair_search.specs.Impasses.{IsImpasse}
+use Rattle.pair_search.specs.declared.conflict.Conflict.{Conflict}
+use Rattle.pair_search.specs.Conflicts.{IsConflict}
 use Rattle.pair_search.specs.Progress.{left}
 use Rattle.class_refine.specs.Stable.{AreOutputsDecided}
 use Rattle.match_search.specs.Founds.{IsDecidedFound, IsFound}
@@ -153,8 +153,8 @@ pub record AreInputsAndOutput (one other third : Pair) (pairs : SwapPairs) : Typ
   pub are : (pairs ≡ record { one = one; other = other; output = third }) ⊎ (pairs ≡ record { one = other; other = third; output = one })
 
 -- It doesn't go on, and no more is left than before.
-pub record IsStuck (bans : List Ban) (before after : Domained) (impasse : Impasse) : Type 0 where
-  pub impasse_is : IsImpasse bans after impasse
+pub record IsStuck (bans : List Ban) (before after : Domained) (conflict : Conflict) : Type 0 where
+  pub conflict_is : IsConflict bans after conflict
   pub less : left after ≤ left before
 
 -- a step ahead: less is left, a match was found, with all claims of one input decided, or it doesn't go on
@@ -162,7 +162,7 @@ abbrev pub IsAhead : Graphs → Lent → Domained → Domained → Ahead → Typ
 IsAhead graphs lent before after ahead.Deeper = left after < left before
 IsAhead graphs lent before after (ahead.Match matching logs) =
     IsShownMatch graphs matching logs × AreOutputsDecided graphs (map decided_by lent.known.facts)
-IsAhead graphs lent before after (ahead.Impasse impasse) = IsStuck lent.bans before after impasse
+IsAhead graphs lent before after (ahead.Conflict conflict) = IsStuck lent.bans before after conflict
 
 -- a whole matching is a match, or has all pairs of a ban
 abbrev pub IsSettled : Graphs → List Ban → List Pair → Settled → Type 0

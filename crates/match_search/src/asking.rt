@@ -3,7 +3,7 @@
 ghost use Rattle.std.specs.Prelude.{◌<◌, Contains, IfSome};
 ghost use Rattle.account_core.specs.Ports.{IsKnown};
 ghost use Rattle.pair_domains.specs.Trails.{held_in};
-ghost use Rattle.pair_search.specs.Conflicts.{FitPorts};
+ghost use Rattle.pair_search.specs.ConflictSets.{FitPorts};
 ghost use Rattle.match_search.specs.States.{GoesOn, MayGoOn, MayStep, Steps, lent, AreOfBothKinds};
 
 use crate::session::Session;

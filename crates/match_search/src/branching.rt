@@ -22,7 +22,7 @@ use cnf_core::{Log, Stop};
 use items::Items;
 use net_core::Matching;
 use oracle_core::Oracle;
-use pair_search::{Impasse, branch, start_over, turn_back};
+use pair_search::{Conflict, branch, start_over, turn_back};
 use watch_core::Stage;
 
 /// Searches from nothing, with the bans that are kept, for this many rounds, or until the bans take all their room, and
@@ -129,20 +129,20 @@ fn turn<O: Oracle>(
 {
     let bans = session.book.bans().len() as u64;
     session.at(Stage::Banning { bans });
-    let impasse = match ahead(graphs, session, trail)? {
+    let conflict = match ahead(graphs, session, trail)? {
         Ahead::Deeper => return Ok(None),
         Ahead::Match(matching, logs) => return Ok(Some(Found::Match(matching, logs))),
-        Ahead::Impasse(impasse) => impasse,
+        Ahead::Conflict(conflict) => conflict,
     };
     let before = session.book.bans().len();
-    let dead = impasse.ban();
-    session.aids.guide.hurry(&impasse);
+    let dead = conflict.ban();
+    session.aids.guide.hurry(&conflict);
     let refusal = turn_back(
         session.asker.alloc,
         graphs,
         &mut trail.domains,
         &mut trail.queue,
-        impasse,
+        conflict,
         session.book,
     )?;
     session.aids.guide.learn(session.book.bans(), before, dead);
@@ -163,8 +163,8 @@ fn ahead<O: Oracle>(
     ensures steps { Steps graphs.now (lent O.known session.old) (lent O.known session.new) trail.new.domains result }
     ensures ahead { IfOk result (IsAhead graphs.now (lent O.known session.new) trail.old.domains trail.new.domains) }
 {
-    if let Some(impasse) = follow(graphs, session, trail)? {
-        return Ok(Ahead::Impasse(impasse));
+    if let Some(conflict) = follow(graphs, session, trail)? {
+        return Ok(Ahead::Conflict(conflict));
     }
     go_on(graphs, session, &mut trail.domains)
 }
@@ -185,7 +185,7 @@ fn go_on<O: Oracle>(
     session.aids.guide.decide(port);
     match branch(domains, port)? {
         None => Ok(Ahead::Deeper),
-        Some(impasse) => Ok(Ahead::Impasse(impasse)),
+        Some(conflict) => Ok(Ahead::Conflict(conflict)),
     }
 }
 
@@ -202,7 +202,7 @@ fn compare_held<O: Oracle>(
 {
     match compare_whole(graphs, session, domains)? {
         Settled::Match(matching, logs) => confirm(graphs, session, domains, matching, logs),
-        Settled::Ban(ban) => Ok(Ahead::Impasse(Impasse::Ban(ban))),
+        Settled::Ban(ban) => Ok(Ahead::Conflict(Conflict::Ban(ban))),
     }
 }
 
@@ -222,6 +222,6 @@ fn confirm<O: Oracle>(
 {
     match refine(graphs, &mut session.asker, domains, session.book)? {
         Refined::Stable => Ok(Ahead::Match(matching, logs)),
-        Refined::Dead(ban) => Ok(Ahead::Impasse(Impasse::Ban(ban))),
+        Refined::Dead(ban) => Ok(Ahead::Conflict(Conflict::Ban(ban))),
     }
 }

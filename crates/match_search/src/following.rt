@@ -1,7 +1,7 @@
 //! What follows of the pairs that are assigned, by bans, by decided claims and by vectors.
 
 ghost use Rattle.std.specs.Prelude.{◌≤◌, Contains, IfOk, IfSome, OnOk};
-ghost use Rattle.pair_search.specs.Impasses.{IsImpasse};
+ghost use Rattle.pair_search.specs.Conflicts.{IsConflict};
 ghost use Rattle.pair_domains.specs.Trails.{held_in};
 ghost use Rattle.pair_search.specs.Progress.{left};
 ghost use Rattle.match_search.specs.States.{Deletes, MayStep, Steps, lent};
@@ -17,7 +17,7 @@ use class_refine::Domains;
 use cnf_core::Stop;
 use fact_bans::Asker;
 use oracle_core::Oracle;
-use pair_search::{Impasse, propagate};
+use pair_search::{Conflict, propagate};
 use std::alloc::AllocError;
 use vector_bans::foresee;
 
@@ -27,14 +27,14 @@ pub(crate) fn follow<O: Oracle>(
     graphs: &PairableGraphs<'_>,
     session: &mut Session<'_, O>,
     trail: &mut PairTrail,
-) -> Result<Option<Impasse>, Stop>
+) -> Result<Option<Conflict>, Stop>
     requires may { MayStep graphs.now (lent O.known session.old) trail.old.domains }
     ensures steps { Steps graphs.now (lent O.known session.old) (lent O.known session.new) trail.new.domains result }
     ensures less { OnOk result (left trail.new.domains ≤ left trail.old.domains) }
-    ensures impasse { IfOk result (λ found. IfSome found (IsImpasse session.new.book.now trail.new.domains)) }
+    ensures conflict { IfOk result (λ found. IfSome found (IsConflict session.new.book.now trail.new.domains)) }
 {
-    if let Some(impasse) = settle(graphs, session, trail)? {
-        return Ok(Some(impasse));
+    if let Some(conflict) = settle(graphs, session, trail)? {
+        return Ok(Some(conflict));
     }
     let learned = session.learned();
     if session.aids.guide.has_had_its_share(learned) {
@@ -52,10 +52,10 @@ fn try_held<O: Oracle>(
     graphs: &PairableGraphs<'_>,
     session: &mut Session<'_, O>,
     domains: &Domains,
-) -> Result<Option<Impasse>, Stop>
+) -> Result<Option<Conflict>, Stop>
     requires may { MayStep graphs.now (lent O.known session.old) domains.now }
     ensures steps { Steps graphs.now (lent O.known session.old) (lent O.known session.new) domains.now result }
-    ensures impasse { IfOk result (λ found. IfSome found (IsImpasse session.new.book.now domains.now)) }
+    ensures conflict { IfOk result (λ found. IfSome found (IsConflict session.new.book.now domains.now)) }
 {
     // assigned pairs are of ports that exist, and share none
     let _lawful = domains.entries();
@@ -66,7 +66,7 @@ fn try_held<O: Oracle>(
         &session.aids.trials,
         session.book,
     )? {
-        Some(ban) => Ok(Some(Impasse::Ban(ban))),
+        Some(ban) => Ok(Some(Conflict::Ban(ban))),
         None => Ok(None),
     }
 }
@@ -76,10 +76,10 @@ fn exchange_held<O: Oracle>(
     graphs: &PairableGraphs<'_>,
     session: &mut Session<'_, O>,
     domains: &Domains,
-) -> Result<Option<Impasse>, Stop>
+) -> Result<Option<Conflict>, Stop>
     requires may { MayStep graphs.now (lent O.known session.old) domains.now }
     ensures steps { Steps graphs.now (lent O.known session.old) (lent O.known session.new) domains.now result }
-    ensures impasse { IfOk result (λ found. IfSome found (IsImpasse session.new.book.now domains.now)) }
+    ensures conflict { IfOk result (λ found. IfSome found (IsConflict session.new.book.now domains.now)) }
 {
     // assigned pairs are of ports that exist, and share none
     let _lawful = domains.entries();
@@ -87,7 +87,7 @@ fn exchange_held<O: Oracle>(
     for place in session.aids.guide.exchanged..held.len() {
         session.aids.guide.exchanged = place;
         if let Some(ban) = exclude_by_swaps(graphs, session, held, held[place])? {
-            return Ok(Some(Impasse::Ban(ban)));
+            return Ok(Some(Conflict::Ban(ban)));
         }
     }
     session.aids.guide.exchanged = held.len();
@@ -100,22 +100,22 @@ fn settle<O: Oracle>(
     graphs: &PairableGraphs<'_>,
     session: &mut Session<'_, O>,
     trail: &mut PairTrail,
-) -> Result<Option<Impasse>, Stop>
+) -> Result<Option<Conflict>, Stop>
     requires may { MayStep graphs.now (lent O.known session.old) trail.old.domains }
     ensures steps { Steps graphs.now (lent O.known session.old) (lent O.known session.new) trail.new.domains result }
     ensures less { OnOk result (left trail.new.domains ≤ left trail.old.domains) }
-    ensures impasse { IfOk result (λ found. IfSome found (IsImpasse session.new.book.now trail.new.domains)) }
+    ensures conflict { IfOk result (λ found. IfSome found (IsConflict session.new.book.now trail.new.domains)) }
 {
     let inputs = trail.domains.ports(PortKind::Input) as u64;
     let outputs = trail.domains.ports(PortKind::Output) as u64;
     for _turn in 0..inputs + 2 * outputs + 1 {
-        if let Some(impasse) = propagate(
+        if let Some(conflict) = propagate(
             session.asker.alloc,
             &mut trail.domains,
             &mut trail.queue,
             session.book.bans(),
         )? {
-            return Ok(Some(impasse));
+            return Ok(Some(conflict));
         }
         let more = ask_next(graphs, session, &mut trail.domains)?;
         let learned = session.learned();

@@ -15,7 +15,7 @@ use Rattle.pair_domains.specs.declared.entry.Fate.{Fate}
 use Rattle.pair_domains.specs.declared.entry.Cause.TheVariants.{Choice, LastWay}
 use Rattle.pair_domains.specs.Trails.{AreDomains, AreEntries, Domained, IsOpen, IsPairOf, IsPlace, held_in, is_held}
 use Rattle.pair_domains.proofs.EntryLemmas.{held_more, one_entry}
-use Rattle.pair_search.specs.Conflicts.{FitPorts, HasNoChoice, IsChoiceAt, IsLastOf, IsLearned}
+use Rattle.pair_search.specs.ConflictSets.{FitPorts, HasNoChoice, IsChoiceAt, IsLastOf, IsLearned}
 use Rattle.pair_search.specs.Pivots.{IsSplit}
 use Rattle.circuits.specs.declared.port.PortKind.TheVariants.{Input}
 use Rattle.account_core.specs.declared.step.Ban.{Ban}

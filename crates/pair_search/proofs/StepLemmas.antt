@@ -22,7 +22,7 @@ use Rattle.pair_domains.specs.declared.entry.Reason.TheVariants as reason
 use Rattle.pair_domains.specs.Numbers.{pairs_of_ports}
 use Rattle.pair_domains.specs.Trails.{AreEntries, Domained, IsOpen, IsPairOf, held_in, ports_of}
 use Rattle.ban_book.specs.Covering.{Covers}
-use Rattle.pair_search.specs.Conflicts.{FitPorts, HasNoChoice, IsChoiceAt}
+use Rattle.pair_search.specs.ConflictSets.{FitPorts, HasNoChoice, IsChoiceAt}
 use Rattle.pair_search.specs.Grounded.{AreGrounded, IsGrounded, StayGrounded}
 use Rattle.pair_search.specs.Justified.{AreJustified, IsJustified}
 use Rattle.pair_search.proofs.GroundedLemmas.{grounded_front, stay_front, stay_none, stay_push, stay_twice}

@@ -20,6 +20,6 @@ returns-in-Some-2-clause-steps g c = steps_ok (way_stays refl (way_start c.requi
 
 pub returns-in-Some-2-clause-ahead : goal.returns-in-Some-2-clause-ahead
 returns-in-Some-2-clause-ahead g c = record {
-  impasse_is = (rw c.in-Some-2.is at c.in_ok-branch.ensures.impasse) c.args.session.now.book.now;
+  conflict_is = (rw c.in-Some-2.is at c.in_ok-branch.ensures.conflict) c.args.session.now.book.now;
   less = omega (arith, ap left (rw c.in-Some-2.is at c.in_ok-branch.ensures.stuck));
 }

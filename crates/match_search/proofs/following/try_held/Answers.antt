@@ -21,7 +21,7 @@ returns-in_err-ban-clause-steps g c = steps_fail c.from_residual.ensures.1 (way_
 pub returns-in-Some : goal.returns-in-Some
 returns-in-Some g c = record {
   steps = steps_ok (way_bans (way_start c.requires.may) (goes_by c.in_ok-ban.ensures.same c.in_ok-ban.ensures.holds refl));
-  impasse = subst (λ (held : List Pair). Covers c.foresee.new.book held c.in-Some.ban) c.pairs.ensures.value (rw c.in-Some.is at c.in_ok-ban.ensures.covers);
+  conflict = subst (λ (held : List Pair). Covers c.foresee.new.book held c.in-Some.ban) c.pairs.ensures.value (rw c.in-Some.is at c.in_ok-ban.ensures.covers);
 }
 
 pub returns-in-None-clause-steps : goal.returns-in-None-clause-steps

@@ -18,5 +18,5 @@ returns c =
     let second = c.delete_ways-2.new.domains in
     record {
       propagates = propagates_two bans start second c.apply_bans.new.domains (propagates_two bans start c.delete_ways.new.domains second c.in_ok-delete_ways.ensures c.in_ok-delete_ways-2.ensures) c.in_ok-found.ensures.propagates;
-      impasse = search rules;
+      conflict = search rules;
     }

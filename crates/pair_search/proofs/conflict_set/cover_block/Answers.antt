@@ -9,7 +9,7 @@ use Rattle.pair_search.specs.Resolutions.{left_out}
 use Rattle.pair_search.proofs.ConflictLemmas.{gathered_as, resolved_among, second_ports}
 use Rattle.pair_search.proofs.NamedLemmas.{named_as, ways_known}
 use Rattle.pair_search.proofs.GroundedLemmas.{learns_holds, learns_none, learns_twice}
-use Rattle.pair_search.proofs.conflict.cover_block.Goals as goal
+use Rattle.pair_search.proofs.conflict_set.cover_block.Goals as goal
 
 pub gather-requires-clause-known : goal.gather-requires-clause-known
 gather-requires-clause-known c =

@@ -3,7 +3,7 @@ use Rattle.std.proofs.Common.{All, Contains, subst}
 use Rattle.std.proofs.lemmas.List.{take_all}
 use Rattle.std.proofs.lemmas.List.Elements.{All-nil}
 use Rattle.pair_search.proofs.ConflictLemmas.{adding_more}
-use Rattle.pair_search.proofs.conflict.add_all.Goals as goal
+use Rattle.pair_search.proofs.conflict_set.add_all.Goals as goal
 
 pub loop-pair-init : goal.loop-pair-init
 loop-pair-init c = record { part = c.requires.part; among = All-nil (Contains c.args.needed.now.items) }

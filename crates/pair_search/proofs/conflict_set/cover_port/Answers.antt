@@ -6,7 +6,7 @@ use Rattle.ban_book.proofs.ClosedLemmas.{all_of_port}
 use Rattle.pair_domains.specs.Trails.{ports_of}
 use Rattle.pair_search.specs.Named.{AreAllNamed, IsLeftOutOr, IsNamedIn}
 use Rattle.pair_search.specs.Resolutions.{left_out}
-use Rattle.pair_search.proofs.conflict.cover_port.Goals as goal
+use Rattle.pair_search.proofs.conflict_set.cover_port.Goals as goal
 
 pub cover_block-requires-clause-block : goal.cover_block-requires-clause-block
 cover_block-requires-clause-block c =

@@ -1,5 +1,5 @@
 use Rattle.pair_search.proofs.ConflictLemmas.{ban_lent, covers_lent}
-use Rattle.pair_search.proofs.conflict.conflict_of_ban.Goals as goal
+use Rattle.pair_search.proofs.conflict_set.conflict_set_of_ban.Goals as goal
 
 pub add_all-requires-clause-among : goal.add_all-requires-clause-among
 add_all-requires-clause-among c =
