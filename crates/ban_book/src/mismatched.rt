@@ -5,8 +5,8 @@ ghost use Rattle.net_core.specs.declared.graphs.Side.TheVariants as AnySide;
 ghost use Rattle.claim_core.specs.Images.{moved_value, one_input};
 ghost use Rattle.ban_book.specs.Mismatched.{mismatch_of, unlike_of};
 
+use crate::input_claims::DecidedClaim;
 use crate::ports::{moved_value, one_input};
-use crate::told::Told;
 use account_core::{Ban, Step};
 use circuits::Pair;
 use claim_core::Claim;
@@ -58,7 +58,7 @@ pub struct Unlike {
 }
 
 /// Which of two facts fails, and which one holds.
-pub fn unlike_of(one: Told, other: Told) -> Unlike
+pub fn unlike_of(one: DecidedClaim, other: DecidedClaim) -> Unlike
     ensures { result ≡ unlike_of one.holds one.number other.number }
 {
     if one.holds {

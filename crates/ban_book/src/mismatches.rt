@@ -5,9 +5,9 @@ ghost use Rattle.circuits.specs.declared.port.PortKind.TheVariants.{Input};
 ghost use Rattle.claim_core.specs.Images.{moved_value};
 ghost use Rattle.ban_book.specs.Rows.{AreAlike, IsApart, IsApartAt, IsMismatchBan, told_at};
 
+use crate::input_claims::{DecidedClaim, InputClaims};
 use crate::mismatched::{Unlike, mismatch_ban, unlike_of};
 use crate::ports::moved_value;
-use crate::told::{InputTold, Told};
 use account_core::Ban;
 use circuits::{Pair, PortKind};
 use std::alloc::{AllocError, Global};
@@ -25,8 +25,8 @@ pub(crate) fn mismatch_by_rows(
     alloc: Global,
     pairs: &[Pair],
     output: Pair,
-    first: &[InputTold],
-    second: &[InputTold],
+    first: &[InputClaims],
+    second: &[InputClaims],
 ) -> Result<Option<Ban>, AllocError>
     requires from { All (λ pair. pair.kind ≡ Input → pair.from < length first.now) pairs.now }
     requires to { All (λ pair. pair.kind ≡ Input → pair.to < length second.now) pairs.now }
@@ -45,8 +45,8 @@ pub(crate) fn mismatch_by_rows(
 fn first_apart(
     pairs: &[Pair],
     output: Pair,
-    first: &[InputTold],
-    second: &[InputTold],
+    first: &[InputClaims],
+    second: &[InputClaims],
 ) -> Option<Apart>
     requires from { All (λ pair. pair.kind ≡ Input → pair.from < length first.now) pairs.now }
     requires to { All (λ pair. pair.kind ≡ Input → pair.to < length second.now) pairs.now }
@@ -63,7 +63,12 @@ fn first_apart(
 }
 
 // The facts that tell a pair, if it is of an input, apart from an output's pair.
-fn told_apart(input: Pair, output: Pair, first: &[InputTold], second: &[InputTold]) -> Option<Apart>
+fn told_apart(
+    input: Pair,
+    output: Pair,
+    first: &[InputClaims],
+    second: &[InputClaims],
+) -> Option<Apart>
     requires from { input.kind ≡ Input → input.from < length first.now }
     requires to { input.kind ≡ Input → input.to < length second.now }
     ensures some { IfSome result (λ apart. (apart.input ≡ input) × IsApart output first.now second.now apart) }
@@ -84,8 +89,8 @@ fn apart_with(
     input: Pair,
     output: Pair,
     value: bool,
-    first: &[InputTold],
-    second: &[InputTold],
+    first: &[InputClaims],
+    second: &[InputClaims],
 ) -> Option<Unlike>
     requires from { input.from < length first.now }
     requires to { input.to < length second.now }
@@ -102,7 +107,7 @@ fn apart_with(
 }
 
 // What a row tells of an input with a value.
-fn told_at(row: &[InputTold], input: u32, value: bool) -> Told
+fn told_at(row: &[InputClaims], input: u32, value: bool) -> DecidedClaim
     requires { input < length row.now }
     ensures { result ≡ told_at row.now input value }
 {

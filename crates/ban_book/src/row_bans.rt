@@ -5,9 +5,9 @@ ghost use Rattle.account_core.specs.Ports.{AreOrdered, IsKnown};
 ghost use Rattle.ban_book.specs.Rows.{HasOneOutput};
 ghost use Rattle.ban_book.specs.Shown.{HaveNothing, IsShownByRows};
 
+use crate::input_claims::InputClaims;
 use crate::mismatches::mismatch_by_rows;
 use crate::tallies::tally_by_rows;
-use crate::told::InputTold;
 use account_core::{Ban, PairableGraphs};
 use circuits::Pair;
 use std::alloc::{AllocError, Global};
@@ -27,8 +27,8 @@ pub fn ban_by_facts(
     graphs: &PairableGraphs<'_>,
     pairs: &[Pair],
     pair: Pair,
-    first: &[InputTold],
-    second: &[InputTold],
+    first: &[InputClaims],
+    second: &[InputClaims],
 ) -> Result<Option<Ban>, AllocError>
     requires known { All (IsKnown graphs.now) pairs.now }
     requires ordered { AreOrdered pairs.now }

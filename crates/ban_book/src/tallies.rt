@@ -5,7 +5,7 @@ ghost use Rattle.std.specs.List.{flat_map};
 ghost use Rattle.ban_book.specs.Listed.{tally_of};
 ghost use Rattle.ban_book.specs.Rows.{AreEven, IsTallyBan, both_of, lists_by, one_of, says_one};
 
-use crate::told::InputTold;
+use crate::input_claims::InputClaims;
 use account_core::{Ban, Step, Tallied};
 use circuits::Pair;
 use items::{Few, Items};
@@ -50,8 +50,8 @@ pub fn tally_ban(alloc: Global, pair: Pair, holds: bool, lists: Lists) -> Result
 pub(crate) fn tally_by_rows(
     alloc: Global,
     pair: Pair,
-    first: &[InputTold],
-    second: &[InputTold],
+    first: &[InputClaims],
+    second: &[InputClaims],
 ) -> Result<Option<Ban>, AllocError>
     ensures shown { IfOk result (λ found. IfSome found (IsTallyBan pair first.now second.now)) }
     ensures none { IfOk result (λ found. IfNone found (AreEven first.now second.now)) }
@@ -66,8 +66,8 @@ pub(crate) fn tally_by_rows(
 fn uneven(
     alloc: Global,
     pair: Pair,
-    first: &[InputTold],
-    second: &[InputTold],
+    first: &[InputClaims],
+    second: &[InputClaims],
     holds: bool,
 ) -> Result<Option<Ban>, AllocError>
     ensures shown { IfOk result (λ found. IfSome found (IsTallyBan pair first.now second.now)) }
@@ -88,7 +88,7 @@ fn uneven(
 }
 
 // How many inputs there are of which a claim holds, or fails.
-fn count(row: &[InputTold], holds: bool) -> usize
+fn count(row: &[InputClaims], holds: bool) -> usize
     ensures { result ≡ count_by (says_one holds) row.now }
 {
     row.iter().filter(|told| told.says_one(holds)).count()
@@ -98,8 +98,8 @@ fn count(row: &[InputTold], holds: bool) -> usize
 fn uneven_ban(
     alloc: Global,
     pair: Pair,
-    more: &[InputTold],
-    fewer: &[InputTold],
+    more: &[InputClaims],
+    fewer: &[InputClaims],
     holds: bool,
 ) -> Result<Ban, AllocError>
     ensures { IfOk result (λ ban. ban ≡ tally_of pair holds (lists_by holds more.now fewer.now)) }
@@ -110,7 +110,7 @@ fn uneven_ban(
 }
 
 // The facts of one claim an input that holds, or fails, where there is one.
-fn list_one(alloc: Global, row: &[InputTold], holds: bool) -> Result<Items<u64>, AllocError>
+fn list_one(alloc: Global, row: &[InputClaims], holds: bool) -> Result<Items<u64>, AllocError>
     ensures { IfOk result (λ numbers. numbers ≡ flat_map (one_of holds) row.now) }
 {
     let mut numbers = Items::new(alloc);
@@ -120,7 +120,7 @@ fn list_one(alloc: Global, row: &[InputTold], holds: bool) -> Result<Items<u64>,
     Ok(numbers)
 }
 
-fn add_one(numbers: &mut Items<u64>, told: InputTold, holds: bool) -> Result<(), AllocError>
+fn add_one(numbers: &mut Items<u64>, told: InputClaims, holds: bool) -> Result<(), AllocError>
     ensures { OnOk result (numbers.new ≡ numbers.old ++ one_of holds told) }
 {
     if told.up.holds == holds {
@@ -132,7 +132,7 @@ fn add_one(numbers: &mut Items<u64>, told: InputTold, holds: bool) -> Result<(),
 }
 
 // The facts of both claims of each input that both hold, or both fail.
-fn list_both(alloc: Global, row: &[InputTold], holds: bool) -> Result<Items<u64>, AllocError>
+fn list_both(alloc: Global, row: &[InputClaims], holds: bool) -> Result<Items<u64>, AllocError>
     ensures { IfOk result (λ numbers. numbers ≡ flat_map (both_of holds) row.now) }
 {
     let mut numbers = Items::new(alloc);
@@ -142,7 +142,7 @@ fn list_both(alloc: Global, row: &[InputTold], holds: bool) -> Result<Items<u64>
     Ok(numbers)
 }
 
-fn add_both(numbers: &mut Items<u64>, told: InputTold, holds: bool) -> Result<(), AllocError>
+fn add_both(numbers: &mut Items<u64>, told: InputClaims, holds: bool) -> Result<(), AllocError>
     ensures { OnOk result (numbers.new ≡ numbers.old ++ both_of holds told) }
 {
     if told.says_both(holds) {

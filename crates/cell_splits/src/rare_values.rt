@@ -51,7 +51,7 @@ pub fn rare_blocks(
 fn add_blocks(
     alloc: Global,
     simulator: &mut FlipSim<'_>,
-    seen: &mut [Seen],
+    seen: &mut [ValueCounts],
     draws: &mut Draws,
     blocks: &mut Items<Items<Lanes>>,
 ) -> Result<(), AllocError> {
@@ -87,7 +87,7 @@ fn inputs_of(alloc: Global, simulator: &FlipSim<'_>) -> Result<Items<Lanes>, All
 
 /// How often a gate had each value.
 #[derive(Clone, Copy, Drop)]
-struct Seen {
+struct ValueCounts {
     ones: u32,
     zeros: u32,
 }
@@ -97,8 +97,8 @@ fn drawn_values(
     alloc: Global,
     simulator: &mut FlipSim<'_>,
     draws: &mut Draws,
-) -> Result<Vec<Seen>, AllocError> {
-    let none = Seen { ones: 0, zeros: 0 };
+) -> Result<Vec<ValueCounts>, AllocError> {
+    let none = ValueCounts { ones: 0, zeros: 0 };
     let mut seen = vec![in alloc; none; simulator.graph().gates().len()]?;
     for _ in 0..DRAWN_BLOCKS {
         draw_inputs(simulator, draws);
@@ -109,7 +109,7 @@ fn drawn_values(
 }
 
 // Adds what gates have on the vectors.
-fn add_values(simulator: &FlipSim<'_>, seen: &mut [Seen]) {
+fn add_values(simulator: &FlipSim<'_>, seen: &mut [ValueCounts]) {
     for (gate, values) in seen.iter_mut().enumerate() {
         let lanes = simulator.gate(gate);
         values.ones = values.ones.saturating_add(ones_in(lanes));
@@ -118,7 +118,7 @@ fn add_values(simulator: &FlipSim<'_>, seen: &mut [Seen]) {
 }
 
 // The value that a gate hardly ever had.
-fn rare_value(gate: usize, seen: &[Seen]) -> Option<bool> {
+fn rare_value(gate: usize, seen: &[ValueCounts]) -> Option<bool> {
     let values = seen.get(gate)?;
     if values.ones.min(values.zeros) >= FEW_VECTORS {
         return None;

@@ -14,7 +14,7 @@ ghost use Rattle.class_refine.specs.Swaps.{AgreesAt, IsExchange, IsSwapIndex, Sa
 use crate::grounds::Grounds;
 use crate::swap_index::number_of;
 use account_core::{Ban, Evidence, Fact};
-use ban_book::{Told, mismatch_ban, moved_value, two_inputs, unlike_of};
+use ban_book::{DecidedClaim, mismatch_ban, moved_value, two_inputs, unlike_of};
 use circuits::{Pair, PortKind};
 use indexmap::IndexMap;
 use net_core::Side;
@@ -87,7 +87,7 @@ fn ban_at(
 }
 
 // What a fact tells of its claim.
-fn told_at(facts: &[Fact], number: usize) -> Told
+fn told_at(facts: &[Fact], number: usize) -> DecidedClaim
     requires below { number < length facts.now }
     ensures told { IsToldAs (map decided_by facts.now) (fact_at (given_of (map decided_by facts.now) []) number).claim
         result.holds result.number }
@@ -97,7 +97,7 @@ fn told_at(facts: &[Fact], number: usize) -> Told
         Evidence::Fails(_) => false,
         Evidence::Holds(_) => true,
     };
-    Told {
+    DecidedClaim {
         holds,
         number: number as u64,
     }
@@ -140,7 +140,7 @@ fn otherwise(
     swaps: &IndexMap<Claim, u64>,
     claim: Claim,
     holds: bool,
-) -> Option<Told>
+) -> Option<DecidedClaim>
     requires distinct { AllPairs (λ one other. one.claim ≢ other.claim) (map decided_by facts.now) }
     requires index { IsSwapIndex (map decided_by facts.now) swaps.now.entries }
     requires two { HasTwoInputs claim.shape }

@@ -1,7 +1,7 @@
 //! Files that surely can't be written, said before the search.
 
 use check_steps::{Command, command_asked};
-use refusal_words::Shown;
+use refusal_words::TerminalText;
 use std::fmt;
 
 /// Why a file can't be written.
@@ -30,7 +30,10 @@ pub struct Warning<'a> {
 impl fmt::Display for Warning<'_> {
     fn fmt<W: fmt::Write>(&self, f: &mut fmt::Formatter<W>) -> fmt::Result {
         let Warning { name, fault } = *self;
-        let (file, folder) = (Shown::name(name), Shown::name(folder_of(name)));
+        let (file, folder) = (
+            TerminalText::name(name),
+            TerminalText::name(folder_of(name)),
+        );
         match fault {
             FolderFault::NoFolder => write!(
                 f,

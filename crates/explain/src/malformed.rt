@@ -9,7 +9,7 @@ use crate::places::{line_around, place_of};
 use crate::remedies::Remedy;
 use check_steps::{File, ReadStop, read_file};
 use net_file::{NetFault, NetKind};
-use refusal_words::Shown;
+use refusal_words::TerminalText;
 use shelf_core::Shelf;
 use std::alloc::Global;
 
@@ -35,7 +35,7 @@ pub(crate) fn put_malformed<S: Shelf>(
 
 /// Says of a malformed netlist that can't be read again what its fault means.
 pub(crate) fn put_unread(name: &str, fault: NetFault, text: &mut String) -> Result<(), ReadStop> {
-    let (name, meaning) = (Shown::name(name), meaning_of_kind(fault.kind));
+    let (name, meaning) = (TerminalText::name(name), meaning_of_kind(fault.kind));
     let at = fault.at;
     Ok(writeln!(text, "{name}: byte {at}: {meaning}")?)
 }
@@ -48,10 +48,10 @@ fn put_fault(name: &str, bytes: &[u8], fault: NetFault, text: &mut String) -> Re
         put_unread(name, fault, text)?;
     } else {
         let (meaning, place) = (meaning_of_kind(fault.kind), place_of(bytes, at));
-        writeln!(text, "{}:{place}: {meaning}", Shown::name(name))?;
+        writeln!(text, "{}:{place}: {meaning}", TerminalText::name(name))?;
     }
     if shows_line(fault.kind, look, line) {
-        writeln!(text, "  {}", Shown(line))?;
+        writeln!(text, "  {}", TerminalText(line))?;
     }
     put_help(name, look, Remedy::of(fault.kind, bytes, line), text)
 }
@@ -76,7 +76,7 @@ fn put_help(
     remedy: Option<Remedy>,
     text: &mut String,
 ) -> Result<(), ReadStop> {
-    let name = Shown::name(name);
+    let name = TerminalText::name(name);
     if let Some(look) = look {
         writeln!(text, "{name}: {look}")?;
     }

@@ -44,13 +44,13 @@ held_asked held serves = held_then _ _ _ _ _ _ _ _ _ _ held (held_kept _ _ _ _ _
 
 -- what is lent may change, and the loans stay the same
 pub same_loans : {s : Lent} {known : Known} {ledger : Ledgered} {bans : List Ban} {vectors : Trials} → AreSameLoans s (record s { known = known; ledger = ledger; bans = bans; vectors = vectors })
-same_loans = record { oracle = refl; seen = refl; aids = refl; book = refl; ledger = refl }
+same_loans = record { oracle = refl; seen = refl; heuristics = refl; book = refl; ledger = refl }
 
 pub same_then : {old mid new : Lent} → AreSameLoans old mid → AreSameLoans mid new → AreSameLoans old new
 same_then one other = record {
   oracle = other.oracle ∙ one.oracle;
   seen = other.seen ∙ one.seen;
-  aids = other.aids ∙ one.aids;
+  heuristics = other.heuristics ∙ one.heuristics;
   book = other.book ∙ one.book;
   ledger = other.ledger ∙ one.ledger;
 }
@@ -61,7 +61,7 @@ asker_of s = record { known = s.known; ledger = s.ledger; oracle_name = s.oracle
 
 -- the asker was lent to a call
 pub same_asker : {s : Lent} {known : Known} {ledger : Ledgered} {oracle seen book : GName} {bans : List Ban} {vectors : Trials} → AreSame (asker_of s) (record { known = known; ledger = ledger; oracle_name = oracle; seen_name = seen; ledger_name = book }) → AreSameLoans s (record s { known = known; ledger = ledger; oracle_name = oracle; seen_name = seen; ledger_name = book; bans = bans; vectors = vectors })
-same_asker same = record { oracle = same.oracle; seen = same.seen; aids = refl; book = refl; ledger = same.ledger }
+same_asker same = record { oracle = same.oracle; seen = same.seen; heuristics = refl; book = refl; ledger = same.ledger }
 
 -- all pairs are open
 pub may_anew : {graphs : Graphs} {s : Lent} {d : Domained} → MayGoOn graphs s → AreTrials graphs.first s.vectors → IsTrail graphs s.bans d → d.entries ≡ [] → MayStep graphs s d

@@ -39,7 +39,7 @@ pub record Lent : Type 0 where
   pub vectors : Trials
   pub oracle_name : GName
   pub seen_name : GName
-  pub aids_name : GName
+  pub heuristics_name : GName
   pub book_name : GName
   pub ledger_name : GName
 
@@ -48,10 +48,10 @@ lent known s = record {
   known = known s.asker.oracle.now;
   ledger = s.asker.ledger.now;
   bans = s.book.now;
-  vectors = s.aids.now.trials;
+  vectors = s.heuristics.now.trials;
   oracle_name = s.asker.oracle.ghost_name;
   seen_name = s.asker.seen.ghost_name;
-  aids_name = s.aids.ghost_name;
+  heuristics_name = s.heuristics.ghost_name;
   book_name = s.book.ghost_name;
   ledger_name = s.asker.ledger.ghost_name;
 }
@@ -60,7 +60,7 @@ lent known s = record {
 pub record AreSameLoans (old new : Lent) : Type 0 where
   pub oracle : new.oracle_name ≡ old.oracle_name
   pub seen : new.seen_name ≡ old.seen_name
-  pub aids : new.aids_name ≡ old.aids_name
+  pub heuristics : new.heuristics_name ≡ old.heuristics_name
   pub book : new.book_name ≡ old.book_name
   pub ledger : new.ledger_name ≡ old.ledger_name
 

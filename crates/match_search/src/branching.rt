@@ -42,7 +42,7 @@ pub(crate) fn explore_rounds<O: Oracle>(
     ensures found { IfOk result (λ found. IfSome found (IsFoundBy graphs.now (lent O.known session.new))) }
 {
     let mut trail = PairTrail::new(session.asker.alloc, graphs)?;
-    session.aids.guide.begin(lines);
+    session.heuristics.guide.begin(lines);
     run_rounds(graphs, session, &mut trail, rounds)
 }
 
@@ -61,11 +61,14 @@ fn run_rounds<O: Oracle>(
         if let Some(found) = explore_round(graphs, session, trail, true)? {
             return Ok(Some(found));
         }
-        if session.aids.guide.is_full() {
+        if session.heuristics.guide.is_full() {
             return Ok(None);
         }
         start_over(&mut trail.domains, &mut trail.queue);
-        session.aids.guide.begin_round(trail.domains.pairs().len());
+        session
+            .heuristics
+            .guide
+            .begin_round(trail.domains.pairs().len());
     }
     Ok(None)
 }
@@ -113,7 +116,7 @@ fn explore_round<O: Oracle>(
 
 fn is_round_over<O: Oracle>(session: &Session<'_, O>) -> bool {
     let learned = session.learned();
-    session.aids.guide.is_round_over(learned)
+    session.heuristics.guide.is_round_over(learned)
 }
 
 // Goes one step ahead, and back after a conflict. None: the search isn't over, and less is left than before.
@@ -136,7 +139,7 @@ fn turn<O: Oracle>(
     };
     let before = session.book.bans().len();
     let dead = conflict.ban();
-    session.aids.guide.hurry(&conflict);
+    session.heuristics.guide.hurry(&conflict);
     let refusal = turn_back(
         session.asker.alloc,
         graphs,
@@ -145,8 +148,11 @@ fn turn<O: Oracle>(
         conflict,
         session.book,
     )?;
-    session.aids.guide.learn(session.book.bans(), before, dead);
-    session.aids.guide.forget(trail.domains.pairs().len());
+    session
+        .heuristics
+        .guide
+        .learn(session.book.bans(), before, dead);
+    session.heuristics.guide.forget(trail.domains.pairs().len());
     match refusal {
         None => Ok(None),
         Some(ban) => Ok(Some(Found::None(ban))),
@@ -179,10 +185,10 @@ fn go_on<O: Oracle>(
     ensures steps { Steps graphs.now (lent O.known session.old) (lent O.known session.new) domains.new result }
     ensures ahead { IfOk result (IsAhead graphs.now (lent O.known session.new) domains.old domains.new) }
 {
-    let Some(port) = next_port(session.asker.alloc, &session.aids.guide, domains)? else {
+    let Some(port) = next_port(session.asker.alloc, &session.heuristics.guide, domains)? else {
         return compare_held(graphs, session, domains);
     };
-    session.aids.guide.decide(port);
+    session.heuristics.guide.decide(port);
     match branch(domains, port)? {
         None => Ok(Ahead::Deeper),
         Some(conflict) => Ok(Ahead::Conflict(conflict)),

@@ -37,7 +37,7 @@ pub(crate) fn follow<O: Oracle>(
         return Ok(Some(conflict));
     }
     let learned = session.learned();
-    if session.aids.guide.has_had_its_share(learned) {
+    if session.heuristics.guide.has_had_its_share(learned) {
         return Ok(None);
     }
     let domains = &trail.domains;
@@ -63,7 +63,7 @@ fn try_held<O: Oracle>(
         graphs,
         &mut session.asker,
         domains.pairs(),
-        &session.aids.trials,
+        &session.heuristics.trials,
         session.book,
     )? {
         Some(ban) => Ok(Some(Conflict::Ban(ban))),
@@ -84,13 +84,13 @@ fn exchange_held<O: Oracle>(
     // assigned pairs are of ports that exist, and share none
     let _lawful = domains.entries();
     let held = domains.pairs();
-    for place in session.aids.guide.exchanged..held.len() {
-        session.aids.guide.exchanged = place;
+    for place in session.heuristics.guide.exchanged..held.len() {
+        session.heuristics.guide.exchanged = place;
         if let Some(ban) = exclude_by_swaps(graphs, session, held, held[place])? {
             return Ok(Some(Conflict::Ban(ban)));
         }
     }
-    session.aids.guide.exchanged = held.len();
+    session.heuristics.guide.exchanged = held.len();
     Ok(None)
 }
 
@@ -119,7 +119,7 @@ fn settle<O: Oracle>(
         }
         let more = ask_next(graphs, session, &mut trail.domains)?;
         let learned = session.learned();
-        if !more | session.aids.guide.has_had_its_share(learned) {
+        if !more | session.heuristics.guide.has_had_its_share(learned) {
             return Ok(None);
         }
     }
@@ -138,7 +138,7 @@ fn ask_next<O: Oracle>(
     ensures less { OnOk result (left domains.new ≤ left domains.old) }
 {
     let outputs = domains.ports(PortKind::Output);
-    let Some(output) = session.aids.guide.next_output(outputs) else {
+    let Some(output) = session.heuristics.guide.next_output(outputs) else {
         return ask_next_pair(graphs, session, domains);
     };
     ask_output(graphs, session, domains, output)?;
@@ -157,14 +157,14 @@ fn ask_next_pair<O: Oracle>(
     ensures steps { Steps graphs.now (lent O.known session.old) (lent O.known session.new) domains.new result }
     ensures less { OnOk result (left domains.new ≤ left domains.old) }
 {
-    let Some(pair) = next_held(domains, session.aids.guide.asked) else {
+    let Some(pair) = next_held(domains, session.heuristics.guide.asked) else {
         return Ok(false);
     };
     let more = ask_held(graphs, session, domains, pair)?;
     if more {
         return Ok(true);
     }
-    session.aids.guide.asked = session.aids.guide.asked.saturating_add(1);
+    session.heuristics.guide.asked = session.heuristics.guide.asked.saturating_add(1);
     delete_beside(graphs, session, domains, pair)?;
     Ok(true)
 }
@@ -188,7 +188,7 @@ fn delete_beside<O: Oracle>(
     ensures steps { Steps graphs.now (lent O.known session.old) (lent O.known session.new) domains.new result }
     ensures deletes { OnOk result (Deletes pair domains.old domains.new) }
 {
-    let again = session.aids.guide.compare(pair);
+    let again = session.heuristics.guide.compare(pair);
     let ways = ways_beside(&session.asker, domains, pair, again)?;
     delete_unlike(graphs, session, domains, pair, &ways)
 }

@@ -270,7 +270,7 @@ impl Classes {
         slack: Slack,
     ) {
         for (other, literal) in its.iter().enumerate() {
-            let near = !self.are_joined(place, other)
+            let near = self.left.get(place) != self.right.get(other)
                 && match second.get(*literal) {
                     Some(another) => profile.is_near(another, slack),
                     None => false,
@@ -279,10 +279,6 @@ impl Classes {
                 self.join(place, other);
             }
         }
-    }
-
-    fn are_joined(&self, place: usize, other: usize) -> bool {
-        self.left.get(place) == self.right.get(other)
     }
 
     fn join(&mut self, place: usize, other: usize) {

@@ -8,7 +8,7 @@ use crate::cover::{Cover, Way};
 use crate::exclusion::Exclusion;
 use crate::netlists::{Count, Netlists, Source};
 use crate::pieces::seek_in;
-use crate::shown::Shown;
+use crate::terminal_text::TerminalText;
 use account_core::{Ban, Step};
 use check_steps::{Match, ReadStop, Which, read_netlist};
 use circuits::PortKind;
@@ -90,7 +90,11 @@ impl fmt::Display for Ports<'_> {
         let Ports(source) = self;
         let inputs = count(source, PortKind::Input);
         let outputs = count(source, PortKind::Output);
-        write!(f, "{} has {inputs} and {outputs}", Shown::name(source.file))
+        write!(
+            f,
+            "{} has {inputs} and {outputs}",
+            TerminalText::name(source.file)
+        )
     }
 }
 

@@ -11,17 +11,17 @@ const HIDDEN: char = '?';
 /// The bytes of a name or of a line, without what a terminal could take for a command, and no longer than a terminal's
 /// line.
 #[derive(Clone, Copy)]
-pub struct Shown<'a>(pub &'a [u8]);
+pub struct TerminalText<'a>(pub &'a [u8]);
 
-impl<'a> Shown<'a> {
-    pub fn name(name: &'a str) -> Shown<'a> {
-        Shown(name.as_bytes())
+impl<'a> TerminalText<'a> {
+    pub fn name(name: &'a str) -> TerminalText<'a> {
+        TerminalText(name.as_bytes())
     }
 }
 
-impl fmt::Display for Shown<'_> {
+impl fmt::Display for TerminalText<'_> {
     fn fmt<W: fmt::Write>(&self, f: &mut fmt::Formatter<W>) -> fmt::Result {
-        let Shown(bytes) = self;
+        let TerminalText(bytes) = self;
         match str::from_utf8(bytes) {
             Ok(text) => show_text(text, f),
             Err(_) => show_bytes(bytes, f),

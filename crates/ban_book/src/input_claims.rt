@@ -5,7 +5,7 @@ ghost use Rattle.ban_book.specs.Rows.{says_both, says_one, told_by};
 
 /// The number of a claim's fact, and whether the claim holds.
 #[derive(Clone, Copy, Debug, Drop, PartialEq, Eq)]
-pub struct Told {
+pub struct DecidedClaim {
     pub number: u64,
     pub holds: bool,
 }
@@ -14,14 +14,14 @@ pub struct Told {
 /// never falls where the input goes down. The output depends on the input where one fails, and is binate in it where
 /// both fail.
 #[derive(Clone, Copy, Debug, Drop, PartialEq, Eq)]
-pub struct InputTold {
-    pub up: Told,
-    pub down: Told,
+pub struct InputClaims {
+    pub up: DecidedClaim,
+    pub down: DecidedClaim,
 }
 
-impl InputTold {
+impl InputClaims {
     /// What is told of the claim of the input with a value: `up` where it is false, and `down` where it is true.
-    pub fn with(self, value: bool) -> Told
+    pub fn with(self, value: bool) -> DecidedClaim
         ensures { result ≡ told_by value self }
     {
         if value { self.down } else { self.up }

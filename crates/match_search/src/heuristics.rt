@@ -9,33 +9,33 @@ use match_guess::Trials;
 use std::alloc::{AllocError, Global};
 
 /// What a search goes by: what guides it, and vectors that pairs are tried on.
-pub(crate) struct Aids {
+pub(crate) struct Heuristics {
     pub(crate) guide: Guide,
     pub(crate) trials: Trials,
 }
 
 // By hand, and so one call wherever a value ends: a derived drop is expanded there, field by field, and makes proofs
 // long.
-impl Drop for Aids {
+impl Drop for Heuristics {
     fn drop(self) {
-        let Aids {
+        let Heuristics {
             guide: _guide,
             trials: _trials,
         } = self;
     }
 }
 
-impl Aids {
+impl Heuristics {
     /// The state with which a search begins. Another seed draws other vectors.
     pub(crate) fn new(
         alloc: Global,
         graphs: &PairableGraphs<'_>,
         seed: u64,
-    ) -> Result<Aids, AllocError>
-        ensures { IfOk result (λ aids. AreTrials graphs.now.first aids.trials) }
+    ) -> Result<Heuristics, AllocError>
+        ensures { IfOk result (λ heuristics. AreTrials graphs.now.first heuristics.trials) }
     {
         let trials = Trials::new(alloc, graphs.first(), seed)?;
         let guide = Guide::new(alloc, graphs)?;
-        Ok(Aids { guide, trials })
+        Ok(Heuristics { guide, trials })
     }
 }

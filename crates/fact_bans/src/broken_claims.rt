@@ -13,7 +13,7 @@ const NOT_NOTED: u32 = u32::MAX;
 /// What vectors showed of two circuits: which claims of one input they break, and once these are looked for, which of
 /// two. Nothing rests on it: it says which claims are worth deciding.
 #[derive(Debug)]
-pub struct Seen {
+pub struct BrokenClaims {
     first: Vec<Vec<Flips>>,
     second: Vec<Vec<Flips>>,
     swaps: Option<TwoSwaps>,
@@ -27,9 +27,9 @@ pub struct Seen {
 
 // By hand, and so one call wherever a value ends: a derived drop is expanded there, field by field, and makes proofs
 // long.
-impl Drop for Seen {
+impl Drop for BrokenClaims {
     fn drop(self) {
-        let Seen {
+        let BrokenClaims {
             first: _first,
             second: _second,
             swaps: _swaps,
@@ -59,17 +59,21 @@ impl Drop for TwoSwaps {
     }
 }
 
-impl Seen {
+impl BrokenClaims {
     /// What vectors show of claims of one input, drawn by the seed, or all where these are few.
     ///
     /// # Errors
     ///
     /// Only when out of memory.
-    pub fn new(alloc: Global, graphs: &PairableGraphs<'_>, seed: u64) -> Result<Seen, AllocError> {
+    pub fn new(
+        alloc: Global,
+        graphs: &PairableGraphs<'_>,
+        seed: u64,
+    ) -> Result<BrokenClaims, AllocError> {
         let inputs = graphs.first().inputs() as usize;
         let outputs = graphs.first().outputs().len();
         let claims = inputs.saturating_mul(outputs).saturating_mul(4);
-        Ok(Seen {
+        Ok(BrokenClaims {
             first: sampled(alloc, graphs.first(), seed)?,
             second: sampled(alloc, graphs.second(), seed)?,
             swaps: None,
