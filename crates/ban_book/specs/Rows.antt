@@ -1,5 +1,5 @@
--- What is told of an output's claims of one input, by inputs (unateness and support of functions, as in textbooks of logic
--- synthesis; a match keeps both: Katebi and Markov, DATE 2010).
+-- An output's decided claims of one input, a row for each output (unateness and support of functions, as in textbooks of logic synthesis; a match keeps both:
+-- Katebi and Markov, DATE 2010).
 use Rattle.std.specs.Prelude.{◌≡◌, ◌≢◌, ℕ, ◌<◌, ◌||◌, ◌&&◌, Bool, true, false, not, if◌then◌else◌}
 use Rattle.std.specs.Prelude.{List, [], ◌∷◌, All, Contains, count_by, slice_index_or}
 use Rattle.std.specs.Bool.{beq}
@@ -23,12 +23,12 @@ use Rattle.ban_book.specs.Told.{IsToldAs}
 use Rattle.ban_book.specs.Listed.{tally_of}
 use Rattle.ban_book.specs.Mismatched.{mismatch_of, unlike_of}
 
--- Both claims of an input at an output are told of.
+-- These are the facts of both claims of an input at an output.
 pub record IsTold (facts : List Decided) (side : Side) (output input : ℕ) (told : InputClaims) : Type 0 where
   pub up : IsToldAs facts (record { side = side; output = output; shape = Up input }) told.up.holds told.up.number
   pub down : IsToldAs facts (record { side = side; output = output; shape = Down input }) told.down.holds told.down.number
 
--- An output's row: entry i tells of input i.
+-- An output's row: entry i has the claims of input i.
 pub record IsRow (facts : List Decided) (side : Side) (output : ℕ) (row : List InputClaims) : Type 0 where
   pub each : EachAt (IsTold facts side output) row
 
@@ -37,13 +37,13 @@ pub record AreRows (facts : List Decided) (pair : Pair) (one other : List InputC
   pub first : IsRow facts First pair.from one
   pub second : IsRow facts Second pair.to other
 
--- Among pairs there is one of outputs.
+-- One of the pairs is of outputs, and it is this one.
 pub record HasOneOutput (pairs : List Pair) (pair : Pair) : Type 0 where
   pub has : Contains pairs pair
   pub of_output : pair.kind ≡ Output
   pub only : All (λ other. other.kind ≡ Output → other ≡ pair) pairs
 
--- what is told of the claim of an input with a value
+-- the decided claim for a change of the input from a value
 abbrev pub told_by : Bool → InputClaims → DecidedClaim
 told_by false told = told.up
 told_by true told = told.down
@@ -55,7 +55,7 @@ no_told = record { up = record { number = 0; holds = true }; down = record { num
 abbrev pub told_at : List InputClaims → ℕ → Bool → DecidedClaim
 told_at row input value = told_by value (slice_index_or row input no_told)
 
--- whether one of an input's claims, or both, hold (or fail)
+-- whether one of an input's claims holds (or fails), and whether both do
 abbrev pub says_one : Bool → InputClaims → Bool
 says_one holds told = beq told.up.holds holds || beq told.down.holds holds
 
@@ -91,24 +91,24 @@ pub record AreEven (one other : List InputClaims) : Type 0 where
   pub failing : count_by (says_one false) one ≡ count_by (says_one false) other
   pub holding : count_by (says_one true) one ≡ count_by (says_one true) other
 
--- Both claims of an input of the first circuit are told as the ones that its pair and an output's carry them to.
+-- Each claim of an input of the first circuit is decided as its image under the input's pair and the output's.
 pub record AreAlike (output : Pair) (one other : List InputClaims) (input : Pair) : Type 0 where
   pub each : (value : Bool)
       → (told_at one input.from value).holds ≡ (told_at other input.to (moved_value output.flip input value)).holds
 
--- The claim of an input with a value and its image are told apart, by these facts.
+-- The claim for a change of an input from a value and its image are decided differently, by these facts.
 pub record IsApartAt (output : Pair) (one other : List InputClaims) (input : Pair) (value : Bool) (unlike : Unlike) : Type 0 where
   pub differ : (told_at one input.from value).holds ≢ (told_at other input.to (moved_value output.flip input value)).holds
   pub unlike_is : unlike ≡ unlike_of (told_at one input.from value).holds (told_at one input.from value).number
       (told_at other input.to (moved_value output.flip input value)).number
 
--- Some claim of an input's is told apart so.
+-- So it is for one of the input's two claims.
 pub record IsApart (output : Pair) (one other : List InputClaims) (found : Apart) : Type 0 where
   pub of_input : found.input.kind ≡ Input
   pub value : Bool
   pub is : IsApartAt output one other found.input value found.unlike
 
--- A mismatch's ban of an input's pair, among some, and an output's.
+-- The ban by a mismatch of an output's pair and an input's, which is one of these.
 pub record IsMismatchBan (pairs : List Pair) (output : Pair) (one other : List InputClaims) (ban : Ban) : Type 0 where
   pub found : Apart
   pub among : Contains pairs found.input

@@ -1,4 +1,4 @@
--- What the rows of two outputs show of pairs, whatever facts they tell of.
+-- What the rows of two outputs show of pairs.
 use Rattle.std.specs.Prelude.{List}
 use Rattle.circuits.specs.declared.port.Pair.{Pair}
 use Rattle.net_core.specs.Sides.{Graphs}

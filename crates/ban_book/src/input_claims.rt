@@ -1,17 +1,17 @@
-//! What facts say of claims.
+//! Decided claims, as rows have them.
 
 ghost use Rattle.std.specs.Prelude.{◌≡◌};
 ghost use Rattle.ban_book.specs.Rows.{says_both, says_one, told_by};
 
-/// The number of a claim's fact, and whether the claim holds.
+/// A decided claim: the number of its fact, and whether it holds.
 #[derive(Clone, Copy, Debug, Drop, PartialEq, Eq)]
 pub struct DecidedClaim {
     pub number: u64,
     pub holds: bool,
 }
 
-/// What facts say of an output's two claims of one input: that it never falls where the input goes up, and that it
-/// never falls where the input goes down. The output depends on the input where one fails, and is binate in it where
+/// An output's two claims of one input, decided: that the output never falls where the input goes up, and that it never
+/// falls where the input goes down. The output depends on the input where one of them fails, and is binate in it where
 /// both fail.
 #[derive(Clone, Copy, Debug, Drop, PartialEq, Eq)]
 pub struct InputClaims {
@@ -20,21 +20,21 @@ pub struct InputClaims {
 }
 
 impl InputClaims {
-    /// What is told of the claim of the input with a value: `up` where it is false, and `down` where it is true.
+    /// The claim for a change of the input from this value: `up` where it is false, and `down` where it is true.
     pub fn with(self, value: bool) -> DecidedClaim
         ensures { result ≡ told_by value self }
     {
         if value { self.down } else { self.up }
     }
 
-    // Whether one of the claims is told to hold, or to fail.
+    // Whether one of the claims holds, or fails where `holds` is false.
     pub(crate) fn says_one(self, holds: bool) -> bool
         ensures { result ≡ says_one holds self }
     {
         (self.up.holds == holds) | (self.down.holds == holds)
     }
 
-    // Whether both are.
+    // Whether both do.
     pub(crate) fn says_both(self, holds: bool) -> bool
         ensures { result ≡ says_both holds self }
     {

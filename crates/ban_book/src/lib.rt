@@ -1,4 +1,4 @@
-//! The bans that are held, and those that ports and rows of claims show.
+//! The bans that a search has made, and those that covers of ports and decided claims show.
 #![tactic(auto)]
 
 pub mod block;

@@ -1,4 +1,4 @@
-//! Bans by a claim of the first circuit that is decided otherwise than the one that pairs carry it to.
+//! Mismatches: a claim of the first circuit holds where its image under pairs fails, or the other way round.
 
 ghost use Rattle.std.specs.Prelude.{◌≡◌, IfOk};
 ghost use Rattle.net_core.specs.declared.graphs.Side.TheVariants as AnySide;
@@ -14,15 +14,15 @@ use items::Few;
 use net_core::Side;
 use std::alloc::{AllocError, Global};
 
-/// A claim of the first circuit, and that of the second which pairs carry it to.
+/// A claim of the first circuit, and its image under pairs, a claim of the second.
 #[derive(Clone, Copy, Debug, Drop)]
 pub struct Carried {
     pub claim: Claim,
     pub image: Claim,
 }
 
-/// The claim of an input with a value at an output of the first circuit, and the one that the pairs of both carry it
-/// to.
+/// The claim of the first circuit for a change of an input from a value at an output, and its image under the pairs of
+/// both.
 pub fn carry(input: Pair, output: Pair, value: bool) -> Carried
     ensures claim { result.claim ≡ record {
       side = AnySide.First;
@@ -49,15 +49,15 @@ pub fn carry(input: Pair, output: Pair, value: bool) -> Carried
     }
 }
 
-/// The numbers of two facts that tell pairs apart: a claim fails, and the one that the pairs carry it to holds, or that
-/// they carry to it.
+/// The numbers of two facts, of a claim and of its image under pairs, one of which fails and one holds: no match has
+/// these pairs.
 #[derive(Clone, Copy, Debug, Drop, PartialEq, Eq)]
 pub struct Unlike {
     pub fails: u64,
     pub holds: u64,
 }
 
-/// Which of two facts fails, and which one holds.
+/// Two decided claims, of which one fails and one holds, sorted by that.
 pub fn unlike_of(one: DecidedClaim, other: DecidedClaim) -> Unlike
     ensures { result ≡ unlike_of one.holds one.number other.number }
 {
@@ -74,7 +74,7 @@ pub fn unlike_of(one: DecidedClaim, other: DecidedClaim) -> Unlike
     }
 }
 
-/// The ban of pairs by two facts.
+/// The ban of these pairs by a mismatch of two facts.
 ///
 /// # Errors
 ///

@@ -1,4 +1,4 @@
-//! Bans of an input's pair and an output's, by rows that tell their claims apart.
+//! Mismatches of an input's pair and an output's, found in the rows of both outputs.
 
 ghost use Rattle.std.specs.Prelude.{◌≡◌, ◌<◌, All, Contains, IfNone, IfOk, IfSome, length};
 ghost use Rattle.circuits.specs.declared.port.PortKind.TheVariants.{Input};
@@ -12,15 +12,15 @@ use account_core::Ban;
 use circuits::{Pair, PortKind};
 use std::alloc::{AllocError, Global};
 
-/// The pair of an input, and the facts that tell it apart from an output's.
+/// The pair of an input that no match has beside an output's pair, and the facts that say so.
 #[derive(Clone, Copy, Debug, Drop)]
 pub(crate) struct Apart {
     pub(crate) input: Pair,
     pub(crate) unlike: Unlike,
 }
 
-/// The ban of an input's pair and an output's where a claim of the first circuit is told otherwise than the one that
-/// they carry it to, by the outputs' rows: of the first such input among some pairs.
+/// The ban of an output's pair and of the first input's pair among these where the rows show a mismatch: a claim of the
+/// first circuit holds and its image fails, or the other way round.
 pub(crate) fn mismatch_by_rows(
     alloc: Global,
     pairs: &[Pair],
@@ -41,7 +41,7 @@ pub(crate) fn mismatch_by_rows(
     Ok(Some(ban))
 }
 
-// The first of some pairs of inputs that the rows tell apart from an output's pair.
+// The first pair of an input among these for which the rows show a mismatch beside an output's pair.
 fn first_apart(
     pairs: &[Pair],
     output: Pair,
@@ -62,7 +62,7 @@ fn first_apart(
     None
 }
 
-// The facts that tell a pair, if it is of an input, apart from an output's pair.
+// The facts of a mismatch of a pair, if it is of an input, beside an output's pair.
 fn told_apart(
     input: Pair,
     output: Pair,
@@ -84,7 +84,7 @@ fn told_apart(
     Some(Apart { input, unlike })
 }
 
-// The facts of the input's claim with a value and its image, where one holds and the other one fails.
+// The facts of the claim for a change of the input from a value and of its image, where one holds and one fails.
 fn apart_with(
     input: Pair,
     output: Pair,
@@ -106,7 +106,7 @@ fn apart_with(
     Some(unlike_of(one, other))
 }
 
-// What a row tells of an input with a value.
+// The decided claim of a row for a change of an input from a value.
 fn told_at(row: &[InputClaims], input: u32, value: bool) -> DecidedClaim
     requires { input < length row.now }
     ensures { result ≡ told_at row.now input value }

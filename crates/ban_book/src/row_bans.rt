@@ -1,4 +1,4 @@
-//! The ban that the rows of two outputs show of pairs.
+//! Bans that the rows of two outputs show.
 
 ghost use Rattle.std.specs.Prelude.{◌≡◌, All, IfNone, IfOk, IfSome, length};
 ghost use Rattle.account_core.specs.Ports.{AreOrdered, IsKnown};
@@ -12,10 +12,10 @@ use account_core::{Ban, PairableGraphs};
 use circuits::Pair;
 use std::alloc::{AllocError, Global};
 
-/// A ban of some of these pairs, one of which is of outputs, that decided claims of one input of both outputs show,
-/// which are told by a row for each: that one output depends on more inputs than the other one, or is binate in more (a
-/// tally), or that a claim of the first circuit is decided otherwise than the one that the pairs carry it to (a
-/// mismatch). None exactly where no tally and no mismatch of such claims is valid for the pairs. No oracle is asked.
+/// A ban of some of these pairs, one of which is of outputs, by the decided claims of one input of both outputs: one
+/// output depends on more inputs than the other, or is binate in more (a tally); or a claim of the first circuit holds
+/// and its image under the pairs fails, or the other way round (a mismatch). None exactly where no tally and no
+/// mismatch of such claims is valid for the pairs. No oracle is asked.
 ///
 /// Tallies come first: their bans are of the outputs' pair alone.
 ///
