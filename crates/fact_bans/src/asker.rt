@@ -1,5 +1,3 @@
-//! Who has claims decided.
-
 use crate::broken_claims::BrokenClaims;
 use oracle_core::Oracle;
 use query_core::Ledger;

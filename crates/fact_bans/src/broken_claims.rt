@@ -1,5 +1,3 @@
-//! What vectors showed of two circuits.
-
 use crate::sampling::{Flips, sampled};
 use crate::swaps::{Swaps, blocks_for_swaps, swaps_seen};
 use account_core::{PairableGraphs, Tallied};

@@ -1,5 +1,3 @@
-//! The part of a question that a search is after.
-
 ghost use Rattle.std.specs.Prelude.{◌≡◌, IfSome};
 ghost use Rattle.trail_core.specs.Trails.{IsFree};
 

@@ -1,5 +1,3 @@
-//! The order in which variables are decided.
-
 ghost use Rattle.std.specs.Prelude.{ℕ, ◌≡◌, ◌^◌, ◌<◌, All, IfOk, IfSome, length};
 ghost use Rattle.cnf_core.specs.Clauses.{variable_of, AreKnown};
 ghost use Rattle.trail_core.specs.Trails.{IsFree};

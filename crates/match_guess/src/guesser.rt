@@ -1,5 +1,3 @@
-//! Matchings that may be a match.
-
 ghost use Rattle.std.specs.Prelude.{◌≡◌, IfOk, IfSome};
 ghost use Rattle.circuits.specs.Matches.{HavePorts};
 

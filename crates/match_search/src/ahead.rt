@@ -1,5 +1,3 @@
-//! What a step ahead comes to.
-
 use cnf_core::Log;
 use items::Items;
 use net_core::Matching;

@@ -1,5 +1,3 @@
-//! What the steps of a search are lent.
-
 use crate::heuristics::Heuristics;
 use ban_book::BanBook;
 use fact_bans::Asker;

@@ -1,5 +1,3 @@
-//! Conflicts: why the search can't go on.
-
 ghost use Rattle.std.specs.Prelude.{◌≡◌, IfOk};
 ghost use Rattle.pair_domains.specs.Trails.{held_in};
 ghost use Rattle.pair_search.specs.ConflictSets.{IsConflictSet};

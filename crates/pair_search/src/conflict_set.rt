@@ -1,5 +1,3 @@
-//! The assigned pairs of a conflict, which no match has all of, and covers that say so.
-
 ghost use Rattle.std.specs.Prelude.{◌≡◌, All, AllPairs, Contains, IfOk, OnOk};
 ghost use Rattle.ban_book.specs.Covering.{Covers};
 ghost use Rattle.account_core.specs.Held.{AreApart, AreHeld, IsPart};

@@ -1,5 +1,3 @@
-//! What an input reaches.
-
 ghost use Rattle.std.specs.Prelude.{◌≡◌, ◌+◌, ◌^◌, ◌<◌, All, OnOk, length};
 ghost use Rattle.circuits.specs.Literals.{signal_of};
 ghost use Rattle.net_core.specs.Graph.{AreInOrder};

@@ -1,5 +1,3 @@
-//! A circuit on 256 vectors at once.
-
 ghost use Rattle.std.specs.Prelude.{◌≡◌, ◌+◌, ◌<◌, length, vec_len};
 ghost use Rattle.circuits.specs.Netlists.{signals_of};
 ghost use Rattle.net_core.specs.Graph.{AreInOrder};

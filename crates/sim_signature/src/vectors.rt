@@ -1,5 +1,3 @@
-//! 512 vectors, a block of eight words for each input.
-
 ghost use Rattle.std.specs.Prelude.{◌≡◌, ◌<◌, ◌≤◌, ℕ, length, IfOk};
 ghost use Rattle.circuits.specs.Literals.{vector_of};
 ghost use Rattle.word_sim.specs.Columns.{word_of};
