@@ -11,8 +11,7 @@ pub struct State {
     pub outputs: Cells,
 }
 
-// By hand, and so one call wherever a value ends: a derived drop is expanded there, field by field, and makes proofs
-// long.
+// By hand, so that each exit of a function has one call for it (docs/IDIOMS.md).
 impl Drop for State {
     fn drop(self) {
         let State {

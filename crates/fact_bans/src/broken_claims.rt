@@ -23,8 +23,7 @@ pub struct BrokenClaims {
     outputs: usize,
 }
 
-// By hand, and so one call wherever a value ends: a derived drop is expanded there, field by field, and makes proofs
-// long.
+// By hand, so that each exit of a function has one call for it (docs/IDIOMS.md).
 impl Drop for BrokenClaims {
     fn drop(self) {
         let BrokenClaims {
@@ -46,8 +45,7 @@ struct TwoSwaps {
     second: Swaps,
 }
 
-// By hand, and so one call wherever a value ends: a derived drop is expanded there, field by field, and makes proofs
-// long.
+// By hand, so that each exit of a function has one call for it (docs/IDIOMS.md).
 impl Drop for TwoSwaps {
     fn drop(self) {
         let TwoSwaps {

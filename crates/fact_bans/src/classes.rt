@@ -23,8 +23,7 @@ pub(crate) struct Classes {
     pub(crate) to: Vec<bool>,
 }
 
-// By hand, and so one call wherever a value ends: a derived drop is expanded there, field by field, and makes proofs
-// long.
+// By hand, so that each exit of a function has one call for it (docs/IDIOMS.md).
 impl Drop for Classes {
     fn drop(self) {
         let Classes {

@@ -26,8 +26,7 @@ pub(crate) struct Focus {
     leading: Vec<SatLit>,
 }
 
-// By hand, and so one call wherever a value ends: a derived drop is expanded there, field by field, and makes proofs
-// long.
+// By hand, so that each exit of a function has one call for it (docs/IDIOMS.md).
 impl Drop for Focus {
     fn drop(self) {
         let Focus {

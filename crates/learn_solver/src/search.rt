@@ -31,8 +31,7 @@ pub(crate) struct Search {
     pub(crate) tools: Tools,
 }
 
-// By hand, and so one call wherever a value ends: a derived drop is expanded there, field by field, and makes proofs
-// long.
+// By hand, so that each exit of a function has one call for it (docs/IDIOMS.md).
 impl Drop for Search {
     fn drop(self) {
         let Search {
@@ -54,8 +53,7 @@ pub(crate) struct Tools {
     pub(crate) focus: Focus,
 }
 
-// By hand, and so one call wherever a value ends: a derived drop is expanded there, field by field, and makes proofs
-// long.
+// By hand, so that each exit of a function has one call for it (docs/IDIOMS.md).
 impl Drop for Tools {
     fn drop(self) {
         let Tools {

@@ -63,8 +63,7 @@ pub(crate) struct Circuit<'a> {
     pub(crate) is_faint: bool,
 }
 
-// By hand, and so one call wherever a value ends: a derived drop is expanded there, field by field, and makes proofs
-// long.
+// By hand, so that each exit of a function has one call for it (docs/IDIOMS.md).
 impl Drop for Circuit<'_> {
     fn drop(self) {
         let Circuit {

@@ -159,8 +159,7 @@ pub struct Guesser<'a> {
     effort: Effort,
 }
 
-// By hand, and so one call wherever a value ends: a derived drop is expanded there, field by field, and makes proofs
-// long.
+// By hand, so that each exit of a function has one call for it (docs/IDIOMS.md).
 impl Drop for Guesser<'_> {
     fn drop(self) {
         let Guesser {

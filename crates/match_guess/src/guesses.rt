@@ -37,8 +37,7 @@ pub struct Guesses<'a> {
     guesser: Option<Guesser<'a>>,
 }
 
-// By hand, and so one call wherever a value ends: a derived drop is expanded there, field by field, and makes proofs
-// long.
+// By hand, so that each exit of a function has one call for it (docs/IDIOMS.md).
 impl Drop for Guesses<'_> {
     fn drop(self) {
         let Guesses {

@@ -14,8 +14,7 @@ pub(crate) struct Heuristics {
     pub(crate) trials: Trials,
 }
 
-// By hand, and so one call wherever a value ends: a derived drop is expanded there, field by field, and makes proofs
-// long.
+// By hand, so that each exit of a function has one call for it (docs/IDIOMS.md).
 impl Drop for Heuristics {
     fn drop(self) {
         let Heuristics {

@@ -21,8 +21,7 @@ pub struct Cells {
     count: usize,
 }
 
-// By hand, and so one call wherever a value ends: a derived drop is expanded there, field by field, and makes proofs
-// long.
+// By hand, so that each exit of a function has one call for it (docs/IDIOMS.md).
 impl Drop for Cells {
     fn drop(self) {
         let Cells {

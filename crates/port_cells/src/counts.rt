@@ -52,8 +52,7 @@ pub struct Counts {
     pub of_outputs: Items<Items<Influence>>,
 }
 
-// By hand, and so one call wherever a value ends: a derived drop is expanded there, field by field, and makes proofs
-// long.
+// By hand, so that each exit of a function has one call for it (docs/IDIOMS.md).
 impl Drop for Counts {
     fn drop(self) {
         let Counts {
@@ -72,8 +71,7 @@ pub struct Tally {
     of_inputs: Vec<Vec<Influence>>,
 }
 
-// By hand, and so one call wherever a value ends: a derived drop is expanded there, field by field, and makes proofs
-// long.
+// By hand, so that each exit of a function has one call for it (docs/IDIOMS.md).
 impl Drop for Tally {
     fn drop(self) {
         let Tally {

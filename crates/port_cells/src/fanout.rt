@@ -22,8 +22,7 @@ pub(crate) struct Fanout {
     pub(crate) outputs: Items<u32>,
 }
 
-// By hand, and so one call wherever a value ends: a derived drop is expanded there, field by field, and makes proofs
-// long.
+// By hand, so that each exit of a function has one call for it (docs/IDIOMS.md).
 impl Drop for Fanout {
     fn drop(self) {
         let Fanout {

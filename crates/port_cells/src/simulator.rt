@@ -35,8 +35,7 @@ impl<'a> Model for FlipSim<'a> {
         × (vec_len a.flipped ≡ signals_of a.graph.now) };
 }
 
-// By hand, and so one call wherever a value ends: a derived drop is expanded there, field by field, and makes proofs
-// long.
+// By hand, so that each exit of a function has one call for it (docs/IDIOMS.md).
 impl Drop for FlipSim<'_> {
     fn drop(self) {
         let FlipSim {
