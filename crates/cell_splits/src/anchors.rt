@@ -239,7 +239,7 @@ fn class_of(cells: &[usize], port: u32) -> u64 {
     }
 }
 
-/// A vector of each circuit with one profile.
+/// A vector of each circuit, both with the same profile.
 #[derive(Clone, Copy, Drop)]
 struct Anchor {
     first: Place,
@@ -253,7 +253,8 @@ pub struct Starts<'a> {
     pub second: &'a [Items<Lanes>],
 }
 
-/// States in which the open signs are decided by vectors with one profile, those with the rarest profiles last.
+/// States in which the open signs are decided by a vector of each circuit, both with the same profile; those with the
+/// rarest profiles last.
 ///
 /// # Errors
 ///
@@ -271,7 +272,7 @@ pub fn anchored(
     states_by(alloc, state, &left, &right)
 }
 
-// States by the pairs of vectors with one profile, those with the rarest profiles last.
+// The states of all anchors, those with the rarest profiles last.
 fn states_by(
     alloc: Global,
     state: &State,
@@ -288,7 +289,8 @@ fn states_by(
     Ok(states)
 }
 
-// The state where a vector goes to the other one of its pair, or None where it can't.
+// The state in which open literals that are 1 on the first vector go to those that are 1 on the second. None where they
+// can't.
 fn state_by(
     alloc: Global,
     state: &State,
@@ -302,7 +304,7 @@ fn state_by(
     Ok(state.copy()?.with_inputs(inputs))
 }
 
-// Keys by which a literal that is open goes to one that has its bit.
+// Keys that tell open literals which are 1 on a vector from the others.
 fn anchor_keys(
     alloc: Global,
     cells: &[usize],
@@ -318,7 +320,7 @@ fn anchor_keys(
     Ok(keys)
 }
 
-// Pairs of vectors with one profile, those with the rarest profiles first.
+// Pairs of vectors with the same profile, those with the rarest profiles first.
 fn anchors(alloc: Global, left: &Profiles, right: &Profiles) -> Result<Vec<Anchor>, AllocError> {
     let mut classes = classes(alloc, left, right)?;
     classes.sort_unstable();

@@ -117,7 +117,7 @@ fn add_values(simulator: &FlipSim<'_>, seen: &mut [ValueCounts]) {
     }
 }
 
-// The value that a gate hardly ever had.
+// The value that a gate hardly ever had. None where it had both often enough.
 fn rare_value(gate: usize, seen: &[ValueCounts]) -> Option<bool> {
     let values = seen.get(gate)?;
     if values.ones.min(values.zeros) >= FEW_VECTORS {
@@ -126,9 +126,9 @@ fn rare_value(gate: usize, seen: &[ValueCounts]) -> Option<bool> {
     Some(values.ones < values.zeros)
 }
 
-// Inverts one input after another on each vector until a gate has a value on all of them, a bounded number. Each input
-// is where a path ends that begins at the gate and goes from wrong values on to those of operands by which they are
-// wrong, as in WalkSAT (Selman, Kautz and Cohen, 1994), and as values are justified where tests are made.
+// Looks for vectors on which a gate has a value: on each vector on which it hasn't, one input after another is
+// inverted, a bounded number. Each is the end of a path that begins at the gate and goes on from a wrong value to an
+// operand that makes it wrong, as in WalkSAT (Selman, Kautz and Cohen, 1994), and as test generation justifies values.
 fn walk(
     gate: usize,
     bit: bool,
@@ -210,7 +210,7 @@ fn put_path(signal: usize, lanes: Lanes, paths: &mut [Lanes]) {
     }
 }
 
-// The vectors on which the path goes through a signal, which are forgotten.
+// The vectors on which the path goes through a signal. The signal has none afterwards.
 fn take_path(signal: usize, paths: &mut [Lanes]) -> Lanes {
     if signal >= paths.len() {
         return replicated(false);

@@ -8,8 +8,8 @@ use std::alloc::{AllocError, Global};
 /// No number was noted.
 const NOT_NOTED: u32 = u32::MAX;
 
-/// What vectors showed of two circuits: which claims of one input they break, and once these are looked for, which of
-/// two. Nothing rests on it: it says which claims are worth deciding.
+/// The claims about two circuits that vectors were seen to break: those of one input, and once they are looked for
+/// those of two. Nothing rests on it: it says which claims are worth deciding.
 #[derive(Debug)]
 pub struct BrokenClaims {
     first: Vec<Vec<Flips>>,
@@ -92,7 +92,7 @@ impl BrokenClaims {
         Ok(())
     }
 
-    /// What is known of the inputs of an output of a circuit.
+    /// What vectors show of each input at an output of a circuit.
     pub(crate) fn row(&self, side: Side, output: u32) -> &[Flips] {
         let rows = match side {
             Side::First => &self.first,
@@ -131,8 +131,8 @@ impl BrokenClaims {
         side.is_broken(claim.output, claim.shape)
     }
 
-    /// Whether a claim of two inputs holds as far as is seen since the output is unate in both: it doesn't fall where
-    /// the one changes, nor where the other one does.
+    /// Whether a claim of two inputs holds by unateness, as far as vectors show: the output falls neither where the one
+    /// input changes nor where the other one does.
     pub(crate) fn is_by_unateness(&self, claim: Claim) -> bool {
         let Shape::Swap { i, j, a, b } = claim.shape else {
             return false;

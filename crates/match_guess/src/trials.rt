@@ -80,8 +80,8 @@ impl Trials {
         Ok(())
     }
 
-    /// An output's pair among those that are assigned, and one of the vectors, on which the partner is said to be wrong
-    /// whatever the inputs have that aren't paired.
+    /// The pair of an output among the assigned ones, and one of the vectors, on which the partner has the wrong value
+    /// whatever the unpaired inputs have.
     pub fn suspect(
         &self,
         alloc: Global,
@@ -104,7 +104,7 @@ impl Trials {
         Ok(None)
     }
 
-    // One on the 512 vectors of eight words.
+    // The same for the 512 vectors of eight words.
     fn suspect_in(
         &self,
         alloc: Global,

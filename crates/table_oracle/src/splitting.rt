@@ -236,7 +236,7 @@ impl<'a> Splitting<'a> {
         Some(self.base.count() + place)
     }
 
-    /// The number of a clause of the query that has literals of this one alone.
+    /// The number of a clause of the query all of whose literals are in this one.
     fn covering_own(&self, clause: &[SatLit]) -> Option<u64>
         ensures found { IfSome result
             (IsCovering (query_clauses self.now.base.graphs self.now.base.query) clause.now) }
@@ -252,7 +252,7 @@ impl<'a> Splitting<'a> {
     }
 }
 
-/// The place of a line that has literals of this clause alone.
+/// The place of a line all of whose literals are in this clause.
 fn covering_line(lines: &[LogLine], clause: &[SatLit]) -> Option<u64>
     ensures found { IfSome result (IsCovering (map (λ line. line.clause) lines.now) clause.now) }
     ensures none { IfNone result (IsNew (map (λ line. line.clause) lines.now) clause.now) }

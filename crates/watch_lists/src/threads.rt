@@ -6,8 +6,8 @@ ghost use Rattle.watch_lists.specs.Threads.{AreAlike, ArePut, AreThreaded, IsAtt
 use cnf_core::SatLit;
 use std::alloc::{AllocError, Global};
 
-/// One of the two watches of a clause: the literal that it watches, and the next watch in the list of that literal. The
-/// last one's next is of no use.
+/// One of the two watches of a clause: the literal that it watches, and the next watch in the list of that literal,
+/// which means nothing where this is the last one.
 #[derive(Clone, Copy)]
 pub(crate) struct ThreadedWatch {
     pub(crate) literal: SatLit,
