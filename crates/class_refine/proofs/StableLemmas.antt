@@ -44,7 +44,7 @@ module _ (g : Grounds) (bans more : List Ban) (before after : Domained) (may : M
     ports = left;
   }
 
--- the ban of a conflict of held pairs is within them
+-- the ban of a conflict of assigned pairs is within them
 pub covers_conflict : (bans : List Ban) (pairs : List Pair) (conflict : ConflictSet) → IsConflictSet bans pairs conflict → Covers bans pairs conflict.ban
 covers_conflict bans pairs conflict is = record {
   held = is.covers.held;

@@ -21,7 +21,8 @@ use oracle_core::Oracle;
 use pair_search::is_open;
 use std::alloc::{AllocError, Global};
 
-/// A port of the other kind, and what vectors break of the claims of it and an assigned pair's port (`BrokenClaims::broken`).
+/// A port of the other kind, and what vectors break of the claims of it and an assigned pair's port
+/// (`BrokenClaims::broken`).
 #[derive(Clone, Copy)]
 struct Beside {
     port: u32,

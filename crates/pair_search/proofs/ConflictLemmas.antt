@@ -65,7 +65,7 @@ known_of graphs n m pair fit is = record {
   to = omega (arith, is.to, second_ports graphs n m pair.kind fit);
 }
 
--- Some of the held pairs, among them the first of others.
+-- Some of the assigned pairs, among them the first of others.
 pub record IsAdding (held now first : List Pair) : Type 0 where
   pub part : IsPart held now
   pub among : All (Contains now) first
