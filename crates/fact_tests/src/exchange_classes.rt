@@ -18,7 +18,7 @@ use std::alloc::{AllocError, Global};
 /// Inputs of a support, sorted into classes: of one class any two may be exchanged, of two classes none. So n inputs of
 /// one class take n - 1 tests, each of an input with one of the class, and not one for each two inputs.
 #[derive(Drop)]
-pub(crate) struct Sorted {
+pub(crate) struct ExchangeClasses {
     pub classes: Items<Class>,
     /// Where each input of the support belongs, in the order of the support.
     pub places: Items<Place>,
@@ -30,12 +30,12 @@ pub(crate) struct Class {
     /// The least of them, and how the output depends on it.
     pub first: (u32, Unate),
     /// What is known of the others, where there are some.
-    pub others: Option<Others>,
+    pub others: Option<OtherInputs>,
 }
 
 /// The inputs of a class beside its first one.
 #[derive(Clone, Copy, Drop)]
-pub(crate) struct Others {
+pub(crate) struct OtherInputs {
     /// The greatest of them, with which the next input is tried: inputs that follow one another are often side by side
     /// in the circuit, and what is asked of such inputs is answered sooner.
     pub last: (u32, Unate),
@@ -56,11 +56,11 @@ pub(crate) struct Place {
 
 /// The class to which the next input belongs.
 #[derive(Clone, Copy, Drop)]
-pub(crate) struct Found {
+pub(crate) struct FoundClass {
     pub number: usize,
     pub first: (u32, Unate),
     /// What is known of the others, of which the input is the last one.
-    pub others: Others,
+    pub others: OtherInputs,
 }
 
 /// What is tried first with the next input. No answer depends on it.
@@ -80,7 +80,7 @@ pub(crate) fn sort<O: Oracle>(
     support: &[(u32, Unate)],
     oracle: &mut O,
     ledger: &mut Ledger,
-) -> Result<Sorted, Stop>
+) -> Result<ExchangeClasses, Stop>
     requires may { MayAsk output.now.graphs.now (O.known oracle.old) ledger.old }
     requires output { IsOutput output.now }
     requires support { ListsSupport (inputs_in output.now.graphs.now)
@@ -89,7 +89,7 @@ pub(crate) fn sort<O: Oracle>(
     ensures sorts { IfOk result (Sorts (inputs_in output.now.graphs.now)
         (function_at output.now.graphs.now output.now.number) support.now (length support.now)) }
 {
-    let mut sorted = Sorted {
+    let mut sorted = ExchangeClasses {
         classes: Items::new(alloc),
         places: Items::new(alloc),
     };
@@ -102,7 +102,7 @@ fn add_all<O: Oracle>(
     alloc: Global,
     output: &FirstOutput<'_>,
     support: &[(u32, Unate)],
-    sorted: &mut Sorted,
+    sorted: &mut ExchangeClasses,
     oracle: &mut O,
     ledger: &mut Ledger,
 ) -> Result<(), Stop>
@@ -131,7 +131,7 @@ fn add<O: Oracle>(
     alloc: Global,
     output: &FirstOutput<'_>,
     entry: (u32, Unate),
-    sorted: &mut Sorted,
+    sorted: &mut ExchangeClasses,
     tries: &mut Tries,
     oracle: &mut O,
     ledger: &mut Ledger,
@@ -153,7 +153,11 @@ fn add<O: Oracle>(
 }
 
 /// Puts the next input into the class that was found, else into a new one. Answers where it belongs.
-fn put(entry: (u32, Unate), found: Option<Found>, sorted: &mut Sorted) -> Result<Place, AllocError>
+fn put(
+    entry: (u32, Unate),
+    found: Option<FoundClass>,
+    sorted: &mut ExchangeClasses,
+) -> Result<Place, AllocError>
     requires found { IfSome found (λ found. found.number < length sorted.old.classes) }
     ensures classes { OnOk result (sorted.new.classes ≡ classes_with entry found sorted.old.classes) }
     ensures places { OnOk result (sorted.new.places ≡ sorted.old.places ++ place_in found sorted.old.classes ∷ []) }
@@ -166,7 +170,7 @@ fn put(entry: (u32, Unate), found: Option<Found>, sorted: &mut Sorted) -> Result
 /// The same for the classes alone.
 fn put_class(
     entry: (u32, Unate),
-    found: Option<Found>,
+    found: Option<FoundClass>,
     classes: &mut Items<Class>,
 ) -> Result<Place, AllocError>
     requires found { IfSome found (λ found. found.number < length classes.old) }
@@ -175,7 +179,7 @@ fn put_class(
 {
     match found {
         Some(found) => {
-            let Found {
+            let FoundClass {
                 number,
                 first,
                 others,
@@ -214,7 +218,7 @@ fn find<O: Oracle>(
     tries: &mut Tries,
     oracle: &mut O,
     ledger: &mut Ledger,
-) -> Result<Option<Found>, Stop>
+) -> Result<Option<FoundClass>, Stop>
     requires may { MayAsk output.now.graphs.now (O.known oracle.old) ledger.old }
     requires output { IsOutput output.now }
     requires entry { IsEntry (inputs_in output.now.graphs.now)
@@ -250,7 +254,7 @@ fn find_among<O: Oracle>(
     start: &mut bool,
     oracle: &mut O,
     ledger: &mut Ledger,
-) -> Result<Option<Found>, Stop>
+) -> Result<Option<FoundClass>, Stop>
     requires may { MayAsk output.now.graphs.now (O.known oracle.old) ledger.old }
     requires output { IsOutput output.now }
     requires entry { IsEntry (inputs_in output.now.graphs.now)
@@ -281,7 +285,7 @@ fn try_class<O: Oracle>(
     start: &mut bool,
     oracle: &mut O,
     ledger: &mut Ledger,
-) -> Result<Option<Found>, Stop>
+) -> Result<Option<FoundClass>, Stop>
     requires may { MayAsk output.now.graphs.now (O.known oracle.old) ledger.old }
     requires output { IsOutput output.now }
     requires entry { IsEntry (inputs_in output.now.graphs.now)
@@ -301,11 +305,11 @@ fn try_class<O: Oracle>(
 }
 
 /// What was found by a class's others, once the input is the last of them.
-fn found_by(number: usize, class: Class, others: Option<Others>) -> Option<Found>
+fn found_by(number: usize, class: Class, others: Option<OtherInputs>) -> Option<FoundClass>
     ensures { result ≡ found_by number class others }
 {
     let others = others?;
-    Some(Found {
+    Some(FoundClass {
         number,
         first: class.first,
         others,
@@ -321,7 +325,7 @@ fn join<O: Oracle>(
     start: &mut bool,
     oracle: &mut O,
     ledger: &mut Ledger,
-) -> Result<Option<Others>, Stop>
+) -> Result<Option<OtherInputs>, Stop>
     requires may { MayAsk output.now.graphs.now (O.known oracle.old) ledger.old }
     requires output { IsOutput output.now }
     requires entry { IsEntry (inputs_in output.now.graphs.now)
@@ -347,7 +351,7 @@ fn pair_up<O: Oracle>(
     start: &mut bool,
     oracle: &mut O,
     ledger: &mut Ledger,
-) -> Result<Option<Others>, Stop>
+) -> Result<Option<OtherInputs>, Stop>
     requires may { MayAsk output.now.graphs.now (O.known oracle.old) ledger.old }
     requires output { IsOutput output.now }
     requires order { first.0 < entry.0 }
@@ -365,13 +369,13 @@ fn pair_up<O: Oracle>(
 }
 
 /// The second input of a class, by whether it and the first one are symmetric, and whether they are skew symmetric.
-fn second_by(entry: (u32, Unate), symmetric: bool, skew: bool) -> Option<Others>
+fn second_by(entry: (u32, Unate), symmetric: bool, skew: bool) -> Option<OtherInputs>
     ensures { result ≡ second_by entry symmetric skew }
 {
     if !symmetric & !skew {
         return None;
     }
-    Some(Others {
+    Some(OtherInputs {
         last: entry,
         inverted: !symmetric,
         both: symmetric & skew,
@@ -382,12 +386,12 @@ fn second_by(entry: (u32, Unate), symmetric: bool, skew: bool) -> Option<Others>
 fn follow<O: Oracle>(
     alloc: Global,
     output: &FirstOutput<'_>,
-    others: Others,
+    others: OtherInputs,
     entry: (u32, Unate),
     start: &mut bool,
     oracle: &mut O,
     ledger: &mut Ledger,
-) -> Result<Option<Others>, Stop>
+) -> Result<Option<OtherInputs>, Stop>
     requires may { MayAsk output.now.graphs.now (O.known oracle.old) ledger.old }
     requires output { IsOutput output.now }
     requires order { others.last.0 < entry.0 }
@@ -404,11 +408,11 @@ fn follow<O: Oracle>(
 }
 
 /// The others of a class with an input more, which may be exchanged with the last one in this way.
-fn next_by(others: Others, entry: (u32, Unate), way: Option<bool>) -> Option<Others>
+fn next_by(others: OtherInputs, entry: (u32, Unate), way: Option<bool>) -> Option<OtherInputs>
     ensures { result ≡ next_by others entry way }
 {
     let inverted = way?;
-    Some(Others {
+    Some(OtherInputs {
         last: entry,
         inverted: others.inverted ^ inverted,
         both: others.both,

@@ -6,7 +6,7 @@ ghost use Rattle.claim_core.specs.Rows.{ListsPairs, ListsSupport};
 ghost use Rattle.fact_tests.specs.Exchanges.{AreClasses, IsPlace, Sorts, both_by, sym_by};
 ghost use Rattle.fact_tests.specs.Outputs.{IsOutput, IsSymmetry, MayAsk, function_at, input_at, inputs_in, pair_of};
 
-use crate::exchange_classes::{Class, Others, Place, Sorted, sort};
+use crate::exchange_classes::{Class, ExchangeClasses, OtherInputs, Place, sort};
 use crate::first_output::FirstOutput;
 use claim_core::{Sym, Unate};
 use cnf_core::Stop;
@@ -40,7 +40,7 @@ fn pairs_in(
     alloc: Global,
     output: &FirstOutput<'_>,
     support: &[(u32, Unate)],
-    sorted: &Sorted,
+    sorted: &ExchangeClasses,
 ) -> Result<Items<(u32, u32, Sym)>, AllocError>
     requires support { ListsSupport (inputs_in output.now.graphs.now)
         (function_at output.now.graphs.now output.now.number) 0 (inputs_in output.now.graphs.now) support.now }
@@ -60,7 +60,7 @@ fn pairs_in(
 fn add_pairs(
     output: &FirstOutput<'_>,
     support: &[(u32, Unate)],
-    sorted: &Sorted,
+    sorted: &ExchangeClasses,
     place: usize,
     pairs: &mut Items<(u32, u32, Sym)>,
 ) -> Result<(), AllocError>
@@ -116,7 +116,7 @@ fn sym_of(classes: &[Class], one: Place, other: Place) -> Option<Sym>
 }
 
 /// Whether any two inputs of a class may be exchanged both ways.
-fn is_both(others: Option<Others>) -> bool
+fn is_both(others: Option<OtherInputs>) -> bool
     ensures { result ≡ both_by others }
 {
     match others {
