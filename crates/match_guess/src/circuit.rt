@@ -79,8 +79,8 @@ impl Drop for Circuit<'_> {
 pub(crate) type Blocks = Items<Items<Lanes>>;
 
 impl<'a> Circuit<'a> {
-    /// Counts on a sample's vectors. Where these leave some inputs faint, also blocks of vectors on which gates have
-    /// rare values.
+    /// Counts the circuit on a sample's vectors. The blocks are of vectors on which gates have rare values: none,
+    /// unless the sample leaves inputs faint.
     pub(crate) fn new(
         alloc: Global,
         simulator: FlipSim<'a>,

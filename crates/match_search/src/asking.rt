@@ -98,7 +98,7 @@ fn ask_two<O: Oracle>(
     mismatch(graphs, &mut session.asker, input, output, session.book)
 }
 
-/// An input's pair and an output's, of two that are of different kinds.
+/// Of two pairs of different kinds the input's, and the output's. None where they are of one kind.
 pub(crate) fn input_and_output(pair: Pair, other: Pair) -> Option<(Pair, Pair)>
     ensures { IfSome result (AreOfBothKinds pair other) }
 {

@@ -100,7 +100,7 @@ pub fn conflict_set_of_ban(
     Ok(ConflictSet { pairs, ban: number })
 }
 
-// Adds assigned pairs to some of them.
+// Adds assigned pairs to the needed ones.
 fn add_all(needed: &mut Vec<Pair>, held: &[Pair], pairs: &[Pair]) -> Result<(), AllocError>
     requires part { IsPart held.now needed.old.items }
     requires apart { AllPairs AreApart held.now }
