@@ -255,10 +255,6 @@ pub struct Starts<'a> {
 
 /// States in which the open signs are decided by a vector of each circuit, both with the same profile; those with the
 /// rarest profiles last.
-///
-/// # Errors
-///
-/// Only when out of memory.
 pub fn anchored(
     alloc: Global,
     state: &State,

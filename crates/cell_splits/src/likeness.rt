@@ -224,10 +224,6 @@ impl Drop for Likeness {
 impl Likeness {
     /// Compares the inputs that aren't alone in their cells, by what gates do on drawn vectors that are constant on
     /// cells.
-    ///
-    /// # Errors
-    ///
-    /// Only when out of memory.
     pub fn new(
         alloc: Global,
         state: &State,

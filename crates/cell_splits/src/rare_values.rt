@@ -32,10 +32,6 @@ const MOST_WORDS: u64 = 1 << 24;
 
 /// Blocks of 256 vectors, a column for each input, on most of which a gate has a value that it has on hardly any of
 /// some thousand drawn vectors. Few gates that have such a value are tried, those nearest to the outputs first.
-///
-/// # Errors
-///
-/// Only when out of memory.
 pub fn rare_blocks(
     alloc: Global,
     simulator: &mut FlipSim<'_>,

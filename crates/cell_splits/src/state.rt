@@ -43,10 +43,6 @@ impl State {
     }
 
     /// Whether some inputs whose signs are known share a cell.
-    ///
-    /// # Errors
-    ///
-    /// Only when out of memory.
     pub fn has_shared(&self, alloc: Global) -> Result<bool, AllocError> {
         let sizes = self.inputs.sizes(alloc)?;
         for (literal, cell) in self.inputs.of(Side::First).iter().enumerate() {

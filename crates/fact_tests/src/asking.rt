@@ -88,8 +88,7 @@ pub(crate) fn by_structure(
 /// side.
 fn line_of_outputs(alloc: Global, gates: u64) -> Result<LogLine, AllocError>
     requires { gates < 2 ^ 32 }
-    ensures { IfOk result (λ line. line
-        ≡ record { clause = []; hints = (1 + 6 * gates) ∷ (1 + 6 * gates + 1) ∷ [] }) }
+    ensures { IfOk result (λ line. line ≡ record { clause = []; hints = (1 + 6 * gates) ∷ (1 + 6 * gates + 1) ∷ [] }) }
 {
     let first = 1 + 6 * gates;
     let hints = Items::from_slice(alloc, &[first, first + 1])?;

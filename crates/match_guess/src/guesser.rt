@@ -186,10 +186,6 @@ impl Drop for Guesser<'_> {
 
 impl<'a> Guesser<'a> {
     /// Counts of both circuits, on vectors drawn by a seed where all are too many.
-    ///
-    /// # Errors
-    ///
-    /// Only when out of memory.
     pub fn new(
         alloc: Global,
         graphs: &PairableGraphs<'a>,
@@ -235,10 +231,6 @@ impl<'a> Guesser<'a> {
 
     /// A matching whose outputs agree on all vectors that were tried. None where none is found within this effort,
     /// which bounds what all guesses take together.
-    ///
-    /// # Errors
-    ///
-    /// Only when out of memory.
     pub fn guess(
         &mut self,
         alloc: Global,

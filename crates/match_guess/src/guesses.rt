@@ -52,10 +52,6 @@ impl Drop for Guesses<'_> {
 
 impl<'a> Guesses<'a> {
     /// The candidates are tried on vectors; nothing is guessed yet.
-    ///
-    /// # Errors
-    ///
-    /// Only when out of memory.
     pub fn new(
         alloc: Global,
         graphs: &PairableGraphs<'a>,
@@ -111,10 +107,6 @@ impl<'a> Guesses<'a> {
 
     /// Keeps a vector of the first circuit's inputs on which a matching failed, so that matchings that are guessed
     /// agree on it.
-    ///
-    /// # Errors
-    ///
-    /// Only when out of memory.
     pub fn keep(&mut self, vector: &Bits) -> Result<(), AllocError> {
         match &mut self.guesser {
             Some(guesser) => guesser.keep(vector),
@@ -125,10 +117,6 @@ impl<'a> Guesses<'a> {
 
     /// The next matching, whose outputs agree on all vectors that were tried. None where there are no more candidates,
     /// and none is guessed within this effort, which bounds what all guesses take together.
-    ///
-    /// # Errors
-    ///
-    /// Only when out of memory.
     pub fn next(
         &mut self,
         alloc: Global,

@@ -1,4 +1,4 @@
-//! A matching that may be a match, without evidence.
+//! A matching that may be a match, without evidence. An error comes only when out of memory.
 #![tactic(auto)]
 
 mod choice;

@@ -133,8 +133,7 @@ fn search_in<'a, W: Watch>(
     requires new { IsNew ledger.old }
     ensures answer { IfOk result
         (λ solved. IsAnswered graphs.now (account_of (records_of solved.account)) solved.outcome) }
-    ensures spent { (learned : ℕ) → result ≡ Err (Spent learned)
-        → IsSpentOf graphs.now ledger.old.budget ledger.new }
+    ensures spent { (learned : ℕ) → result ≡ Err (Spent learned) → IsSpentOf graphs.now ledger.old.budget ledger.new }
 {
     let mut book = FactBook::watched(alloc, graphs.graphs(), hints.seed, watch)?;
     let mut bans = BanBook::new(alloc);

@@ -84,10 +84,6 @@ impl Drop for Tally {
 
 impl Tally {
     /// Nothing is counted yet of a circuit.
-    ///
-    /// # Errors
-    ///
-    /// Only when out of memory.
     pub fn new(alloc: Global, simulator: &FlipSim<'_>) -> Result<Tally, AllocError> {
         let graph = simulator.graph();
         let ones = vec![in alloc; 0u32; graph.outputs().len()]?;
@@ -117,10 +113,6 @@ impl Tally {
     }
 
     /// What was counted, without the outputs that no vector changes.
-    ///
-    /// # Errors
-    ///
-    /// Only when out of memory.
     pub fn counts(&self, alloc: Global) -> Result<Counts, AllocError> {
         let kept = changing(alloc, &self.of_inputs)?;
         let of_outputs = turned(alloc, &kept, self.ones.len())?;
@@ -134,10 +126,6 @@ impl Tally {
 
     /// In which directions outputs were seen to change with inputs: each count is 0 or 1, whatever the vectors were
     /// drawn by. How often outputs are true isn't told.
-    ///
-    /// # Errors
-    ///
-    /// Only when out of memory.
     pub fn signs(&self, alloc: Global) -> Result<Counts, AllocError> {
         let mut of_inputs = Items::new(alloc);
         for influences in self.of_inputs.iter() {

@@ -1,4 +1,4 @@
-//! Cells of ports that may correspond, and what splits them.
+//! Cells of ports that may correspond, and what splits them. An error comes only when out of memory.
 #![tactic(auto)]
 
 mod cells;

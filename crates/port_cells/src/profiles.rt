@@ -92,10 +92,6 @@ impl Entry {
 }
 
 /// The profiles of the inputs' literals, by the cells of the outputs' literals.
-///
-/// # Errors
-///
-/// Only when out of memory.
 pub fn input_profiles(
     alloc: Global,
     counts: &Counts,
@@ -109,10 +105,6 @@ pub fn input_profiles(
 }
 
 /// The profiles of the outputs' literals, by the cells of the inputs' literals.
-///
-/// # Errors
-///
-/// Only when out of memory.
 pub fn output_profiles(
     alloc: Global,
     counts: &Counts,
@@ -191,10 +183,6 @@ fn cell_after(cells: &[usize], literal: usize) -> usize {
 /// those that are near to one of these, and so on. Within a cell all are compared with all that they aren't joined with
 /// yet: near profiles needn't stand near each other in any order, a comparison ends at the first counts that are apart,
 /// and cells soon get small.
-///
-/// # Errors
-///
-/// Only when out of memory.
 pub fn near_keys(
     alloc: Global,
     cells: &Cells,

@@ -51,10 +51,6 @@ impl Drop for FlipSim<'_> {
 
 impl<'a> FlipSim<'a> {
     /// The circuit on vectors that are all 0 where its inputs are; `run` computes what the gates have.
-    ///
-    /// # Errors
-    ///
-    /// Only when out of memory.
     pub fn new(alloc: Global, graph: &'a Graph) -> Result<FlipSim<'a>, AllocError> {
         let signals = graph.signals();
         let fanouts = fanouts(alloc, graph)?;

@@ -238,10 +238,8 @@ impl<'a> Splitting<'a> {
 
     /// The number of a clause of the query all of whose literals are in this one.
     fn covering_own(&self, clause: &[SatLit]) -> Option<u64>
-        ensures found { IfSome result
-            (IsCovering (query_clauses self.now.base.graphs self.now.base.query) clause.now) }
-        ensures none { IfNone result
-            (IsNew (query_clauses self.now.base.graphs self.now.base.query) clause.now) }
+        ensures found { IfSome result (IsCovering (query_clauses self.now.base.graphs self.now.base.query) clause.now) }
+        ensures none { IfNone result (IsNew (query_clauses self.now.base.graphs self.now.base.query) clause.now) }
     {
         for id in 0..self.base.count() {
             if has_all(clause, self.base.clause(id).literals()) {
@@ -270,10 +268,8 @@ fn charge_last(lines: &[LogLine], ledger: &mut Ledger) -> Result<(), Stop>
     requires some { 0 < length lines.now }
     requires opened { (charging_of ledger.old).opened ≡ true }
     requires not_spent { ledger.old.spent ≡ false }
-    ensures charged { OnOk result
-        (IsCharged (charging_of ledger.old) (last_line lines.now) (charging_of ledger.new)) }
-    ensures refused { IfErr result
-        (IsRefused (charging_of ledger.old) (last_line lines.now) (charging_of ledger.new)) }
+    ensures charged { OnOk result (IsCharged (charging_of ledger.old) (last_line lines.now) (charging_of ledger.new)) }
+    ensures refused { IfErr result (IsRefused (charging_of ledger.old) (last_line lines.now) (charging_of ledger.new)) }
 {
     let line = &lines[lines.len() - 1];
     Charge::charge(ledger, line)
