@@ -228,7 +228,8 @@ fn note_swap(swaps: &mut TwoSwaps, claim: Claim) {
     }
 }
 
-// What vectors show of both circuits, as many of each, since claims are compared. Nothing where one is too large.
+// What vectors show of claims of two inputs, on as many vectors of each circuit, since claims are compared. Nothing
+// where a circuit is too large.
 fn two_swaps(
     alloc: Global,
     graphs: &PairableGraphs<'_>,

@@ -84,7 +84,7 @@ impl Partners {
         Ok(marks)
     }
 
-    // Parts the ports that have no way to each other any more.
+    // Takes partners apart that have no way to each other any more.
     fn part(&mut self, domains: &Domains) {
         for port in 0..self.count {
             let partner = at(&self.first, port);

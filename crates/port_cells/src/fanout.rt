@@ -7,7 +7,7 @@ use items::Items;
 use net_core::{Gate, Graph, Lit};
 use std::alloc::{AllocError, Global};
 
-/// As many gates as take about as long as comparing an output: each is two literals' lanes read and joined, and of an
+/// How many gates take about as long as comparing an output. Of a gate two literals' lanes are read and joined; of an
 /// output that is compared the bits are counted besides.
 const GATES_OF_OUTPUT: u64 = 4;
 
