@@ -58,6 +58,7 @@ fn cover_of(
     ensures step { IfOk result (λ ban. IsVector ban.step → ⊥) }
     ensures pairs { IfOk result (λ ban. ban.pairs ≡ pairs.now) }
 {
+    // both circuits have as many ports
     let _count = graphs.ports(block.kind);
     let pairs = Few::from_slice(alloc, pairs)?;
     let Block { kind, from, to } = block;
@@ -120,6 +121,7 @@ pub fn add_one(needed: &mut Vec<Pair>, held: &[Pair], pair: Pair) -> Result<(), 
     ensures added { OnOk result (Contains needed.new.items pair) }
     ensures only { OnOk result (All (λ other. Contains needed.old.items other ⊎ (other ≡ pair)) needed.new.items) }
 {
+    // contracts alone read the assigned pairs
     let _ = held;
     add(needed, pair)?;
     Ok(())

@@ -38,6 +38,7 @@ pub fn ban_by_facts(
     ensures shown { IfOk result (λ found. IfSome found (IsShownByRows graphs.now pairs.now pair first.now second.now)) }
     ensures none { IfOk result (λ found. IfNone found (HaveNothing graphs.now pairs.now pair first.now second.now)) }
 {
+    // the gates of a graph are in order, and its ports fewer than 2^32
     let _first = graphs.first();
     match tally_by_rows(alloc, pair, first, second)? {
         Some(ban) => Ok(Some(ban)),

@@ -73,6 +73,7 @@ pub(crate) fn by_structure(
     requires unspent { ledger.old.spent ≡ false }
     ensures { DecidesClaim graphs.now claim.now ledger.old ledger.new result }
 {
+    // the gates of a graph are in order, and its ports fewer than 2^32
     let _first = graphs.first();
     let _second = graphs.second();
     let query = of_claim(alloc, graphs, claim)?;

@@ -33,6 +33,7 @@ pub(crate) fn rows_by<'a, O: Oracle>(
     ensures serves { Serves (O.known oracle.old) (O.known oracle.new) ledger.old ledger.new result }
     ensures rows { IfOk result (λ rows. AreRows graphs.now.first rows.items) }
 {
+    // the facts of an oracle are of its circuits
     let _facts = oracle.facts();
     let _second = graphs.second();
     let mut rows = Vec::new(alloc);

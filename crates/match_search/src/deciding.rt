@@ -59,6 +59,7 @@ pub fn decide<O: Oracle>(
     ensures searches { Searches graphs.now (O.known oracle.old)
         (O.known oracle.new) ledger.old ledger.new book.new result }
 {
+    // the facts of an oracle are of its circuits
     let _facts = oracle.facts();
     let mut guesses = Guesses::new(alloc, graphs, hints)?;
     let effort = first_effort(graphs);

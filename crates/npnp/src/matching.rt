@@ -192,7 +192,9 @@ fn refused(
     requires empty { IsEmptyBan bans number }
     ensures { IfOk result (λ solved. IsAnswered graphs.now (account_of (records_of solved.account)) solved.outcome) }
 {
+    // both circuits have as many ports
     let _ports = graphs.graphs();
+    // the gates of a graph are in order, and its ports fewer than 2^32
     let _first = graphs.first();
     let _second = graphs.second();
     let Core {
@@ -211,6 +213,7 @@ fn other_ports(alloc: Global, graphs: &Graphs<'_>) -> Result<Solved, AllocError>
     requires { HaveAsMany graphs.now.first graphs.now.second → ⊥ }
     ensures { IfOk result (λ solved. IsAnswered graphs.now (account_of (records_of solved.account)) solved.outcome) }
 {
+    // the gates of a graph are in order, and its ports fewer than 2^32
     let _first = graphs.first();
     let _second = graphs.second();
     Ok(Solved {

@@ -125,6 +125,7 @@ impl Domains {
             Contains self.now.entries (record { pair = pair; fate = Fate.Deleted reason })) }
         ensures none { IfNone result (IsDeleted self.now.entries pair → ⊥) }
     {
+        // no pair has two entries
         let _lawful = self.entries();
         match self.fate(pair) {
             Some(Fate::Deleted(reason)) => Some(reason),

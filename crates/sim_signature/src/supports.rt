@@ -91,6 +91,7 @@ fn is_marked(blocks: &[Items<u64>], output: u32, input: u32) -> bool
 fn blocks_of(alloc: Global, graph: &Graph) -> Result<Vec<Items<u64>>, AllocError>
     ensures { IfOk result (λ blocks. AreBlocks graph.now blocks.items) }
 {
+    // the gates of a graph are in order, and its ports fewer than 2^32
     let _outputs = graph.outputs();
     let count = graph.inputs().div_ceil(INPUTS);
     let mut blocks = Vec::new(alloc);

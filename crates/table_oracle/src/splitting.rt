@@ -37,6 +37,7 @@ pub(crate) fn refute(
     ensures { Decides (λ log. IsRefutation (formula_of graphs.now query.now) log.lines)
         graphs.now query.now ledger.old ledger.new result }
 {
+    // the gates of a graph are in order, and its ports fewer than 2^32
     let _first = graphs.first();
     let _second = graphs.second();
     let splitting = Splitting {
