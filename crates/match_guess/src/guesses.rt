@@ -4,7 +4,8 @@ ghost use Rattle.std.specs.Prelude.{IfOk, IfSome};
 ghost use Rattle.circuits.specs.Matches.{HavePorts};
 ghost use Rattle.match_guess.specs.Trials.{AreTrials};
 
-use crate::guesser::{Effort, Guesser};
+use crate::effort::Effort;
+use crate::guesser::Guesser;
 use crate::likely::{Likely, copied, in_place, rated};
 use crate::trials::Trials;
 use account_core::PairableGraphs;
