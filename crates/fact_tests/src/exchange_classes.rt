@@ -3,7 +3,7 @@
 ghost use Rattle.std.specs.Prelude.{◌≡◌, ◌<◌, ◌++◌, ◌∷◌, [], IfOk, IfSome, OnOk, length};
 ghost use Rattle.oracle_core.specs.Oracles.{Serves};
 ghost use Rattle.claim_core.specs.Rows.{IsEntry, ListsSupport};
-ghost use Rattle.fact_tests.specs.Outputs.{IsOutput, MayAsk, function_at, inputs_in};
+ghost use Rattle.fact_tests.specs.Outputs.{IsOutput, MayAsk, arity, function};
 ghost use Rattle.fact_tests.specs.Exchanges.{Adds, AreClasses, IsClass, IsFound, IsJoined, IsNext, IsSecond, IsTried, IsWay, Sorts, classes_with, found_by, next_by, place_in, second_by, skew_by};
 
 use crate::first_output::FirstOutput;
@@ -83,11 +83,9 @@ pub(crate) fn sort<O: Oracle>(
 ) -> Result<ExchangeClasses, Stop>
     requires may { MayAsk output.now.graphs.now (O.known oracle.old) ledger.old }
     requires output { IsOutput output.now }
-    requires support { ListsSupport (inputs_in output.now.graphs.now)
-        (function_at output.now.graphs.now output.now.number) 0 (inputs_in output.now.graphs.now) support.now }
+    requires support { ListsSupport (arity output.now) (function output.now) 0 (arity output.now) support.now }
     ensures serves { Serves (O.known oracle.old) (O.known oracle.new) ledger.old ledger.new result }
-    ensures sorts { IfOk result (Sorts (inputs_in output.now.graphs.now)
-        (function_at output.now.graphs.now output.now.number) support.now (length support.now)) }
+    ensures sorts { IfOk result (Sorts (arity output.now) (function output.now) support.now (length support.now)) }
 {
     let mut sorted = ExchangeClasses {
         classes: Items::new(alloc),
@@ -108,13 +106,12 @@ fn add_all<O: Oracle>(
 ) -> Result<(), Stop>
     requires may { MayAsk output.now.graphs.now (O.known oracle.old) ledger.old }
     requires output { IsOutput output.now }
-    requires support { ListsSupport (inputs_in output.now.graphs.now)
-        (function_at output.now.graphs.now output.now.number) 0 (inputs_in output.now.graphs.now) support.now }
+    requires support { ListsSupport (arity output.now) (function output.now) 0 (arity output.now) support.now }
     requires classes { sorted.old.classes ≡ [] }
     requires places { sorted.old.places ≡ [] }
     ensures serves { Serves (O.known oracle.old) (O.known oracle.new) ledger.old ledger.new result }
-    ensures sorts { OnOk result (Sorts (inputs_in output.now.graphs.now)
-        (function_at output.now.graphs.now output.now.number) support.now (length support.now) sorted.new) }
+    ensures sorts { OnOk result
+        (Sorts (arity output.now) (function output.now) support.now (length support.now) sorted.new) }
 {
     let mut tries = Tries {
         start: false,
@@ -138,13 +135,10 @@ fn add<O: Oracle>(
 ) -> Result<(), Stop>
     requires may { MayAsk output.now.graphs.now (O.known oracle.old) ledger.old }
     requires output { IsOutput output.now }
-    requires entry { IsEntry (inputs_in output.now.graphs.now)
-        (function_at output.now.graphs.now output.now.number) entry }
-    requires classes { AreClasses (inputs_in output.now.graphs.now)
-        (function_at output.now.graphs.now output.now.number) entry.0 sorted.old.classes }
+    requires entry { IsEntry (arity output.now) (function output.now) entry }
+    requires classes { AreClasses (arity output.now) (function output.now) entry.0 sorted.old.classes }
     ensures serves { Serves (O.known oracle.old) (O.known oracle.new) ledger.old ledger.new result }
-    ensures adds { OnOk result (Adds (inputs_in output.now.graphs.now)
-        (function_at output.now.graphs.now output.now.number) entry.0 sorted.old sorted.new) }
+    ensures adds { OnOk result (Adds (arity output.now) (function output.now) entry.0 sorted.old sorted.new) }
 {
     let found = find(alloc, output, entry, &sorted.classes, tries, oracle, ledger)?;
     let place = put(entry, found, sorted)?;
@@ -221,13 +215,10 @@ fn find<O: Oracle>(
 ) -> Result<Option<FoundClass>, Stop>
     requires may { MayAsk output.now.graphs.now (O.known oracle.old) ledger.old }
     requires output { IsOutput output.now }
-    requires entry { IsEntry (inputs_in output.now.graphs.now)
-        (function_at output.now.graphs.now output.now.number) entry }
-    requires classes { AreClasses (inputs_in output.now.graphs.now)
-        (function_at output.now.graphs.now output.now.number) entry.0 classes.now }
+    requires entry { IsEntry (arity output.now) (function output.now) entry }
+    requires classes { AreClasses (arity output.now) (function output.now) entry.0 classes.now }
     ensures serves { Serves (O.known oracle.old) (O.known oracle.new) ledger.old ledger.new result }
-    ensures found { IfOk result (IsFound (inputs_in output.now.graphs.now)
-        (function_at output.now.graphs.now output.now.number) classes.now entry) }
+    ensures found { IfOk result (IsFound (arity output.now) (function output.now) classes.now entry) }
 {
     let start = &mut tries.start;
     match try_class(
@@ -257,13 +248,10 @@ fn find_among<O: Oracle>(
 ) -> Result<Option<FoundClass>, Stop>
     requires may { MayAsk output.now.graphs.now (O.known oracle.old) ledger.old }
     requires output { IsOutput output.now }
-    requires entry { IsEntry (inputs_in output.now.graphs.now)
-        (function_at output.now.graphs.now output.now.number) entry }
-    requires classes { AreClasses (inputs_in output.now.graphs.now)
-        (function_at output.now.graphs.now output.now.number) entry.0 classes.now }
+    requires entry { IsEntry (arity output.now) (function output.now) entry }
+    requires classes { AreClasses (arity output.now) (function output.now) entry.0 classes.now }
     ensures serves { Serves (O.known oracle.old) (O.known oracle.new) ledger.old ledger.new result }
-    ensures found { IfOk result (IsFound (inputs_in output.now.graphs.now)
-        (function_at output.now.graphs.now output.now.number) classes.now entry) }
+    ensures found { IfOk result (IsFound (arity output.now) (function output.now) classes.now entry) }
 {
     for number in 0..classes.len() {
         let found = try_class(alloc, output, entry, classes, number, start, oracle, ledger)?;
@@ -288,13 +276,10 @@ fn try_class<O: Oracle>(
 ) -> Result<Option<FoundClass>, Stop>
     requires may { MayAsk output.now.graphs.now (O.known oracle.old) ledger.old }
     requires output { IsOutput output.now }
-    requires entry { IsEntry (inputs_in output.now.graphs.now)
-        (function_at output.now.graphs.now output.now.number) entry }
-    requires classes { AreClasses (inputs_in output.now.graphs.now)
-        (function_at output.now.graphs.now output.now.number) entry.0 classes.now }
+    requires entry { IsEntry (arity output.now) (function output.now) entry }
+    requires classes { AreClasses (arity output.now) (function output.now) entry.0 classes.now }
     ensures serves { Serves (O.known oracle.old) (O.known oracle.new) ledger.old ledger.new result }
-    ensures tried { IfOk result (IsTried (inputs_in output.now.graphs.now)
-        (function_at output.now.graphs.now output.now.number) classes.now entry number) }
+    ensures tried { IfOk result (IsTried (arity output.now) (function output.now) classes.now entry number) }
 {
     if number >= classes.len() {
         return Ok(None);
@@ -328,13 +313,10 @@ fn join<O: Oracle>(
 ) -> Result<Option<OtherInputs>, Stop>
     requires may { MayAsk output.now.graphs.now (O.known oracle.old) ledger.old }
     requires output { IsOutput output.now }
-    requires entry { IsEntry (inputs_in output.now.graphs.now)
-        (function_at output.now.graphs.now output.now.number) entry }
-    requires class { IsClass (inputs_in output.now.graphs.now)
-        (function_at output.now.graphs.now output.now.number) entry.0 class }
+    requires entry { IsEntry (arity output.now) (function output.now) entry }
+    requires class { IsClass (arity output.now) (function output.now) entry.0 class }
     ensures serves { Serves (O.known oracle.old) (O.known oracle.new) ledger.old ledger.new result }
-    ensures joined { IfOk result (IsJoined (inputs_in output.now.graphs.now)
-        (function_at output.now.graphs.now output.now.number) class entry) }
+    ensures joined { IfOk result (IsJoined (arity output.now) (function output.now) class entry) }
 {
     match class.others {
         Some(others) => follow(alloc, output, others, entry, start, oracle, ledger),
@@ -355,13 +337,10 @@ fn pair_up<O: Oracle>(
     requires may { MayAsk output.now.graphs.now (O.known oracle.old) ledger.old }
     requires output { IsOutput output.now }
     requires order { first.0 < entry.0 }
-    requires first { IsEntry (inputs_in output.now.graphs.now)
-        (function_at output.now.graphs.now output.now.number) first }
-    requires entry { IsEntry (inputs_in output.now.graphs.now)
-        (function_at output.now.graphs.now output.now.number) entry }
+    requires first { IsEntry (arity output.now) (function output.now) first }
+    requires entry { IsEntry (arity output.now) (function output.now) entry }
     ensures serves { Serves (O.known oracle.old) (O.known oracle.new) ledger.old ledger.new result }
-    ensures pair { IfOk result (IsSecond (inputs_in output.now.graphs.now)
-        (function_at output.now.graphs.now output.now.number) first entry) }
+    ensures pair { IfOk result (IsSecond (arity output.now) (function output.now) first entry) }
 {
     let symmetric = are_alike(alloc, output, first, entry, false, start, oracle, ledger)?;
     let skew = are_alike(alloc, output, first, entry, true, start, oracle, ledger)?;
@@ -395,13 +374,10 @@ fn follow<O: Oracle>(
     requires may { MayAsk output.now.graphs.now (O.known oracle.old) ledger.old }
     requires output { IsOutput output.now }
     requires order { others.last.0 < entry.0 }
-    requires last { IsEntry (inputs_in output.now.graphs.now)
-        (function_at output.now.graphs.now output.now.number) others.last }
-    requires entry { IsEntry (inputs_in output.now.graphs.now)
-        (function_at output.now.graphs.now output.now.number) entry }
+    requires last { IsEntry (arity output.now) (function output.now) others.last }
+    requires entry { IsEntry (arity output.now) (function output.now) entry }
     ensures serves { Serves (O.known oracle.old) (O.known oracle.new) ledger.old ledger.new result }
-    ensures follows { IfOk result (IsNext (inputs_in output.now.graphs.now)
-        (function_at output.now.graphs.now output.now.number) others entry) }
+    ensures follows { IfOk result (IsNext (arity output.now) (function output.now) others entry) }
 {
     let way = way_of(alloc, output, others.last, entry, start, oracle, ledger)?;
     Ok(next_by(others, entry, way))
@@ -432,13 +408,10 @@ fn way_of<O: Oracle>(
     requires may { MayAsk output.now.graphs.now (O.known oracle.old) ledger.old }
     requires output { IsOutput output.now }
     requires order { first.0 < second.0 }
-    requires first { IsEntry (inputs_in output.now.graphs.now)
-        (function_at output.now.graphs.now output.now.number) first }
-    requires second { IsEntry (inputs_in output.now.graphs.now)
-        (function_at output.now.graphs.now output.now.number) second }
+    requires first { IsEntry (arity output.now) (function output.now) first }
+    requires second { IsEntry (arity output.now) (function output.now) second }
     ensures serves { Serves (O.known oracle.old) (O.known oracle.new) ledger.old ledger.new result }
-    ensures way { IfOk result (IsWay (inputs_in output.now.graphs.now)
-        (function_at output.now.graphs.now output.now.number) first.0 second.0) }
+    ensures way { IfOk result (IsWay (arity output.now) (function output.now) first.0 second.0) }
 {
     let symmetric = are_alike(alloc, output, first, second, false, start, oracle, ledger)?;
     if symmetric {

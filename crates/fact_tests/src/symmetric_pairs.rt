@@ -4,7 +4,7 @@ ghost use Rattle.std.specs.Prelude.{◌≡◌, ◌+◌, ◌<◌, ◌++◌, ℕ, 
 ghost use Rattle.oracle_core.specs.Oracles.{Serves};
 ghost use Rattle.claim_core.specs.Rows.{ListsPairs, ListsSupport};
 ghost use Rattle.fact_tests.specs.Exchanges.{AreClasses, IsPlace, Sorts, both_by, sym_by};
-ghost use Rattle.fact_tests.specs.Outputs.{IsOutput, IsSymmetry, MayAsk, function_at, input_at, inputs_in, pair_of};
+ghost use Rattle.fact_tests.specs.Outputs.{IsOutput, IsSymmetry, MayAsk, arity, function, input_at, pair_of};
 
 use crate::exchange_classes::{Class, ExchangeClasses, OtherInputs, Place, sort};
 use crate::first_output::FirstOutput;
@@ -25,11 +25,9 @@ pub(crate) fn symmetries<O: Oracle>(
 ) -> Result<Items<(u32, u32, Sym)>, Stop>
     requires may { MayAsk output.now.graphs.now (O.known oracle.old) ledger.old }
     requires output { IsOutput output.now }
-    requires support { ListsSupport (inputs_in output.now.graphs.now)
-        (function_at output.now.graphs.now output.now.number) 0 (inputs_in output.now.graphs.now) support.now }
+    requires support { ListsSupport (arity output.now) (function output.now) 0 (arity output.now) support.now }
     ensures serves { Serves (O.known oracle.old) (O.known oracle.new) ledger.old ledger.new result }
-    ensures pairs { IfOk result (ListsPairs (inputs_in output.now.graphs.now)
-        (function_at output.now.graphs.now output.now.number) (inputs_in output.now.graphs.now) 0) }
+    ensures pairs { IfOk result (ListsPairs (arity output.now) (function output.now) (arity output.now) 0) }
 {
     let sorted = sort(alloc, output, support, oracle, ledger)?;
     Ok(pairs_in(alloc, output, support, &sorted)?)
@@ -42,12 +40,9 @@ fn pairs_in(
     support: &[(u32, Unate)],
     sorted: &ExchangeClasses,
 ) -> Result<Items<(u32, u32, Sym)>, AllocError>
-    requires support { ListsSupport (inputs_in output.now.graphs.now)
-        (function_at output.now.graphs.now output.now.number) 0 (inputs_in output.now.graphs.now) support.now }
-    requires sorts { Sorts (inputs_in output.now.graphs.now)
-        (function_at output.now.graphs.now output.now.number) support.now (length support.now) sorted.now }
-    ensures { IfOk result (ListsPairs (inputs_in output.now.graphs.now)
-        (function_at output.now.graphs.now output.now.number) (inputs_in output.now.graphs.now) 0) }
+    requires support { ListsSupport (arity output.now) (function output.now) 0 (arity output.now) support.now }
+    requires sorts { Sorts (arity output.now) (function output.now) support.now (length support.now) sorted.now }
+    ensures { IfOk result (ListsPairs (arity output.now) (function output.now) (arity output.now) 0) }
 {
     let mut pairs = Items::new(alloc);
     for place in 0..support.len() {
@@ -65,15 +60,13 @@ fn add_pairs(
     pairs: &mut Items<(u32, u32, Sym)>,
 ) -> Result<(), AllocError>
     requires place { place < length support.now }
-    requires support { ListsSupport (inputs_in output.now.graphs.now)
-        (function_at output.now.graphs.now output.now.number) 0 (inputs_in output.now.graphs.now) support.now }
-    requires sorts { Sorts (inputs_in output.now.graphs.now)
-        (function_at output.now.graphs.now output.now.number) support.now (length support.now) sorted.now }
-    requires pairs { ListsPairs (inputs_in output.now.graphs.now) (function_at output.now.graphs.now output.now.number)
-        (input_at (inputs_in output.now.graphs.now) support.now place) 0 pairs.old }
+    requires support { ListsSupport (arity output.now) (function output.now) 0 (arity output.now) support.now }
+    requires sorts { Sorts (arity output.now) (function output.now) support.now (length support.now) sorted.now }
+    requires pairs { ListsPairs (arity output.now) (function output.now)
+        (input_at (arity output.now) support.now place) 0 pairs.old }
     ensures { OnOk result
-        (ListsPairs (inputs_in output.now.graphs.now) (function_at output.now.graphs.now output.now.number)
-        (input_at (inputs_in output.now.graphs.now) support.now (place + 1)) 0 pairs.new) }
+        (ListsPairs (arity output.now) (function output.now)
+        (input_at (arity output.now) support.now (place + 1)) 0 pairs.new) }
 {
     let _ = output;
     for other in place + 1..support.len() {
