@@ -7,14 +7,11 @@ use crate::looks::Look;
 use crate::meanings::meaning_of_kind;
 use crate::places::{line_around, place_of};
 use crate::remedies::Remedy;
-use check_steps::{File, ReadStop, read_file};
+use check_steps::{File, NETLIST_LIMIT, ReadStop, read_file};
 use net_file::{NetFault, NetKind};
 use refusal_words::TerminalText;
 use shelf_core::Shelf;
 use std::alloc::Global;
-
-/// The most bytes of a netlist that is read.
-const NETLIST_LIMIT: u64 = 67_108_864;
 
 /// Says of a malformed netlist where its first fault stands, what its kind means, what the line is, and what helps.
 pub(crate) fn put_malformed<S: Shelf>(
