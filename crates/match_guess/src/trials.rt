@@ -148,11 +148,7 @@ impl Trials {
 }
 
 fn have_output(pairs: &[Pair]) -> bool {
-    pairs.iter().any(|pair| is_of_output(*pair))
-}
-
-fn is_of_output(pair: Pair) -> bool {
-    pair.kind == PortKind::Output
+    pairs.iter().any(|pair| pair.kind == PortKind::Output)
 }
 
 // The first vector of eight words on which the partner of an output is known and wrong: its word and its bit.
