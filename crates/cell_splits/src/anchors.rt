@@ -6,7 +6,7 @@ use crate::lane_counts::LaneCounts;
 use crate::state::State;
 use items::Items;
 use net_core::Side;
-use port_cells::{Draws, FlipSim, Lanes, bit_of, literal_of, port_at};
+use port_cells::{Draws, FlipSim, Lanes, VECTORS, bit_of, literal_of, port_at};
 use std::alloc::{AllocError, Global};
 use word_sim::mix;
 
@@ -147,7 +147,7 @@ fn hashes_of(
     side: Side,
     simulator: &mut FlipSim<'_>,
 ) -> Result<Vec<u64>, AllocError> {
-    let mut hashes = vec![in alloc; 0u64; 256]?;
+    let mut hashes = vec![in alloc; 0u64; VECTORS]?;
     let mut of_outputs = no_counts(alloc, simulator.graph().outputs().len())?;
     let inputs = state.inputs.of(side);
     add_inputs(alloc, inputs, simulator, &mut of_outputs, &mut hashes)?;

@@ -1,7 +1,7 @@
 //! How outputs depend on inputs, counted on vectors.
 
 use crate::cells::{empty_lists, port_at};
-use crate::{FlipSim, Lanes, ones_in};
+use crate::{FlipSim, Lanes, VECTORS, ones_in};
 use items::Items;
 use std::alloc::{AllocError, Global};
 
@@ -107,7 +107,7 @@ impl Tally {
 
     /// Counts the vectors that a simulator was run on.
     pub fn add(&mut self, simulator: &mut FlipSim<'_>) {
-        self.vectors = self.vectors.saturating_add(256);
+        self.vectors = self.vectors.saturating_add(VECTORS as u32);
         add_ones(simulator, self.ones.as_mut_slice());
         add_influences(simulator, self.of_inputs.as_mut_slice());
     }
