@@ -1,6 +1,7 @@
 //! What the end of a run means, for people.
 
-ghost use Rattle.std.specs.Prelude.{ℕ, ◌≡◌, List};
+ghost use Rattle.std.specs.Prelude.{◌≡◌};
+ghost use Rattle.refusal_words.specs.Files.{SameFiles};
 ghost use Rattle.shelf_core.specs.State.{Closed};
 
 use crate::account_lines::LineSearch;
@@ -34,7 +35,7 @@ pub struct EndedRun<'a> {
 /// read again for it, and none is changed. Where that fails, or there is no memory, less is said.
 pub fn explain<S: Shelf>(alloc: Global, told: &EndedRun<'_>, shelf: &mut S) -> String
     requires { (S.state shelf.old).mode ≡ Closed }
-    ensures { (name : List ℕ) → (S.state shelf.new).held name ≡ (S.state shelf.old).held name }
+    ensures { SameFiles (S.state shelf.old) (S.state shelf.new) }
 {
     let mut text = String::new(alloc);
     // what can't be said is left out
@@ -80,7 +81,7 @@ fn put_explanation<S: Shelf>(
     text: &mut String,
 ) -> Result<(), ReadStop>
     requires { (S.state shelf.old).mode ≡ Closed }
-    ensures { (n : List ℕ) → (S.state shelf.new).held n ≡ (S.state shelf.old).held n }
+    ensures { SameFiles (S.state shelf.old) (S.state shelf.new) }
 {
     match told.outcome {
         Outcome::Usage => put_usage(told.words, text),
@@ -143,7 +144,7 @@ fn put_netlist_fault<S: Shelf>(
     text: &mut String,
 ) -> Result<(), ReadStop>
     requires { (S.state shelf.old).mode ≡ Closed }
-    ensures { (n : List ℕ) → (S.state shelf.new).held n ≡ (S.state shelf.old).held n }
+    ensures { SameFiles (S.state shelf.old) (S.state shelf.new) }
 {
     match name_of(told.words, which) {
         Some(name) if told.readable => put_malformed(alloc, name, fault, shelf, text),
@@ -162,7 +163,7 @@ fn put_rejected<S: Shelf>(
     text: &mut String,
 ) -> Result<(), ReadStop>
     requires { (S.state shelf.old).mode ≡ Closed }
-    ensures { (n : List ℕ) → (S.state shelf.new).held n ≡ (S.state shelf.old).held n }
+    ensures { SameFiles (S.state shelf.old) (S.state shelf.new) }
 {
     let Some(name) = name_of(told.words, Which::Account) else {
         return Ok(());
@@ -196,7 +197,7 @@ fn put_no_matching<S: Shelf>(
     text: &mut String,
 ) -> Result<(), ReadStop>
     requires { (S.state shelf.old).mode ≡ Closed }
-    ensures { (n : List ℕ) → (S.state shelf.new).held n ≡ (S.state shelf.old).held n }
+    ensures { SameFiles (S.state shelf.old) (S.state shelf.new) }
 {
     match command_asked(told.words) {
         Some(Command::Match(asked)) if told.readable => put_refusal(alloc, &asked, shelf, text),
@@ -213,7 +214,7 @@ fn put_spent<S: Shelf>(
     text: &mut String,
 ) -> Result<(), ReadStop>
     requires { (S.state shelf.old).mode ≡ Closed }
-    ensures { (n : List ℕ) → (S.state shelf.new).held n ≡ (S.state shelf.old).held n }
+    ensures { SameFiles (S.state shelf.old) (S.state shelf.new) }
 {
     writeln!(
         text,

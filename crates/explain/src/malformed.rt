@@ -1,6 +1,7 @@
 //! Where a netlist is malformed, and what it is instead.
 
-ghost use Rattle.std.specs.Prelude.{ℕ, ◌≡◌, List};
+ghost use Rattle.std.specs.Prelude.{◌≡◌};
+ghost use Rattle.refusal_words.specs.Files.{SameFiles};
 ghost use Rattle.shelf_core.specs.State.{Closed};
 
 use crate::looks::Look;
@@ -22,7 +23,7 @@ pub(crate) fn put_malformed<S: Shelf>(
     text: &mut String,
 ) -> Result<(), ReadStop>
     requires { (S.state shelf.old).mode ≡ Closed }
-    ensures { (n : List ℕ) → (S.state shelf.new).held n ≡ (S.state shelf.old).held n }
+    ensures { SameFiles (S.state shelf.old) (S.state shelf.new) }
 {
     match read_file(alloc, shelf, name, NETLIST_LIMIT)? {
         File::Bytes(bytes) => put_fault(name, &bytes, fault, text),
