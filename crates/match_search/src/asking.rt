@@ -43,7 +43,7 @@ pub(crate) fn ask_output<O: Oracle>(
 
 /// Makes the bans that decided claims show of an assigned pair: by itself, or with another assigned one. Such bans have
 /// one pair or two, so that what refers to them needs few pairs too. Answers whether there are any.
-pub(crate) fn ask_held<O: Oracle>(
+pub(crate) fn ask_assigned<O: Oracle>(
     graphs: &PairableGraphs<'_>,
     session: &mut Session<'_, O>,
     domains: &Domains,

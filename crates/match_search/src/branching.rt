@@ -186,7 +186,7 @@ fn go_on<O: Oracle>(
     ensures ahead { IfOk result (IsAhead graphs.now (lent O.known session.new) domains.old domains.new) }
 {
     let Some(port) = next_port(session.asker.alloc, &session.heuristics.guide, domains)? else {
-        return compare_held(graphs, session, domains);
+        return compare_assigned(graphs, session, domains);
     };
     session.heuristics.guide.decide(port);
     match branch(domains, port)? {
@@ -196,7 +196,7 @@ fn go_on<O: Oracle>(
 }
 
 // Compares the outputs under the pairs that are assigned, one of each port.
-fn compare_held<O: Oracle>(
+fn compare_assigned<O: Oracle>(
     graphs: &PairableGraphs<'_>,
     session: &mut Session<'_, O>,
     domains: &mut Domains,

@@ -6,7 +6,7 @@ ghost use Rattle.pair_domains.specs.Trails.{held_in};
 ghost use Rattle.pair_search.specs.Progress.{left};
 ghost use Rattle.match_search.specs.States.{Deletes, MayStep, Steps, lent};
 
-use crate::asking::{ask_held, ask_output};
+use crate::asking::{ask_assigned, ask_output};
 use crate::exchanged::exclude_by_swaps;
 use crate::session::Session;
 use crate::trail::PairTrail;
@@ -41,14 +41,14 @@ pub(crate) fn follow<O: Oracle>(
         return Ok(None);
     }
     let domains = &trail.domains;
-    if let Some(exchanged) = exchange_held(graphs, session, domains)? {
+    if let Some(exchanged) = exchange_assigned(graphs, session, domains)? {
         return Ok(Some(exchanged));
     }
-    try_held(graphs, session, domains)
+    try_assigned(graphs, session, domains)
 }
 
 // Tries the assigned pairs on vectors.
-fn try_held<O: Oracle>(
+fn try_assigned<O: Oracle>(
     graphs: &PairableGraphs<'_>,
     session: &mut Session<'_, O>,
     domains: &Domains,
@@ -72,7 +72,7 @@ fn try_held<O: Oracle>(
 }
 
 // Compares each assigned pair that wasn't compared yet with claims of two inputs, beside all other assigned pairs.
-fn exchange_held<O: Oracle>(
+fn exchange_assigned<O: Oracle>(
     graphs: &PairableGraphs<'_>,
     session: &mut Session<'_, O>,
     domains: &Domains,
@@ -157,10 +157,10 @@ fn ask_next_pair<O: Oracle>(
     ensures steps { Steps graphs.now (lent O.known session.old) (lent O.known session.new) domains.new result }
     ensures less { OnOk result (left domains.new ≤ left domains.old) }
 {
-    let Some(pair) = next_held(domains, session.heuristics.guide.asked) else {
+    let Some(pair) = next_assigned(domains, session.heuristics.guide.asked) else {
         return Ok(false);
     };
-    let more = ask_held(graphs, session, domains, pair)?;
+    let more = ask_assigned(graphs, session, domains, pair)?;
     if more {
         return Ok(true);
     }
@@ -170,7 +170,7 @@ fn ask_next_pair<O: Oracle>(
 }
 
 // The assigned pair of a place.
-fn next_held(domains: &Domains, place: usize) -> Option<Pair>
+fn next_assigned(domains: &Domains, place: usize) -> Option<Pair>
     ensures { IfSome result (Contains (held_in domains.now.entries)) }
 {
     domains.pairs().get(place).copied()

@@ -97,13 +97,13 @@ fn follow(domains: &mut Domains, queue: &mut Queue, bans: &[Ban], entry: Entry) 
     ensures { Follows bans.now domains.old domains.new result }
 {
     match entry.fate {
-        Fate::Held(_) => follow_held(domains, queue, bans, entry.pair),
+        Fate::Held(_) => follow_assigned(domains, queue, bans, entry.pair),
         Fate::Deleted(_) => follow_deleted(domains, bans, entry.pair),
     }
 }
 
 // What follows of a pair that is assigned.
-fn follow_held(domains: &mut Domains, queue: &mut Queue, bans: &[Ban], pair: Pair) -> Followed
+fn follow_assigned(domains: &mut Domains, queue: &mut Queue, bans: &[Ban], pair: Pair) -> Followed
     requires justified { IsJustifiedTrail bans.now domains.old }
     ensures { Follows bans.now domains.old domains.new result }
 {

@@ -3,8 +3,8 @@ use Rattle.pair_search.specs.Progress.{left}
 use Rattle.match_search.proofs.StepLemmas.{steps_ok, steps_stop, way_start, way_stays}
 use Rattle.match_search.proofs.branching.go_on.Goals as goal
 
-pub compare_held-requires-clause-whole : goal.compare_held-requires-clause-whole
-compare_held-requires-clause-whole g c = (rw c.in_default.is at c.in_ok-port.ensures.none) c.args.graphs.now c.requires.may.trail.trail.fit
+pub compare_assigned-requires-clause-whole : goal.compare_assigned-requires-clause-whole
+compare_assigned-requires-clause-whole g c = (rw c.in_default.is at c.in_ok-port.ensures.none) c.args.graphs.now c.requires.may.trail.trail.fit
 
 pub returns-in_err-port-clause-steps : goal.returns-in_err-port-clause-steps
 returns-in_err-port-clause-steps g c = steps_stop c.from_residual.ensures.1 (way_start c.requires.may)

@@ -1,5 +1,5 @@
 use Rattle.match_search.proofs.StepLemmas.{may_go_on, steps_err, steps_last, steps_ok, way_one, way_start}
-use Rattle.match_search.proofs.branching.compare_held.Goals as goal
+use Rattle.match_search.proofs.branching.compare_assigned.Goals as goal
 
 pub returns-in_err-matching-clause-steps : goal.returns-in_err-matching-clause-steps
 returns-in_err-matching-clause-steps g c = steps_err c.from_residual.ensures.1 (way_start c.requires.may) c.in_err-matching.ensures.steps

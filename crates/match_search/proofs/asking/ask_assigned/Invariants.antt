@@ -1,6 +1,6 @@
 use Rattle.match_search.specs.States.{lent}
 use Rattle.match_search.proofs.AskLemmas.{IsUnderWay}
-use Rattle.match_search.proofs.asking.ask_held.Given as goal
+use Rattle.match_search.proofs.asking.ask_assigned.Given as goal
 
 abbrev pub invariant-loop-other : goal.invariant-loop-other
 invariant-loop-other g l =

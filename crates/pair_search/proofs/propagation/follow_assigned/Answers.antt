@@ -1,6 +1,6 @@
 use Rattle.std.proofs.Common.{rules}
 use Rattle.pair_search.proofs.StepLemmas.{known_after, propagates_two, stays_held}
-use Rattle.pair_search.proofs.propagation.follow_held.Goals as goal
+use Rattle.pair_search.proofs.propagation.follow_assigned.Goals as goal
 
 pub delete_ways-requires-2-clause-justified : goal.delete_ways-requires-2-clause-justified
 delete_ways-requires-2-clause-justified c = c.in_ok-delete_ways.ensures.justified

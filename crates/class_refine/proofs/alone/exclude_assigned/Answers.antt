@@ -8,7 +8,7 @@ use Rattle.class_refine.proofs.NothingLemmas.{shown_more}
 use Rattle.class_refine.specs.Stable.{HaveNoBan}
 use Rattle.class_refine.proofs.ResultLemmas.{none_so}
 use Rattle.class_refine.proofs.TrailLemmas.{shown_none, shown_one}
-use Rattle.class_refine.proofs.alone.exclude_held.Goals as goal
+use Rattle.class_refine.proofs.alone.exclude_assigned.Goals as goal
 
 pub held_ban-requires-clause-inputs : goal.held_ban-requires-clause-inputs
 held_ban-requires-clause-inputs c = inputs_known _ _ _ c.requires.held c.requires.inputs

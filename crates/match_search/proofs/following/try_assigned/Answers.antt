@@ -4,7 +4,7 @@ use Rattle.ban_book.specs.Covering.{Covers}
 use Rattle.account_core.specs.Held.{AreHeld}
 use Rattle.pair_search.proofs.PivotLemmas.{held_known}
 use Rattle.match_search.proofs.StepLemmas.{goes_by, steps_fail, steps_ok, way_bans, way_start}
-use Rattle.match_search.proofs.following.try_held.Goals as goal
+use Rattle.match_search.proofs.following.try_assigned.Goals as goal
 
 pub foresee-requires : goal.foresee-requires
 foresee-requires g c =

@@ -4,7 +4,7 @@ use Rattle.account_core.specs.Ports.{IsKnown}
 use Rattle.pair_domains.specs.Trails.{held_in}
 use Rattle.pair_search.proofs.PivotLemmas.{held_known}
 use Rattle.match_search.proofs.StepLemmas.{may_go_on, steps_fail, steps_ok, way_bans, way_start}
-use Rattle.match_search.proofs.asking.ask_held.Goals as goal
+use Rattle.match_search.proofs.asking.ask_assigned.Goals as goal
 
 pub ask_alone-requires-clause-may : goal.ask_alone-requires-clause-may
 ask_alone-requires-clause-may g c = c.requires.may.may

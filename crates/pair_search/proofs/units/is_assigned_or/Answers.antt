@@ -1,5 +1,5 @@
 use Rattle.pair_domains.specs.Trails.{held_in}
-use Rattle.pair_search.proofs.units.is_held_or.Goals as goal
+use Rattle.pair_search.proofs.units.is_assigned_or.Goals as goal
 use Rattle.circuits.proofs.Lists.{contains_cons}
 
 pub returns : goal.returns
