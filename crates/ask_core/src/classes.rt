@@ -117,7 +117,7 @@ struct Numbers {
     map: IndexMap<(u64, u64), u64>,
 }
 
-// By hand, and so one call wherever a value ends: a derived drop makes proofs long.
+// By hand, so that each exit of a function has one call for it (docs/IDIOMS.md).
 impl Drop for Numbers {
     fn drop(self) {
         let Numbers { map: _map } = self;

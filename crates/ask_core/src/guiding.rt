@@ -37,9 +37,9 @@ impl<'a> QuestionGuide for GatePairs<'a> {
     }
 }
 
-/// The gates of a query's cones, and two candidates for each pair of them that seem to be equal: that the one is true
-/// and the other isn't. Where the cones have few inputs, these alone, to be decided first. The numbers are those of the
-/// cones' clauses: after the first clause three for each gate.
+/// What a search is to look at first. Where the cones of a query have few inputs, these are decided first, and nothing
+/// else is looked at. Else two candidates for each pair of gates that seem to be equal: that one is true and the other
+/// false. `ids` are the numbers of the cones' clauses: after the first clause three for each gate.
 ///
 /// # Errors
 ///

@@ -28,7 +28,7 @@ pub(crate) struct Joint {
     pub(crate) signals: Vec<Signal>,
 }
 
-// By hand, and so one call wherever a value ends: a derived drop makes proofs long.
+// By hand, so that each exit of a function has one call for it (docs/IDIOMS.md).
 impl Drop for Joint {
     fn drop(self) {
         let Joint {
@@ -46,7 +46,7 @@ struct Parts {
     gates: Vec<Gate>,
 }
 
-// By hand, and so one call wherever a value ends: a derived drop makes proofs long.
+// By hand, so that each exit of a function has one call for it (docs/IDIOMS.md).
 impl Drop for Parts {
     fn drop(self) {
         let Parts {

@@ -1,5 +1,3 @@
-//! The variables of clauses.
-
 ghost use Rattle.std.specs.Prelude.{◌≡◌, ◌<◌, ◌^◌, ℕ, All, Contains, IfOk, OnOk, length};
 ghost use Rattle.std.specs.List.Sorted.{IsNonDecreasing};
 ghost use Rattle.cnf_core.specs.Clauses.{literals_of, variable_of, AreKnown};

@@ -1,5 +1,3 @@
-//! Pairs of literals that agree.
-
 use crate::classes::{Member, classes_of};
 use crate::gates::LitGate;
 use crate::joint::{Joint, Signal};

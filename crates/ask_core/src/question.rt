@@ -96,6 +96,7 @@ fn ask_cones<W: Watch>(
     ensures joined { IfOk result (JoinsTrees question.now.graphs.now question.now.query.now) }
     ensures paid_for { IfOk result (IsPaidFor ledger.new) }
 {
+    // the numbers are those of the cones' clauses
     let _ids = question.cones.ids();
     ledger.open(alloc, question.query, lemmas)?;
     let tab = Tab::new(alloc, ledger.budget(), ledger.learned(), watch);

@@ -8,7 +8,8 @@ use std::alloc::Global;
 use std::marker::Model;
 use watch_core::{Stage, Watch};
 
-/// Of this many learned lines one is told. They come by the thousand a second, and what is shown changes once in one.
+/// The watcher is told once in this many learned lines. Thousands are learned in a second, and what is shown changes
+/// once a second.
 const TOLD_EVERY: u64 = 64;
 
 /// A budget, and for contracts alone the lines that were charged to it, a refused one last: the solver has them. A
@@ -56,7 +57,7 @@ impl<'a, W: Watch> Tab<'a, W> {
         }
     }
 
-    // Tells how many lines were learned, at one of many.
+    // Tells the watcher how many lines were learned, once in many.
     fn tell(&self) {
         if self.learned % TOLD_EVERY == 0 {
             self.watch.at(Stage::Learning {

@@ -24,6 +24,7 @@ pub(crate) fn vector_of(
     requires meets { MeetsCones graphs.now query.now values.now }
     ensures { IfOk result (IsVector graphs.now query.now) }
 {
+    // the gates of a graph are in order, and its ports fewer than 2^32
     let _first = graphs.first();
     let _second = graphs.second();
     let inputs = query.left.feed.len();

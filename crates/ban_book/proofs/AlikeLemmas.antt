@@ -15,7 +15,7 @@ use Rattle.account_core.specs.Mismatches.{IsImage}
 use Rattle.account_core.specs.Ports.{IsKnown}
 use Rattle.ban_book.specs.Vectors.{AreDecided, HasOneInput, IsShownBy}
 use Rattle.ban_book.proofs.CarriedLemmas.{carried_by, one_back}
-use Rattle.ban_book.specs.declared.told.InputTold.{InputTold}
+use Rattle.ban_book.specs.declared.input_claims.InputClaims.{InputClaims}
 use Rattle.ban_book.specs.declared.mismatched.Unlike.{Unlike}
 use Rattle.ban_book.specs.Mismatched.{mismatch_of, unlike_of, IsBanBy}
 use Rattle.ban_book.specs.Rows.{told_at, AreAlike, AreRows, HasOneOutput, IsMismatchBan}
@@ -25,7 +25,7 @@ use Rattle.ban_book.proofs.MismatchedLemmas.{mismatch_valid}
 use Rattle.ban_book.proofs.RowLemmas.{row_tells, same_said}
 
 -- what is told apart shows a ban
-pub apart_shown : (graphs : Graphs) (facts : List Decided) (pairs : List Pair) (output : Pair) (one other : List InputTold) (ban : Ban) → All (IsKnown graphs) pairs → HasOneOutput pairs output → length one ≡ graphs.first.inputs → length other ≡ graphs.second.inputs → IsMismatchBan pairs output one other ban → AreRows facts output one other → IsShownBan graphs facts pairs ban
+pub apart_shown : (graphs : Graphs) (facts : List Decided) (pairs : List Pair) (output : Pair) (one other : List InputClaims) (ban : Ban) → All (IsKnown graphs) pairs → HasOneOutput pairs output → length one ≡ graphs.first.inputs → length other ≡ graphs.second.inputs → IsMismatchBan pairs output one other ban → AreRows facts output one other → IsShownBan graphs facts pairs ban
 apart_shown graphs facts pairs output one other ban known has first second is rows =
     let input = is.found.input in
     let value = is.is.value in
@@ -45,7 +45,7 @@ apart_shown graphs facts pairs output one other ban known has first second is ro
     })
 
 -- where all is told alike
-module _ (graphs : Graphs) (facts : List Decided) (pairs : List Pair) (output : Pair) (one other : List InputTold) (are : AreDecided graphs facts) (rows : AreRows facts output one other) (known : All (IsKnown graphs) pairs) (has : HasOneOutput pairs output) (first : length one ≡ graphs.first.inputs) (second : length other ≡ graphs.second.inputs) (alike : All (λ pair. pair.kind ≡ Input → AreAlike output one other pair) pairs) where
+module _ (graphs : Graphs) (facts : List Decided) (pairs : List Pair) (output : Pair) (one other : List InputClaims) (are : AreDecided graphs facts) (rows : AreRows facts output one other) (known : All (IsKnown graphs) pairs) (has : HasOneOutput pairs output) (first : length one ≡ graphs.first.inputs) (second : length other ≡ graphs.second.inputs) (alike : All (λ pair. pair.kind ≡ Input → AreAlike output one other pair) pairs) where
   abbrev fact : ℕ → Decided
   fact k = fact_at (given_of facts []) k
 

@@ -15,11 +15,11 @@ use Rattle.account_core.specs.Covers.{way, ways, IsImpossible}
 use Rattle.account_core.specs.Tallies.{other_side, port_on}
 use Rattle.ban_book.specs.Ways.{block_of, first_port, nth_way, ports_tried, second_port, ways_in, AreClosed, IsClosed}
 
--- a way that clashes with a held pair is closed
+-- a way that clashes with an assigned pair is closed
 pub closed_by_clash : (bans : List Ban) (pairs : List Pair) (pair : Pair) → IsImpossible pairs pair → IsClosed bans pairs pair None
 closed_by_clash bans pairs pair imp = record { refers = imp; held = λ ban is. cc }
 
--- the pairs of a ban that is held
+-- the pairs of a ban that is kept
 pub ban_pairs : (bans : List Ban) (ban : ℕ) (d : Ban) → ban < length bans → ban_at (given_of [] bans) ban ≡ (get_or bans ban d).pairs
 ban_pairs bans ban d below = get_or-map (λ (b : Ban). b.pairs) bans ban d [] below
 
@@ -89,7 +89,7 @@ pub port_of_way : (side : Side) (kind : PortKind) (port number : ℕ) → port_o
 port_of_way First kind port number = refl
 port_of_way Second kind port number = refl
 
--- a ban that closes one of some ways is held
+-- a ban that closes one of some ways is kept
 pub held_at : (bans : List Ban) (pairs ways : List Pair) (refs : List (Option ℕ)) (k ban : ℕ) → AreClosed bans pairs ways refs → k < length refs → get_or refs k (Some ban) ≡ Some ban → ban < length bans
 held_at bans pairs [] [] k ban are below is = absurd (omega (arith, below))
 held_at bans pairs [] (ref ∷ refs) k ban are below is = absurd are

@@ -20,7 +20,7 @@ use Rattle.account_core.specs.Given.{Decided, fact_at, given_of, no_fact, IsFact
 use Rattle.account_core.specs.Tallies.{other_side, port_on, shapes_of, AreBothOfEach, AreOfEach, Ascend, HaveShapes, LackShapes, SayOf}
 use Rattle.account_core.proofs.Listed.{given_by, zipped}
 use Rattle.ban_book.specs.Vectors.{AreDecided, IsShownBy}
-use Rattle.ban_book.specs.declared.told.InputTold.{InputTold}
+use Rattle.ban_book.specs.declared.input_claims.InputClaims.{InputClaims}
 use Rattle.ban_book.specs.Rows.{no_told, row_on, says_both, says_one, told_at, AreEven, AreRows, HasOneOutput, IsRow}
 use Rattle.ban_book.proofs.PlaceLemmas.{ascending_count}
 use Rattle.ban_book.proofs.RowLemmas.{length_of_side, row_of_side, row_tells, same_said}
@@ -33,7 +33,7 @@ placed_at n input false placed = placed
 placed_at n input true placed = placed
 
 -- Facts that say of claims of one output that they hold, or that they fail.
-module _ (graphs : Graphs) (facts : List Decided) (side : Side) (output : ℕ) (row : List InputTold) (are : AreDecided graphs facts) (is : IsRow facts side output row) (whole : length row ≡ (graph_of graphs side).inputs) (numbers : List ℕ) (holds : Bool) (known : All (IsFactGiven (given_of facts [])) numbers) (say : SayOf (given_of facts []) numbers holds side output) where
+module _ (graphs : Graphs) (facts : List Decided) (side : Side) (output : ℕ) (row : List InputClaims) (are : AreDecided graphs facts) (is : IsRow facts side output row) (whole : length row ≡ (graph_of graphs side).inputs) (numbers : List ℕ) (holds : Bool) (known : All (IsFactGiven (given_of facts [])) numbers) (say : SayOf (given_of facts []) numbers holds side output) where
   claim_at : (k d : ℕ) (shape : Shape) → k < length numbers → (fact_at (given_of facts []) (get_or numbers k d)).claim.shape ≡ shape → (fact_at (given_of facts []) (get_or numbers k d)).claim ≡ record { side = side; output = output; shape = shape }
   claim_at k d shape below same =
       let claim = (fact_at (given_of facts []) (get_or numbers k d)).claim in
@@ -87,15 +87,15 @@ module _ (graphs : Graphs) (facts : List Decided) (side : Side) (output : ℕ) (
       ascending_count (says_both holds) row no_told inputs ascend (λ k d below. (both_so inputs (get_or inputs k d) are_both (Contains-get_or inputs k d below)).0) (λ k d below. (both_so inputs (get_or inputs k d) are_both (Contains-get_or inputs k d below)).1)
 
 -- how many inputs there are of either side of which a claim says so
-even_on : (side : Side) (one other : List InputTold) (holds : Bool) → count_by (says_one holds) one ≡ count_by (says_one holds) other → count_by (says_one holds) (row_on side one other) ≡ count_by (says_one holds) (row_on (other_side side) one other)
+even_on : (side : Side) (one other : List InputClaims) (holds : Bool) → count_by (says_one holds) one ≡ count_by (says_one holds) other → count_by (says_one holds) (row_on side one other) ≡ count_by (says_one holds) (row_on (other_side side) one other)
 even_on First one other holds same = same
 even_on Second one other holds same = sym same
 
-whole_on : (graphs : Graphs) (side : Side) (one other : List InputTold) → length one ≡ graphs.first.inputs → length other ≡ graphs.second.inputs → length (row_on side one other) ≡ (graph_of graphs side).inputs
+whole_on : (graphs : Graphs) (side : Side) (one other : List InputClaims) → length one ≡ graphs.first.inputs → length other ≡ graphs.second.inputs → length (row_on side one other) ≡ (graph_of graphs side).inputs
 whole_on graphs First one other first second = first
 whole_on graphs Second one other first second = second
 
-module _ (graphs : Graphs) (facts : List Decided) (pair : Pair) (one other : List InputTold) (are : AreDecided graphs facts) (rows : AreRows facts pair one other) (first : length one ≡ graphs.first.inputs) (second : length other ≡ graphs.second.inputs) (as_many : graphs.first.inputs ≡ graphs.second.inputs) (even : AreEven one other) where
+module _ (graphs : Graphs) (facts : List Decided) (pair : Pair) (one other : List InputClaims) (are : AreDecided graphs facts) (rows : AreRows facts pair one other) (first : length one ≡ graphs.first.inputs) (second : length other ≡ graphs.second.inputs) (as_many : graphs.first.inputs ≡ graphs.second.inputs) (even : AreEven one other) where
   most_on : (side : Side) (numbers : List ℕ) (holds : Bool) → All (IsFactGiven (given_of facts [])) numbers → SayOf (given_of facts []) numbers holds side (port_on side pair) → (inputs : List ℕ) → Ascend inputs → (AreOfEach inputs (shapes_of (given_of facts []) numbers) → length inputs ≤ count_by (says_one holds) (row_on side one other)) × (AreBothOfEach inputs (shapes_of (given_of facts []) numbers) → length inputs ≤ count_by (says_both holds) (row_on side one other))
   most_on side numbers holds known say inputs rise =
       let row = row_on side one other in

@@ -6,7 +6,7 @@ use Rattle.circuits.specs.declared.port.Pair.{Pair}
 use Rattle.account_core.specs.Held.{IsPart}
 use Rattle.ban_book.proofs.BlockListLemmas.{among_more, cons_more}
 
--- The pairs gathered so far are some of those held; those before are among them, and the pairs that were gone through are too,
+-- The pairs gathered so far are some of the assigned ones; those before are among them, and the pairs that were gone through are too,
 -- but for the way.
 pub record IsGathering (held before now : List Pair) (way : Pair) (done : List Pair) : Type 0 where
   pub part : IsPart held now

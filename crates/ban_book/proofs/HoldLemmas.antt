@@ -1,4 +1,4 @@
--- What a book of bans holds.
+-- What a book of bans has.
 use Rattle.std.proofs.Common.{◌≡◌, ℕ, ◌+◌, ◌<◌, List, [], ◌∷◌, ◌++◌, length, get_or, All, Option, None, Some, sym, subst, arith}
 use Rattle.std.specs.List.{range_with_len}
 use Rattle.std.proofs.lemmas.List.{append-nil, length-map}
@@ -29,7 +29,7 @@ use Rattle.ban_book.proofs.ClosedLemmas.{held_at}
 pub holds_none : (graphs : Graphs) (bans : List Ban) → HoldsMore graphs bans bans
 holds_none graphs bans = record { added = []; more = sym (append-nil bans); no_vector = no_vector_none; valid = λ facts valid. valid }
 
--- one more valid ban is held, which no vector shows
+-- one more valid ban is kept, which no vector shows
 pub holds_one : (graphs : Graphs) (bans after : List Ban) (ban : Ban) → after ≡ bans ++ ban ∷ [] → (IsVector ban.step → ⊥) → ((facts : List Decided) → IsValidBan graphs (given_of facts bans) ban) → HoldsMore graphs bans after
 holds_one graphs bans after ban is none valid = record {
   added = ban ∷ [];
@@ -95,6 +95,6 @@ cover_valid graphs facts bans pairs listed block refs many known ordered is same
       shown = tt;
     })
 
--- those of the held pairs that are known
+-- those of the assigned pairs that are known
 pub part_known : (graphs : Graphs) (held pairs : List Pair) → AreHeld graphs held → IsPart held pairs → All (IsKnown graphs) pairs
 part_known graphs held pairs are part k d below = All-contains (IsKnown graphs) held (get_or pairs k d) are.known (part.among k d below)

@@ -73,7 +73,7 @@ pub same_or_apart_turned : (one other : Pair) → (one ≡ other) ⊎ AreApart o
 same_or_apart_turned one other (inl same) = inl (sym same)
 same_or_apart_turned one other (inr apart) = inr (turned_apart one other apart)
 
--- held pairs are one, or apart
+-- assigned pairs are one, or apart
 pub held_apart : (held : List Pair) (one other : Pair) → AllPairs AreApart held → Contains held one → Contains held other → (one ≡ other) ⊎ AreApart one other
 held_apart held one other apart first second =
     elim (apart_or_same AreApart held one other apart first second) [

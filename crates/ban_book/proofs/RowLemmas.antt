@@ -15,7 +15,7 @@ use Rattle.account_core.specs.Given.{Decided, decided, fact_at, given_of, no_fac
 use Rattle.account_core.specs.Tallies.{port_on}
 use Rattle.ban_book.specs.Vectors.{AreDecided, AreEndsDecided, AreInputsDecided, HasOneInput, IsDecided}
 use Rattle.circuits.proofs.EachLemmas.{each_push}
-use Rattle.ban_book.specs.declared.told.InputTold.{InputTold}
+use Rattle.ban_book.specs.declared.input_claims.InputClaims.{InputClaims}
 use Rattle.ban_book.specs.Told.{IsToldAs}
 use Rattle.ban_book.specs.Rows.{no_told, row_on, told_at, AreRows, IsRow, IsTold}
 use Rattle.ban_book.proofs.ListedLemmas.{told_stays}
@@ -23,16 +23,16 @@ use Rattle.ban_book.proofs.ListedLemmas.{told_stays}
 pub row_none : (facts : List Decided) (side : Side) (output : ℕ) → IsRow facts side output []
 row_none facts side output = record { each = λ k d below. absurd (omega (arith, below)) }
 
-pub row_push : (facts : List Decided) (side : Side) (output : ℕ) (row : List InputTold) (told : InputTold) → IsRow facts side output row → IsTold facts side output (length row) told → IsRow facts side output (row ++ told ∷ [])
+pub row_push : (facts : List Decided) (side : Side) (output : ℕ) (row : List InputClaims) (told : InputClaims) → IsRow facts side output row → IsTold facts side output (length row) told → IsRow facts side output (row ++ told ∷ [])
 row_push facts side output row told is next = record { each = each_push (IsTold facts side output) row told is.each next }
 
-pub input_stays : (facts added : List Decided) (side : Side) (output input : ℕ) (told : InputTold) → IsTold facts side output input told → IsTold (facts ++ added) side output input told
+pub input_stays : (facts added : List Decided) (side : Side) (output input : ℕ) (told : InputClaims) → IsTold facts side output input told → IsTold (facts ++ added) side output input told
 input_stays facts added side output input told is = record {
   up = told_stays facts added (record { side = side; output = output; shape = Up input }) told.up.holds told.up.number is.up;
   down = told_stays facts added (record { side = side; output = output; shape = Down input }) told.down.holds told.down.number is.down;
 }
 
-pub row_stays : (facts added : List Decided) (side : Side) (output : ℕ) (row : List InputTold) → IsRow facts side output row → IsRow (facts ++ added) side output row
+pub row_stays : (facts added : List Decided) (side : Side) (output : ℕ) (row : List InputClaims) → IsRow facts side output row → IsRow (facts ++ added) side output row
 row_stays facts added side output row is = record {
   each = λ k d below. input_stays facts added side output k (get_or row k d) (is.each k d below);
 }
@@ -42,7 +42,7 @@ told_decided : (facts : List Decided) (claim : Claim) (holds : Bool) (number : �
 told_decided facts claim holds number is =
     (holds, (number, is.within, get_or_default facts number (decided claim holds) no_fact is.within ∙ is.says))
 
-pub inputs_decided : (facts : List Decided) (inputs : ℕ) (side : Side) (output : ℕ) (row : List InputTold) → length row ≡ inputs → IsRow facts side output row → AreInputsDecided facts inputs side output
+pub inputs_decided : (facts : List Decided) (inputs : ℕ) (side : Side) (output : ℕ) (row : List InputClaims) → length row ≡ inputs → IsRow facts side output row → AreInputsDecided facts inputs side output
 inputs_decided facts inputs side output row whole is = record { each = each }
   where
     each : (shape : Shape) → HasOneInput shape → IsPlaced inputs shape → IsDecided facts (record { side = side; output = output; shape = shape })
@@ -50,7 +50,7 @@ inputs_decided facts inputs side output row whole is = record { each = each }
     each (Down i) one below = told_decided facts _ _ _ (is.each i no_told (omega (arith, below, whole))).down
     each (Swap i j a b) one placed = absurd one
 
-pub ends_decided : (graphs : Graphs) (facts : List Decided) (pair : Pair) (one other : List InputTold) → length one ≡ graphs.first.inputs → length other ≡ graphs.second.inputs → AreRows facts pair one other → AreEndsDecided graphs facts pair
+pub ends_decided : (graphs : Graphs) (facts : List Decided) (pair : Pair) (one other : List InputClaims) → length one ≡ graphs.first.inputs → length other ≡ graphs.second.inputs → AreRows facts pair one other → AreEndsDecided graphs facts pair
 ends_decided graphs facts pair one other first second are = record { each = each }
   where
     each : (side : Side) → AreInputsDecided facts (graph_of graphs side).inputs side (port_on side pair)
@@ -58,16 +58,16 @@ ends_decided graphs facts pair one other first second are = record { each = each
     each Second = inputs_decided facts graphs.second.inputs Second pair.to other second are.second
 
 -- the row of a side
-pub row_of_side : (facts : List Decided) (pair : Pair) (side : Side) (one other : List InputTold) → AreRows facts pair one other → IsRow facts side (port_on side pair) (row_on side one other)
+pub row_of_side : (facts : List Decided) (pair : Pair) (side : Side) (one other : List InputClaims) → AreRows facts pair one other → IsRow facts side (port_on side pair) (row_on side one other)
 row_of_side facts pair First one other are = are.first
 row_of_side facts pair Second one other are = are.second
 
-pub length_of_side : (side : Side) (one other : List InputTold) (n : ℕ) → length one ≡ n → length other ≡ n → length (row_on side one other) ≡ n
+pub length_of_side : (side : Side) (one other : List InputClaims) (n : ℕ) → length one ≡ n → length other ≡ n → length (row_on side one other) ≡ n
 length_of_side First one other n first second = first
 length_of_side Second one other n first second = second
 
 -- what a row tells of an input with a value
-pub row_tells : (facts : List Decided) (side : Side) (output : ℕ) (row : List InputTold) (input : ℕ) (value : Bool) → IsRow facts side output row → input < length row → IsToldAs facts (record { side = side; output = output; shape = one_input input value }) (told_at row input value).holds (told_at row input value).number
+pub row_tells : (facts : List Decided) (side : Side) (output : ℕ) (row : List InputClaims) (input : ℕ) (value : Bool) → IsRow facts side output row → input < length row → IsToldAs facts (record { side = side; output = output; shape = one_input input value }) (told_at row input value).holds (told_at row input value).number
 row_tells facts side output row input false is below = (is.each input no_told below).up
 row_tells facts side output row input true is below = (is.each input no_told below).down
 

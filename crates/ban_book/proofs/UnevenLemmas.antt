@@ -20,7 +20,7 @@ use Rattle.account_core.specs.Ports.{IsKnown}
 use Rattle.account_core.specs.Steps.{IsValidBan}
 use Rattle.account_core.specs.Tallies.{other_side, port_on, AreBothOfEach, AreOfEach}
 use Rattle.ban_book.specs.Vectors.{IsVector}
-use Rattle.ban_book.specs.declared.told.InputTold.{InputTold}
+use Rattle.ban_book.specs.declared.input_claims.InputClaims.{InputClaims}
 use Rattle.ban_book.specs.Told.{AddsFact, IsToldAs}
 use Rattle.ban_book.specs.Listed.{tally_of, tally_step, AreLists, ListsBoth, ListsOf, ListsOne}
 use Rattle.ban_book.specs.Rows.{both_of, lists_by, no_told, one_of, row_on, says_both, says_one, AreRows, HasOneOutput, IsRow, IsTallyBan, IsTold}
@@ -39,7 +39,7 @@ adds facts claim told holds number before after is same more = record {
 }
 
 -- one input more
-module _ (facts : List Decided) (side : Side) (output input : ℕ) (holds : Bool) (told : InputTold) (before : List ℕ) (is : IsTold facts side output input told) where
+module _ (facts : List Decided) (side : Side) (output input : ℕ) (holds : Bool) (told : InputClaims) (before : List ℕ) (is : IsTold facts side output input told) where
   one_more : ListsOne facts holds side output input before → ListsOne facts holds side output (input + 1) (before ++ one_of holds told)
   one_more lists =
       elim (cases_Bool (beq told.up.holds holds)) [
@@ -65,7 +65,7 @@ module _ (facts : List Decided) (side : Side) (output input : ℕ) (holds : Bool
       ]
 
 -- what each input of a row gives is listed
-listed : (shaped : List ℕ → List Shape → Type 0) (facts : List Decided) (holds : Bool) (side : Side) (output : ℕ) (numbers_of : InputTold → List ℕ) (row : List InputTold) → shaped [] [] → ((input : ℕ) (told : InputTold) (before : List ℕ) → IsTold facts side output input told → ListsOf shaped facts holds side output input before → ListsOf shaped facts holds side output (input + 1) (before ++ numbers_of told)) → IsRow facts side output row → (k : ℕ) → k ≤ length row → ListsOf shaped facts holds side output k (flat_map numbers_of (take k row))
+listed : (shaped : List ℕ → List Shape → Type 0) (facts : List Decided) (holds : Bool) (side : Side) (output : ℕ) (numbers_of : InputClaims → List ℕ) (row : List InputClaims) → shaped [] [] → ((input : ℕ) (told : InputClaims) (before : List ℕ) → IsTold facts side output input told → ListsOf shaped facts holds side output input before → ListsOf shaped facts holds side output (input + 1) (before ++ numbers_of told)) → IsRow facts side output row → (k : ℕ) → k ≤ length row → ListsOf shaped facts holds side output k (flat_map numbers_of (take k row))
 listed shaped facts holds side output numbers_of row start more is zero below =
     lists_none shaped facts holds side output [] refl start
 listed shaped facts holds side output numbers_of row start more is (suc k) below =
@@ -76,16 +76,16 @@ listed shaped facts holds side output numbers_of row start more is (suc k) below
     let next : k + 1 ≡ suc k = omega arith in
     subst (λ n. ListsOf shaped facts holds side output n (flat_map numbers_of (take n row))) next (subst (ListsOf shaped facts holds side output (k + 1)) (sym numbers) (more k told (flat_map numbers_of (take k row)) (is.each k no_told within) before))
 
-ones_listed : (facts : List Decided) (holds : Bool) (side : Side) (output : ℕ) (row : List InputTold) → IsRow facts side output row → ListsOne facts holds side output (length row) (flat_map (one_of holds) row)
+ones_listed : (facts : List Decided) (holds : Bool) (side : Side) (output : ℕ) (row : List InputClaims) → IsRow facts side output row → ListsOne facts holds side output (length row) (flat_map (one_of holds) row)
 ones_listed facts holds side output row is =
     subst (λ l. ListsOne facts holds side output (length row) (flat_map (one_of holds) l)) (take_all (length row) row (omega arith)) (listed AreOfEach facts holds side output (one_of holds) row tt (λ input told before. one_more facts side output input holds told before) is (length row) (omega arith))
 
-boths_listed : (facts : List Decided) (holds : Bool) (side : Side) (output : ℕ) (row : List InputTold) → IsRow facts side output row → ListsBoth facts holds side output (length row) (flat_map (both_of holds) row)
+boths_listed : (facts : List Decided) (holds : Bool) (side : Side) (output : ℕ) (row : List InputClaims) → IsRow facts side output row → ListsBoth facts holds side output (length row) (flat_map (both_of holds) row)
 boths_listed facts holds side output row is =
     subst (λ l. ListsBoth facts holds side output (length row) (flat_map (both_of holds) l)) (take_all (length row) row (omega arith)) (listed AreBothOfEach facts holds side output (both_of holds) row refl (λ input told before. both_more facts side output input holds told before) is (length row) (omega arith))
 
 -- as many facts as inputs of which a claim says so
-one_length : (holds : Bool) (told : InputTold) (rest : List ℕ) (row : List InputTold) → length rest ≡ length (filter (says_one holds) row) → length (one_of holds told ++ rest) ≡ length (filter (says_one holds) (told ∷ row))
+one_length : (holds : Bool) (told : InputClaims) (rest : List ℕ) (row : List InputClaims) → length rest ≡ length (filter (says_one holds) row) → length (one_of holds told ++ rest) ≡ length (filter (says_one holds) (told ∷ row))
 one_length holds told rest row same =
     elim (cases_Bool (beq told.up.holds holds)) [
       | inl e ↦
@@ -102,15 +102,15 @@ one_length holds told rest row same =
           ]
     ]
 
-ones_filtered : (holds : Bool) (row : List InputTold) → length (flat_map (one_of holds) row) ≡ length (filter (says_one holds) row)
+ones_filtered : (holds : Bool) (row : List InputClaims) → length (flat_map (one_of holds) row) ≡ length (filter (says_one holds) row)
 ones_filtered holds [] = refl
 ones_filtered holds (told ∷ row) = one_length holds told (flat_map (one_of holds) row) row (ones_filtered holds row)
 
-ones_length : (holds : Bool) (row : List InputTold) → length (flat_map (one_of holds) row) ≡ count_by (says_one holds) row
+ones_length : (holds : Bool) (row : List InputClaims) → length (flat_map (one_of holds) row) ≡ count_by (says_one holds) row
 ones_length holds row = ones_filtered holds row ∙ length-filter (says_one holds) row
 
 -- twice as many as inputs of which both do
-both_length : (holds : Bool) (told : InputTold) (rest : List ℕ) (row : List InputTold) → length rest ≡ 2 * length (filter (says_both holds) row) → length (both_of holds told ++ rest) ≡ 2 * length (filter (says_both holds) (told ∷ row))
+both_length : (holds : Bool) (told : InputClaims) (rest : List ℕ) (row : List InputClaims) → length rest ≡ 2 * length (filter (says_both holds) row) → length (both_of holds told ++ rest) ≡ 2 * length (filter (says_both holds) (told ∷ row))
 both_length holds told rest row same =
     elim (cases_Bool (says_both holds told)) [
       | inl e ↦
@@ -119,11 +119,11 @@ both_length holds told rest row same =
           omega (arith, same, ap (λ (l : List ℕ). length (l ++ rest)) (cond-false (says_both holds told) (told.up.number ∷ told.down.number ∷ []) [] e), ap length (cond-false (says_both holds told) (told ∷ filter (says_both holds) row) (filter (says_both holds) row) e))
     ]
 
-boths_filtered : (holds : Bool) (row : List InputTold) → length (flat_map (both_of holds) row) ≡ 2 * length (filter (says_both holds) row)
+boths_filtered : (holds : Bool) (row : List InputClaims) → length (flat_map (both_of holds) row) ≡ 2 * length (filter (says_both holds) row)
 boths_filtered holds [] = refl
 boths_filtered holds (told ∷ row) = both_length holds told (flat_map (both_of holds) row) row (boths_filtered holds row)
 
-boths_length : (holds : Bool) (row : List InputTold) → length (flat_map (both_of holds) row) ≡ 2 * count_by (says_both holds) row
+boths_length : (holds : Bool) (row : List InputClaims) → length (flat_map (both_of holds) row) ≡ 2 * count_by (says_both holds) row
 boths_length holds row = boths_filtered holds row ∙ ap (λ n. 2 * n) (length-filter (says_both holds) row)
 
 -- of both claims of an input one says so, or both say the opposite
@@ -137,12 +137,12 @@ opposite false true false = refl
 opposite false false true = refl
 opposite false false false = refl
 
-pub both_or_one : (holds : Bool) (row : List InputTold) → count_by (says_one holds) row + count_by (says_both (not holds)) row ≡ length row
+pub both_or_one : (holds : Bool) (row : List InputClaims) → count_by (says_one holds) row + count_by (says_both (not holds)) row ≡ length row
 both_or_one holds row =
     omega (arith, length-filter_both (says_one holds) (says_both (not holds)) (λ told. opposite holds told.up.holds told.down.holds) row, length-filter (says_one holds) row, length-filter (says_both (not holds)) row)
 
 -- A tally's ban is valid in view of facts that the rows tell of.
-module _ (graphs : Graphs) (facts : List Decided) (pair : Pair) (one other : List InputTold) (are : AreRows facts pair one other) where
+module _ (graphs : Graphs) (facts : List Decided) (pair : Pair) (one other : List InputClaims) (are : AreRows facts pair one other) where
   lists_are : (side : Side) (holds : Bool) → AreLists facts pair side holds (lists_by holds (row_on side one other) (row_on (other_side side) one other))
   lists_are side holds = record {
     bound = length (row_on side one other);
@@ -168,7 +168,7 @@ no_vector : (holds : Bool) (one both : List ℕ) → IsVector (tally_step holds 
 no_vector true one both is = is
 no_vector false one both is = is
 
-pub uneven_shown : (graphs : Graphs) (facts : List Decided) (pairs : List Pair) (pair : Pair) (one other : List InputTold) (ban : Ban) → All (IsKnown graphs) pairs → HasOneOutput pairs pair → length one ≡ graphs.first.inputs → length other ≡ graphs.first.inputs → IsTallyBan pair one other ban → AreRows facts pair one other → IsShownBan graphs facts pairs ban
+pub uneven_shown : (graphs : Graphs) (facts : List Decided) (pairs : List Pair) (pair : Pair) (one other : List InputClaims) (ban : Ban) → All (IsKnown graphs) pairs → HasOneOutput pairs pair → length one ≡ graphs.first.inputs → length other ≡ graphs.first.inputs → IsTallyBan pair one other ban → AreRows facts pair one other → IsShownBan graphs facts pairs ban
 uneven_shown graphs facts pairs pair one other ban known has first second is are =
     subst (IsShownBan graphs facts pairs) (sym is.ban_is) (record {
       valid = λ bans. uneven_valid graphs facts pair one other are bans is.side is.holds has.of_output (All-contains (IsKnown graphs) pairs pair known has.has) first second is.more;

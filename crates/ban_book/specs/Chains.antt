@@ -1,4 +1,4 @@
--- The bans with one first pair are a chain, from the last back to the first, and those without pairs are one.
+-- The bans with the same first pair are linked in a chain, the latest first, and so are those without pairs (an index of lists).
 use Rattle.std.specs.Prelude.{◌≡◌, ℕ, ◌<◌, ◌≤◌, List, Option, None, Some, IfSome, length, slice_get, slice_index_or}
 use Rattle.std.specs.Map.{lookup}
 use Rattle.std.specs.Option.{option_eq}
@@ -15,7 +15,7 @@ last_of heads first = lookup (option_eq pair_eq.it first) heads
 abbrev pub first_of : Ban → Option Pair
 first_of ban = slice_get ban.pairs 0
 
--- the ban of a number is there, and of a chain
+-- there is a ban of this number, and it is of the chain
 pub record IsOfChain (bans : List Ban) (first : Option Pair) (number : ℕ) : Type 0 where
   pub there : number < length bans
   pub first_is : (d : Ban) → first_of (slice_index_or bans number d) ≡ first
@@ -26,12 +26,12 @@ pub record IsUpTo (noted : Option ℕ) (number : ℕ) : Type 0 where
   pub noted_is : noted ≡ Some last
   pub up_to : number ≤ last
 
--- Of the bans below a number, the last one of a chain, if there is any.
+-- What is noted is the latest ban of a chain among those below a number, if there is one.
 pub record IsLast (bans : List Ban) (first : Option Pair) (below : ℕ) (noted : Option ℕ) : Type 0 where
   pub found : IfSome noted (λ number. (number < below) × IsOfChain bans first number)
   pub all : (number : ℕ) → number < below → IsOfChain bans first number → IsUpTo noted number
 
--- The last ban of each chain is noted, and for each ban the one before it in its chain.
+-- The latest ban of each chain is noted, and for each ban the one made before it in its chain.
 pub record AreChained (bans : List Ban) (last : Option Pair → Option ℕ) (before : List (Option ℕ)) : Type 0 where
   pub size : length before ≡ length bans
   pub lasts : (first : Option Pair) → IsLast bans first (length bans) (last first)
@@ -39,12 +39,12 @@ pub record AreChained (bans : List Ban) (last : Option Pair → Option ℕ) (bef
       → IsOfChain bans first number
       → IsLast bans first number (slice_index_or before number None)
 
--- no ban of a chain is within pairs
+-- no ban of a chain has all of its pairs among these
 abbrev pub HasNoneWithin : List Ban → Option Pair → List Pair → Type 0
 HasNoneWithin bans first pairs =
     (number : ℕ) (d : Ban) → IsOfChain bans first number → IsWithin pairs (slice_index_or bans number d) → ⊥
 
--- A chain from one of its bans on: each that is within pairs is that ban or one before it.
+-- A chain was gone over down to one of its bans: each that has all of its pairs among these is that ban or an earlier one.
 pub record IsWalked (bans : List Ban) (first : Option Pair) (pairs : List Pair) (next : Option ℕ) : Type 0 where
   pub found : IfSome next (IsOfChain bans first)
   pub rest : (number : ℕ) (d : Ban)

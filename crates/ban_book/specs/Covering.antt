@@ -7,7 +7,7 @@ use Rattle.account_core.specs.declared.step.Ban.{Ban}
 pub record IsWithin (pairs : List Pair) (ban : Ban) : Type 0 where
   pub among : All (Contains pairs) ban.pairs
 
--- A number of a ban that is held, all pairs of which are among the given ones.
+-- The number of a ban, all pairs of which are among the given ones.
 pub record Covers (bans : List Ban) (pairs : List Pair) (number : ℕ) : Type 0 where
   pub held : number < length bans
   pub within : (d : Ban) → IsWithin pairs (slice_index_or bans number d)

@@ -8,12 +8,12 @@ use Rattle.account_core.specs.Given.{Decided, given_of}
 use Rattle.account_core.specs.Steps.{IsValidBan}
 use Rattle.ban_book.specs.declared.mismatched.Unlike.{Unlike}
 
--- A ban of these pairs that is valid in view of facts.
+-- The ban is of these pairs, and valid in view of the facts.
 pub record IsBanBy (graphs : Graphs) (facts : List Decided) (pairs : List Pair) (ban : Ban) : Type 0 where
   pub pairs_are : ban.pairs ≡ pairs
   pub valid : (bans : List Ban) → IsValidBan graphs (given_of facts bans) ban
 
--- of the numbers of two facts, of which the one holds, or the other
+-- the numbers of two facts, sorted by which of them holds
 abbrev pub unlike_of : Bool → ℕ → ℕ → Unlike
 unlike_of true one other = record { fails = other; holds = one }
 unlike_of false one other = record { fails = one; holds = other }

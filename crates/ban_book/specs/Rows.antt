@@ -1,5 +1,5 @@
--- What is told of an output's claims of one input, by inputs (unateness and support of functions, as in textbooks of logic
--- synthesis; a match keeps both: Katebi and Markov, DATE 2010).
+-- An output's decided claims of one input, a row for each output (unateness and support of functions, as in textbooks of logic synthesis; a match keeps both:
+-- Katebi and Markov, DATE 2010).
 use Rattle.std.specs.Prelude.{◌≡◌, ◌≢◌, ℕ, ◌<◌, ◌||◌, ◌&&◌, Bool, true, false, not, if◌then◌else◌}
 use Rattle.std.specs.Prelude.{List, [], ◌∷◌, All, Contains, count_by, slice_index_or}
 use Rattle.std.specs.Bool.{beq}
@@ -14,8 +14,8 @@ use Rattle.claim_core.specs.Images.{moved_value}
 use Rattle.account_core.specs.declared.step.Ban.{Ban}
 use Rattle.account_core.specs.Given.{Decided}
 use Rattle.account_core.specs.Tallies.{other_side}
-use Rattle.ban_book.specs.declared.told.Told.{Told}
-use Rattle.ban_book.specs.declared.told.InputTold.{InputTold}
+use Rattle.ban_book.specs.declared.input_claims.DecidedClaim.{DecidedClaim}
+use Rattle.ban_book.specs.declared.input_claims.InputClaims.{InputClaims}
 use Rattle.ban_book.specs.declared.tallies.Lists.{Lists}
 use Rattle.ban_book.specs.declared.mismatched.Unlike.{Unlike}
 use Rattle.ban_book.specs.declared.mismatches.Apart.{Apart}
@@ -23,93 +23,93 @@ use Rattle.ban_book.specs.Told.{IsToldAs}
 use Rattle.ban_book.specs.Listed.{tally_of}
 use Rattle.ban_book.specs.Mismatched.{mismatch_of, unlike_of}
 
--- Both claims of an input at an output are told of.
-pub record IsTold (facts : List Decided) (side : Side) (output input : ℕ) (told : InputTold) : Type 0 where
+-- These are the facts of both claims of an input at an output.
+pub record IsTold (facts : List Decided) (side : Side) (output input : ℕ) (told : InputClaims) : Type 0 where
   pub up : IsToldAs facts (record { side = side; output = output; shape = Up input }) told.up.holds told.up.number
   pub down : IsToldAs facts (record { side = side; output = output; shape = Down input }) told.down.holds told.down.number
 
--- An output's row: entry i tells of input i.
-pub record IsRow (facts : List Decided) (side : Side) (output : ℕ) (row : List InputTold) : Type 0 where
+-- An output's row: entry i has the claims of input i.
+pub record IsRow (facts : List Decided) (side : Side) (output : ℕ) (row : List InputClaims) : Type 0 where
   pub each : EachAt (IsTold facts side output) row
 
 -- The rows of both outputs of a pair.
-pub record AreRows (facts : List Decided) (pair : Pair) (one other : List InputTold) : Type 0 where
+pub record AreRows (facts : List Decided) (pair : Pair) (one other : List InputClaims) : Type 0 where
   pub first : IsRow facts First pair.from one
   pub second : IsRow facts Second pair.to other
 
--- Among pairs there is one of outputs.
+-- One of the pairs is of outputs, and it is this one.
 pub record HasOneOutput (pairs : List Pair) (pair : Pair) : Type 0 where
   pub has : Contains pairs pair
   pub of_output : pair.kind ≡ Output
   pub only : All (λ other. other.kind ≡ Output → other ≡ pair) pairs
 
--- what is told of the claim of an input with a value
-abbrev pub told_by : Bool → InputTold → Told
+-- the decided claim for a change of the input from a value
+abbrev pub told_by : Bool → InputClaims → DecidedClaim
 told_by false told = told.up
 told_by true told = told.down
 
 -- what stands for an input that isn't there
-abbrev pub no_told : InputTold
+abbrev pub no_told : InputClaims
 no_told = record { up = record { number = 0; holds = true }; down = record { number = 0; holds = true } }
 
-abbrev pub told_at : List InputTold → ℕ → Bool → Told
+abbrev pub told_at : List InputClaims → ℕ → Bool → DecidedClaim
 told_at row input value = told_by value (slice_index_or row input no_told)
 
--- whether one of an input's claims, or both, hold (or fail)
-abbrev pub says_one : Bool → InputTold → Bool
+-- whether one of an input's claims holds (or fails), and whether both do
+abbrev pub says_one : Bool → InputClaims → Bool
 says_one holds told = beq told.up.holds holds || beq told.down.holds holds
 
-abbrev pub says_both : Bool → InputTold → Bool
+abbrev pub says_both : Bool → InputClaims → Bool
 says_both holds told = beq told.up.holds holds && beq told.down.holds holds
 
 -- the fact of one claim of an input that holds (or fails), if there is one, and those of both, if both do
-abbrev pub one_of : Bool → InputTold → List ℕ
+abbrev pub one_of : Bool → InputClaims → List ℕ
 one_of holds told =
     if beq told.up.holds holds then told.up.number ∷ []
     else (if beq told.down.holds holds then told.down.number ∷ [] else [])
 
-abbrev pub both_of : Bool → InputTold → List ℕ
+abbrev pub both_of : Bool → InputClaims → List ℕ
 both_of holds told = if says_both holds told then told.up.number ∷ told.down.number ∷ [] else []
 
 -- for one row the facts of one claim an input that holds (or fails), and for another one those of both claims that don't
-abbrev pub lists_by : Bool → List InputTold → List InputTold → Lists
+abbrev pub lists_by : Bool → List InputClaims → List InputClaims → Lists
 lists_by holds one other = record { one = flat_map (one_of holds) one; both = flat_map (both_of (not holds)) other }
 
-abbrev pub row_on : Side → List InputTold → List InputTold → List InputTold
+abbrev pub row_on : Side → List InputClaims → List InputClaims → List InputClaims
 row_on First one other = one
 row_on Second one other = other
 
 -- A tally's ban of a pair: the row of one side has more inputs of which a claim holds (or fails).
-pub record IsTallyBan (pair : Pair) (one other : List InputTold) (ban : Ban) : Type 0 where
+pub record IsTallyBan (pair : Pair) (one other : List InputClaims) (ban : Ban) : Type 0 where
   pub side : Side
   pub holds : Bool
   pub more : count_by (says_one holds) (row_on (other_side side) one other) < count_by (says_one holds) (row_on side one other)
   pub ban_is : ban ≡ tally_of pair holds (lists_by holds (row_on side one other) (row_on (other_side side) one other))
 
 -- Two outputs depend on as many inputs, and are binate in as many.
-pub record AreEven (one other : List InputTold) : Type 0 where
+pub record AreEven (one other : List InputClaims) : Type 0 where
   pub failing : count_by (says_one false) one ≡ count_by (says_one false) other
   pub holding : count_by (says_one true) one ≡ count_by (says_one true) other
 
--- Both claims of an input of the first circuit are told as the ones that its pair and an output's carry them to.
-pub record AreAlike (output : Pair) (one other : List InputTold) (input : Pair) : Type 0 where
+-- Each claim of an input of the first circuit is decided as its image under the input's pair and the output's.
+pub record AreAlike (output : Pair) (one other : List InputClaims) (input : Pair) : Type 0 where
   pub each : (value : Bool)
       → (told_at one input.from value).holds ≡ (told_at other input.to (moved_value output.flip input value)).holds
 
--- The claim of an input with a value and its image are told apart, by these facts.
-pub record IsApartAt (output : Pair) (one other : List InputTold) (input : Pair) (value : Bool) (unlike : Unlike) : Type 0 where
+-- The claim for a change of an input from a value and its image are decided differently, by these facts.
+pub record IsApartAt (output : Pair) (one other : List InputClaims) (input : Pair) (value : Bool) (unlike : Unlike) : Type 0 where
   pub differ : (told_at one input.from value).holds ≢ (told_at other input.to (moved_value output.flip input value)).holds
   pub unlike_is : unlike ≡ unlike_of (told_at one input.from value).holds (told_at one input.from value).number
       (told_at other input.to (moved_value output.flip input value)).number
 
--- Some claim of an input's is told apart so.
-pub record IsApart (output : Pair) (one other : List InputTold) (found : Apart) : Type 0 where
+-- So it is for one of the input's two claims.
+pub record IsApart (output : Pair) (one other : List InputClaims) (found : Apart) : Type 0 where
   pub of_input : found.input.kind ≡ Input
   pub value : Bool
   pub is : IsApartAt output one other found.input value found.unlike
 
--- A mismatch's ban of an input's pair, among some, and an output's.
-pub record IsMismatchBan (pairs : List Pair) (output : Pair) (one other : List InputTold) (ban : Ban) : Type 0 where
+-- The ban by a mismatch of an output's pair and an input's, which is one of these.
+pub record IsMismatchBan (pairs : List Pair) (output : Pair) (one other : List InputClaims) (ban : Ban) : Type 0 where
   pub found : Apart
   pub among : Contains pairs found.input
   pub is : IsApart output one other found

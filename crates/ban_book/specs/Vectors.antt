@@ -1,5 +1,5 @@
--- Bans that vectors show are a last resort: facts about single inputs show none of the pairs (unateness and support of
--- functions, as in textbooks of logic synthesis; a match keeps both: Katebi and Markov, DATE 2010).
+-- A ban by a vector is a last resort: it is made only where no claim of one input shows one (unateness and support of functions, as in textbooks of logic
+-- synthesis; a match keeps both: Katebi and Markov, DATE 2010).
 use Rattle.std.specs.Prelude.{◌≡◌, ◌≢◌, ℕ, ⊤, Bool, List, [], All, AllPairs, Contains}
 use Rattle.circuits.specs.declared.port.Pair.{Pair}
 use Rattle.circuits.specs.declared.port.PortKind.TheVariants.{Output}
@@ -46,7 +46,7 @@ pub record AreInputsDecided (facts : List Decided) (inputs : ℕ) (side : Side) 
       → IsPlaced inputs shape
       → IsDecided facts (record { side = side; output = output; shape = shape })
 
--- That was decided of both outputs of a pair, at all inputs of their circuits.
+-- So it was decided of both outputs of a pair, for all inputs of their circuits.
 pub record AreEndsDecided (graphs : Graphs) (facts : List Decided) (pair : Pair) : Type 0 where
   pub each : (side : Side) → AreInputsDecided facts (graph_of graphs side).inputs side (port_on side pair)
 
@@ -63,7 +63,7 @@ pub record HaveNoFacts (graphs : Graphs) (facts : List Decided) (pairs : List Pa
       → ⊥
   pub no_tally : (kind : Tallied) (have lack : List ℕ) → IsShownBy graphs facts pairs (step.Tally kind have lack) → ⊥
 
--- Where a vector shows a ban, its outputs' claims of one input are decided, and no such claims show a ban of its pairs.
+-- If the ban is by a vector, then all claims of one input at its two outputs are decided, and none of them shows a ban of its pairs.
 pub record IsLastResort (graphs : Graphs) (facts : List Decided) (ban : Ban) : Type 0 where
   pub decided : All (λ pair. pair.kind ≡ Output → AreEndsDecided graphs facts pair) ban.pairs
   pub no_facts : HaveNoFacts graphs facts ban.pairs
@@ -72,6 +72,6 @@ pub record IsLastResort (graphs : Graphs) (facts : List Decided) (ban : Ban) : T
 pub record AreLastResorts (graphs : Graphs) (facts : List Decided) (bans : List Ban) : Type 0 where
   pub each : All (λ ban. IsVector ban.step → IsLastResort graphs facts ban) bans
 
--- no ban that a vector shows came after others
+-- none of these bans is by a vector
 abbrev pub AddsNoVector : List Ban → Type 0
 AddsNoVector added = All (λ ban. IsVector ban.step → ⊥) added

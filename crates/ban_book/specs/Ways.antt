@@ -15,7 +15,7 @@ use Rattle.account_core.specs.Tallies.{Ascend, other_side}
 use Rattle.ban_book.specs.Vectors.{AddsNoVector}
 use Rattle.ban_book.specs.declared.block.Block.{Block}
 
--- of a port of a circuit and one of the other: that of the first circuit, and that of the second
+-- of a port of one circuit and a port of the other: the port of the first circuit, and the port of the second
 abbrev pub first_port : Side → ℕ → ℕ → ℕ
 first_port First port other = port
 first_port Second port other = other
@@ -33,18 +33,18 @@ nth_way side kind port number =
 abbrev pub ways_in : Block → List Pair
 ways_in block = ways block.kind block.from block.to
 
--- the first circuit's ports that the ways of a port have: the port itself, or all
+-- the ports of the first circuit to which a port's ways belong: the port itself, or all of them
 abbrev pub ports_tried : Side → ℕ → ℕ → List ℕ
 ports_tried First port count = port ∷ []
 ports_tried Second port count = range_with_len 0 count
 
--- a port of a circuit, and all ports of the other
+-- a port of one circuit, and all ports of the other
 abbrev pub block_of : Side → PortKind → ℕ → ℕ → Block
 block_of side kind port count =
     record { kind = kind; from = ports_tried side port count; to = ports_tried (other_side side) port count }
 
--- Ports of both circuits, in order, more than either has, so that one of the first ones goes to one of the second (P. Hall, J. London
--- Math. Soc. 1935; a block of zeros: Frobenius, 1917).
+-- Ports of both circuits, in order, together more than either has, so that one of the first circuit's goes to one of the second's (P. Hall, J. London Math.
+-- Soc. 1935; a block of zeros: Frobenius, 1917).
 pub record IsBlock (count : ℕ) (block : Block) : Type 0 where
   pub from_ascends : Ascend block.from
   pub to_ascends : Ascend block.to
@@ -52,7 +52,7 @@ pub record IsBlock (count : ℕ) (block : Block) : Type 0 where
   pub to_below : All (λ port. port < count) block.to
   pub too_many : count < length block.from + length block.to
 
--- A way is closed beside pairs: it is impossible, or it leads into a ban that is held.
+-- A way is closed beside pairs: it shares a port with one of them, or an earlier ban excludes it beside them.
 pub record IsClosed (bans : List Ban) (pairs : List Pair) (pair : Pair) (ref : Option ℕ) : Type 0 where
   pub refers : IsReference (given_of [] bans) pairs pair ref
   pub held : (ban : ℕ) → ref ≡ Some ban → ban < length bans
@@ -61,7 +61,7 @@ pub record IsClosed (bans : List Ban) (pairs : List Pair) (pair : Pair) (ref : O
 abbrev pub AreClosed : List Ban → List Pair → List Pair → List (Option ℕ) → Type 0
 AreClosed bans pairs ways refs = AllZip (IsClosed bans pairs) ways refs
 
--- Bans came after those that were held, and no vector shows them. Where those before were valid all are, in view of any facts.
+-- Bans were added, none by a vector. Where the earlier ones are valid all are, in view of any facts.
 pub record HoldsMore (graphs : Graphs) (before after : List Ban) : Type 0 where
   pub added : List Ban
   pub more : after ≡ before ++ added

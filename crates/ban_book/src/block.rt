@@ -1,4 +1,4 @@
-//! Ports of the one circuit of which some have to go to some of the other.
+//! Ports of both circuits, one of which goes to one of the others (a pigeonhole argument).
 
 ghost use Rattle.std.specs.Prelude.{◌≡◌, ◌+◌, ◌<◌, ◌++◌, All, IfOk, OnOk};
 ghost use Rattle.std.specs.List.{range_with_len};
@@ -12,8 +12,8 @@ use items::Items;
 use net_core::Side;
 use std::alloc::{AllocError, Global};
 
-/// Ports of the first circuit, and ports of the second, of one kind. Where they are more than either circuit has, one of
-/// the first ones goes to one of the second ones.
+/// Ports of one kind, of the first circuit and of the second. Where they are together more than either circuit has,
+/// some port of `from` goes to some port of `to`.
 #[derive(Debug, Drop, PartialEq, Eq)]
 pub struct Block {
     pub kind: PortKind,
@@ -21,7 +21,7 @@ pub struct Block {
     pub to: Items<u32>,
 }
 
-/// A port of a circuit, and all ports of the other one, of which there are n.
+/// The block of one port: it goes to some port of the other circuit, which has `count` of them.
 pub fn block_of(
     alloc: Global,
     side: Side,
@@ -36,7 +36,7 @@ pub fn block_of(
     Ok(Block { kind, from, to })
 }
 
-// The first circuit's ports that the ways of a port of this side have: the port itself, or all.
+// The first circuit's ports of that block: the port itself, or all where it is a port of the second circuit.
 fn ports_tried(alloc: Global, side: Side, port: u32, count: u32) -> Result<Items<u32>, AllocError>
     ensures { IfOk result (λ ports. ports ≡ ports_tried side port count) }
 {
@@ -92,7 +92,7 @@ pub fn is_marked(marks: &[bool], port: u32) -> bool {
     }
 }
 
-/// All ways to pair a port of the one list with one of the other.
+/// All ways to pair a port of `from` with one of `to`.
 pub fn ways_in(alloc: Global, block: &Block) -> Result<Vec<Pair>, AllocError>
     ensures { IfOk result (λ list. list.items ≡ ways_in block.now) }
 {

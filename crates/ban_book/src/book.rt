@@ -1,4 +1,4 @@
-//! The bans that are held, and how they are looked up.
+//! The book of bans, and how they are looked up.
 
 ghost use Rattle.std.specs.Prelude.{◌≡◌, ◌↔◌, [], ◌∷◌, ◌++◌, All, Contains, IfNone, IfOk, IfSome, IsTrue, OnErr, OnOk, length};
 ghost use Rattle.ban_book.specs.Chains.{HasNoneWithin, first_of};
@@ -11,21 +11,21 @@ use items::Items;
 use std::alloc::{AllocError, Global};
 use std::marker::Model;
 
-/// Bans in the order in which they came, each under its number, from 0. Contracts see it as the list of the bans.
-/// Whether their steps are valid is for those to say who see the circuits and the facts.
+/// The bans that were made, in that order, each under its number, from 0. Contracts see the list of them. The book
+/// promises nothing of their steps: it doesn't know the circuits and the facts by which these are valid.
 ///
-/// A ban is found by its first pair: the bans with one first pair are a chain, from the last back to the first, and those without
-/// pairs are one.
+/// A ban is found by its first pair: the bans with the same first pair are linked in a chain, the latest first, and so
+/// are those without pairs.
 #[derive(Debug)]
 pub struct BanBook {
     bans: Vec<Ban>,
-    /// The last ban of each chain.
+    /// The latest ban of each chain.
     heads: IndexMap<Option<Pair>, u64>,
-    /// For each ban the one before it in its chain.
+    /// For each ban the one made before it in its chain.
     before: Vec<Option<u64>>,
 }
 
-// By hand, and so one call wherever a value ends: a derived drop is expanded there, field by field, and makes proofs long.
+// By hand, so that each exit of a function has one call for it (docs/IDIOMS.md).
 impl Drop for BanBook {
     fn drop(self) {
         let BanBook {
@@ -49,7 +49,7 @@ impl Model for BanBook {
 }
 
 impl BanBook {
-    /// No ban is held.
+    /// A book without bans.
     pub fn new(alloc: Global) -> BanBook
         ensures { result ≡ [] }
     {
@@ -60,7 +60,7 @@ impl BanBook {
         }
     }
 
-    /// Holds one more ban, and answers its number. A refusal changes nothing.
+    /// Keeps a ban under the next number, and answers that. Where memory runs out nothing changes.
     pub fn hold(&mut self, ban: Ban) -> Result<u64, AllocError>
         ensures number { IfOk result (λ number. number ≡ length self.old) }
         ensures held { OnOk result (self.new ≡ self.old ++ ban ∷ []) }
@@ -75,8 +75,8 @@ impl BanBook {
         Ok(number)
     }
 
-    /// The number of a ban that is held and excludes the pairs: all of its own pairs are among them. It is None
-    /// exactly where no ban excludes them.
+    /// The number of a ban that excludes the pairs: all of its own pairs are among them. None exactly where no ban
+    /// does.
     pub fn covering(&self, pairs: &[Pair]) -> Option<u64>
         ensures found { IfSome result (Covers self.now pairs.now) }
         ensures none { IfNone result (All (λ ban. IsWithin pairs.now ban → ⊥) self.now) }
@@ -92,7 +92,7 @@ impl BanBook {
         None
     }
 
-    // The last ban of a chain that is within the pairs.
+    // The latest ban of a chain whose pairs are all among these.
     fn last_within(&self, first: Option<Pair>, pairs: &[Pair]) -> Option<u64>
         ensures found { IfSome result (Covers self.now pairs.now) }
         ensures none { IfNone result (HasNoneWithin self.now first pairs.now) }
@@ -114,7 +114,7 @@ impl BanBook {
         self.bans.as_slice()
     }
 
-    /// The bans, in the order of their numbers. The book is given up.
+    /// The bans, in the order of their numbers, out of the book.
     pub fn into_bans(self) -> Items<Ban>
         ensures { result ≡ self }
     {

@@ -6,15 +6,15 @@ ghost use Rattle.account_core.specs.Ports.{Clash};
 
 use circuits::Pair;
 
-// Whether no matching has both pairs: of one kind, they differ, and share a port.
+// Whether no matching has both pairs: they are of one kind, differ, and share a port.
 fn clash(one: Pair, other: Pair) -> bool
     ensures { IsTrue result ↔ Clash one other }
 {
     (one.kind == other.kind) & (one != other) & ((one.from == other.from) | (one.to == other.to))
 }
 
-/// A held pair that the way clashes with, if there is one. It goes over the list: a conflict's pairs for each way of a port that is
-/// covered, and all held ones where open pairs are refined, of which the whole matchings of a search have none.
+/// An assigned pair that shares a port with the way, if there is one. The list is gone over: it has a conflict's pairs
+/// where a cover is made, and all assigned ones only where open pairs are refined.
 pub fn clashing(held: &[Pair], way: Pair) -> Option<Pair>
     ensures found { IfSome result (Contains held.now) }
     ensures clash { IfSome result (λ pair. Clash pair way) }

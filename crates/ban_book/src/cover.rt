@@ -1,4 +1,4 @@
-//! Bans that say that no way of a block is left.
+//! Bans by covers: no way between the ports of a block is left.
 
 ghost use Rattle.std.specs.Prelude.{◌≡◌, ◌⊎◌, ◌∷◌, All, AllPairs, Contains, IfOk, OnOk, List};
 ghost use Rattle.account_core.specs.declared.step.Ban.{Ban as AnyBan};
@@ -19,7 +19,8 @@ use items::{Few, Items};
 use std::alloc::{AllocError, Global};
 
 #[tactic(auto, using(crate::proofs::HoldLemmas::holds_none))]
-/// Holds the ban of these pairs, in order, for a block of which all ways are closed beside them, and answers its number.
+/// Makes the ban of pairs, in order, beside which each way of a block is impossible or excluded by an earlier ban, and
+/// answers its number.
 pub fn hold_cover(
     alloc: Global,
     graphs: &PairableGraphs<'_>,
@@ -40,7 +41,7 @@ pub fn hold_cover(
     Ok(held)
 }
 
-// The ban of these pairs for a block.
+// The ban of these pairs by the block's cover.
 fn cover_of(
     alloc: Global,
     graphs: &PairableGraphs<'_>,
@@ -57,6 +58,7 @@ fn cover_of(
     ensures step { IfOk result (λ ban. IsVector ban.step → ⊥) }
     ensures pairs { IfOk result (λ ban. ban.pairs ≡ pairs.now) }
 {
+    // both circuits have as many ports
     let _count = graphs.ports(block.kind);
     let pairs = Few::from_slice(alloc, pairs)?;
     let Block { kind, from, to } = block;
@@ -71,7 +73,7 @@ fn cover_of(
     })
 }
 
-/// Adds pairs of a ban, but for the way itself.
+/// Adds the pairs of a ban to the needed ones, but for the way itself.
 pub fn add_others(
     needed: &mut Vec<Pair>,
     held: &[Pair],
@@ -90,7 +92,7 @@ pub fn add_others(
     Ok(())
 }
 
-// Adds a held pair, unless it is the way itself.
+// Adds an assigned pair, unless it is the way itself.
 fn add_unless(
     needed: &mut Vec<Pair>,
     held: &[Pair],
@@ -110,7 +112,7 @@ fn add_unless(
     Ok(())
 }
 
-/// Adds a held pair to some of those that are held, in order.
+/// Adds an assigned pair to the needed ones, in order.
 pub fn add_one(needed: &mut Vec<Pair>, held: &[Pair], pair: Pair) -> Result<(), AllocError>
     requires part { IsPart held.now needed.old.items }
     requires apart { AllPairs AreApart held.now }
@@ -119,6 +121,7 @@ pub fn add_one(needed: &mut Vec<Pair>, held: &[Pair], pair: Pair) -> Result<(), 
     ensures added { OnOk result (Contains needed.new.items pair) }
     ensures only { OnOk result (All (λ other. Contains needed.old.items other ⊎ (other ≡ pair)) needed.new.items) }
 {
+    // contracts alone read the assigned pairs
     let _ = held;
     add(needed, pair)?;
     Ok(())

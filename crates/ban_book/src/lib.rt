@@ -1,22 +1,22 @@
-//! The bans that are held, and those that ports and rows of claims show.
+//! The bans that a search has made, and those that covers of ports and decided claims show.
 #![tactic(auto)]
 
 pub mod block;
 mod book;
 pub mod clash;
 pub mod cover;
+mod input_claims;
 mod mismatched;
 mod mismatches;
 pub mod needed;
 mod ports;
 mod row_bans;
 mod tallies;
-mod told;
 pub mod ways;
 
 pub use book::BanBook;
+pub use input_claims::{DecidedClaim, InputClaims};
 pub use mismatched::{Carried, Unlike, carry, mismatch_ban, unlike_of};
 pub use ports::{moved_value, one_input, two_inputs};
 pub use row_bans::ban_by_facts;
 pub use tallies::{Lists, tally_ban};
-pub use told::{InputTold, Told};

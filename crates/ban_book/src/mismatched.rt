@@ -1,12 +1,12 @@
-//! Bans by a claim of the first circuit that is decided otherwise than the one that pairs carry it to.
+//! Mismatches: a claim of the first circuit holds where its image under pairs fails, or the other way round.
 
 ghost use Rattle.std.specs.Prelude.{◌≡◌, IfOk};
 ghost use Rattle.net_core.specs.declared.graphs.Side.TheVariants as AnySide;
 ghost use Rattle.claim_core.specs.Images.{moved_value, one_input};
 ghost use Rattle.ban_book.specs.Mismatched.{mismatch_of, unlike_of};
 
+use crate::input_claims::DecidedClaim;
 use crate::ports::{moved_value, one_input};
-use crate::told::Told;
 use account_core::{Ban, Step};
 use circuits::Pair;
 use claim_core::Claim;
@@ -14,16 +14,21 @@ use items::Few;
 use net_core::Side;
 use std::alloc::{AllocError, Global};
 
-/// A claim of the first circuit, and that of the second which pairs carry it to.
+/// A claim of the first circuit, and its image under pairs, a claim of the second.
 #[derive(Clone, Copy, Debug, Drop)]
 pub struct Carried {
     pub claim: Claim,
     pub image: Claim,
 }
 
-/// The claim of an input with a value at an output of the first circuit, and the one that the pairs of both carry it to.
+/// The claim of the first circuit for a change of an input from a value at an output, and its image under the pairs of
+/// both.
 pub fn carry(input: Pair, output: Pair, value: bool) -> Carried
-    ensures claim { result.claim ≡ record { side = AnySide.First; output = output.from; shape = one_input input.from value } }
+    ensures claim { result.claim ≡ record {
+      side = AnySide.First;
+      output = output.from;
+      shape = one_input input.from value;
+    } }
     ensures image { result.image ≡ record {
       side = AnySide.Second;
       output = output.to;
@@ -44,16 +49,16 @@ pub fn carry(input: Pair, output: Pair, value: bool) -> Carried
     }
 }
 
-/// The numbers of two facts that tell pairs apart: a claim fails, and the one that the pairs carry it to holds, or that they carry
-/// to it.
+/// The numbers of two facts, of a claim and of its image under pairs, one of which fails and one holds: no match has
+/// these pairs.
 #[derive(Clone, Copy, Debug, Drop, PartialEq, Eq)]
 pub struct Unlike {
     pub fails: u64,
     pub holds: u64,
 }
 
-/// Which of two facts fails, and which one holds.
-pub fn unlike_of(one: Told, other: Told) -> Unlike
+/// Two decided claims, of which one fails and one holds, sorted by that.
+pub fn unlike_of(one: DecidedClaim, other: DecidedClaim) -> Unlike
     ensures { result ≡ unlike_of one.holds one.number other.number }
 {
     if one.holds {
@@ -69,7 +74,7 @@ pub fn unlike_of(one: Told, other: Told) -> Unlike
     }
 }
 
-/// The ban of pairs by two facts.
+/// The ban of these pairs by a mismatch of two facts.
 ///
 /// # Errors
 ///

@@ -1,32 +1,32 @@
-//! Bans of an input's pair and an output's, by rows that tell their claims apart.
+//! Mismatches of an input's pair and an output's, found in the rows of both outputs.
 
 ghost use Rattle.std.specs.Prelude.{◌≡◌, ◌<◌, All, Contains, IfNone, IfOk, IfSome, length};
 ghost use Rattle.circuits.specs.declared.port.PortKind.TheVariants.{Input};
 ghost use Rattle.claim_core.specs.Images.{moved_value};
 ghost use Rattle.ban_book.specs.Rows.{AreAlike, IsApart, IsApartAt, IsMismatchBan, told_at};
 
+use crate::input_claims::{DecidedClaim, InputClaims};
 use crate::mismatched::{Unlike, mismatch_ban, unlike_of};
 use crate::ports::moved_value;
-use crate::told::{InputTold, Told};
 use account_core::Ban;
 use circuits::{Pair, PortKind};
 use std::alloc::{AllocError, Global};
 
-/// The pair of an input, and the facts that tell it apart from an output's.
+/// The pair of an input that no match has beside an output's pair, and the facts that say so.
 #[derive(Clone, Copy, Debug, Drop)]
 pub(crate) struct Apart {
     pub(crate) input: Pair,
     pub(crate) unlike: Unlike,
 }
 
-/// The ban of an input's pair and an output's where a claim of the first circuit is told otherwise than the one that they carry
-/// it to, by the outputs' rows: of the first such input among some pairs.
+/// The ban of an output's pair and of the first input's pair among these where the rows show a mismatch: a claim of the
+/// first circuit holds and its image fails, or the other way round.
 pub(crate) fn mismatch_by_rows(
     alloc: Global,
     pairs: &[Pair],
     output: Pair,
-    first: &[InputTold],
-    second: &[InputTold],
+    first: &[InputClaims],
+    second: &[InputClaims],
 ) -> Result<Option<Ban>, AllocError>
     requires from { All (λ pair. pair.kind ≡ Input → pair.from < length first.now) pairs.now }
     requires to { All (λ pair. pair.kind ≡ Input → pair.to < length second.now) pairs.now }
@@ -41,17 +41,18 @@ pub(crate) fn mismatch_by_rows(
     Ok(Some(ban))
 }
 
-// The first of some pairs of inputs that the rows tell apart from an output's pair.
+// The first pair of an input among these for which the rows show a mismatch beside an output's pair.
 fn first_apart(
     pairs: &[Pair],
     output: Pair,
-    first: &[InputTold],
-    second: &[InputTold],
+    first: &[InputClaims],
+    second: &[InputClaims],
 ) -> Option<Apart>
     requires from { All (λ pair. pair.kind ≡ Input → pair.from < length first.now) pairs.now }
     requires to { All (λ pair. pair.kind ≡ Input → pair.to < length second.now) pairs.now }
     ensures some { IfSome result (λ apart. Contains pairs.now apart.input × IsApart output first.now second.now apart) }
-    ensures none { IfNone result (All (λ pair. pair.kind ≡ Input → AreAlike output first.now second.now pair) pairs.now) }
+    ensures none { IfNone result
+        (All (λ pair. pair.kind ≡ Input → AreAlike output first.now second.now pair) pairs.now) }
 {
     for input in pairs.iter() {
         if let Some(apart) = told_apart(*input, output, first, second) {
@@ -61,8 +62,13 @@ fn first_apart(
     None
 }
 
-// The facts that tell a pair, if it is of an input, apart from an output's pair.
-fn told_apart(input: Pair, output: Pair, first: &[InputTold], second: &[InputTold]) -> Option<Apart>
+// The facts of a mismatch of a pair, if it is of an input, beside an output's pair.
+fn told_apart(
+    input: Pair,
+    output: Pair,
+    first: &[InputClaims],
+    second: &[InputClaims],
+) -> Option<Apart>
     requires from { input.kind ≡ Input → input.from < length first.now }
     requires to { input.kind ≡ Input → input.to < length second.now }
     ensures some { IfSome result (λ apart. (apart.input ≡ input) × IsApart output first.now second.now apart) }
@@ -78,13 +84,13 @@ fn told_apart(input: Pair, output: Pair, first: &[InputTold], second: &[InputTol
     Some(Apart { input, unlike })
 }
 
-// The facts of the input's claim with a value and its image, where one holds and the other one fails.
+// The facts of the claim for a change of the input from a value and of its image, where one holds and one fails.
 fn apart_with(
     input: Pair,
     output: Pair,
     value: bool,
-    first: &[InputTold],
-    second: &[InputTold],
+    first: &[InputClaims],
+    second: &[InputClaims],
 ) -> Option<Unlike>
     requires from { input.from < length first.now }
     requires to { input.to < length second.now }
@@ -100,8 +106,8 @@ fn apart_with(
     Some(unlike_of(one, other))
 }
 
-// What a row tells of an input with a value.
-fn told_at(row: &[InputTold], input: u32, value: bool) -> Told
+// The decided claim of a row for a change of an input from a value.
+fn told_at(row: &[InputClaims], input: u32, value: bool) -> DecidedClaim
     requires { input < length row.now }
     ensures { result ≡ told_at row.now input value }
 {

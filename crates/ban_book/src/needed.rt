@@ -8,7 +8,7 @@ ghost use Rattle.account_core.specs.Held.{AreApart, StandsBefore};
 use circuits::{Pair, PortKind};
 use std::alloc::AllocError;
 
-/// Adds a pair to pairs in order, unless it is there.
+/// Adds a pair at its place in the order, unless it is there.
 pub fn add(needed: &mut Vec<Pair>, pair: Pair) -> Result<(), AllocError>
     requires ordered { AreOrdered needed.old.items }
     requires apart { All (λ other. (other ≡ pair) ⊎ AreApart other pair) needed.old.items }

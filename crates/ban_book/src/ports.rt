@@ -1,4 +1,4 @@
-//! Shapes of claims about the inputs of pairs.
+//! Shapes of claims, and what pairs make of their values.
 
 ghost use Rattle.std.specs.Prelude.{◌≡◌};
 ghost use Rattle.claim_core.specs.Images.{moved_value, one_input, two_inputs};
@@ -6,7 +6,7 @@ ghost use Rattle.claim_core.specs.Images.{moved_value, one_input, two_inputs};
 use circuits::Pair;
 use claim_core::Shape;
 
-/// The shape of one input with a value.
+/// The shape for a change of one input from a value: false goes up, true goes down.
 pub fn one_input(input: u32, value: bool) -> Shape
     ensures { result ≡ one_input input value }
 {
@@ -17,7 +17,7 @@ pub fn one_input(input: u32, value: bool) -> Shape
     }
 }
 
-/// The shape of two inputs with values, the lesser one first.
+/// The shape for a change of two inputs from their values, the input with the lesser number first.
 pub fn two_inputs(one: u32, one_value: bool, other: u32, other_value: bool) -> Shape
     ensures { result ≡ two_inputs one one_value other other_value }
 {
@@ -38,7 +38,8 @@ pub fn two_inputs(one: u32, one_value: bool, other: u32, other_value: bool) -> S
     }
 }
 
-/// The value that an input has at its place, of the opposite ones where values are exchanged, as an inverted output does.
+/// The value from which a pair's second input changes where its first one changes from `value`: opposite where either
+/// the pair or the output's pair is inverted, and the same where both are.
 pub fn moved_value(exchanged: bool, input: Pair, value: bool) -> bool
     ensures { result ≡ moved_value exchanged input value }
 {

@@ -1,20 +1,20 @@
-//! The ban that the rows of two outputs show of pairs.
+//! Bans that the rows of two outputs show.
 
 ghost use Rattle.std.specs.Prelude.{◌≡◌, All, IfNone, IfOk, IfSome, length};
 ghost use Rattle.account_core.specs.Ports.{AreOrdered, IsKnown};
 ghost use Rattle.ban_book.specs.Rows.{HasOneOutput};
 ghost use Rattle.ban_book.specs.Shown.{HaveNothing, IsShownByRows};
 
+use crate::input_claims::InputClaims;
 use crate::mismatches::mismatch_by_rows;
 use crate::tallies::tally_by_rows;
-use crate::told::InputTold;
 use account_core::{Ban, PairableGraphs};
 use circuits::Pair;
 use std::alloc::{AllocError, Global};
 
-/// A ban of some of these pairs, one of which is of outputs, that decided claims of one input of both outputs show, which are told
-/// by a row for each: that one output depends on more inputs than the other one, or is binate in more (a tally), or that a claim of
-/// the first circuit is decided otherwise than the one that the pairs carry it to (a mismatch). None exactly where no tally and no
+/// A ban of some of these pairs, one of which is of outputs, by the decided claims of one input of both outputs: one
+/// output depends on more inputs than the other, or is binate in more (a tally); or a claim of the first circuit holds
+/// and its image under the pairs fails, or the other way round (a mismatch). None exactly where no tally and no
 /// mismatch of such claims is valid for the pairs. No oracle is asked.
 ///
 /// Tallies come first: their bans are of the outputs' pair alone.
@@ -27,8 +27,8 @@ pub fn ban_by_facts(
     graphs: &PairableGraphs<'_>,
     pairs: &[Pair],
     pair: Pair,
-    first: &[InputTold],
-    second: &[InputTold],
+    first: &[InputClaims],
+    second: &[InputClaims],
 ) -> Result<Option<Ban>, AllocError>
     requires known { All (IsKnown graphs.now) pairs.now }
     requires ordered { AreOrdered pairs.now }
@@ -38,6 +38,7 @@ pub fn ban_by_facts(
     ensures shown { IfOk result (λ found. IfSome found (IsShownByRows graphs.now pairs.now pair first.now second.now)) }
     ensures none { IfOk result (λ found. IfNone found (HaveNothing graphs.now pairs.now pair first.now second.now)) }
 {
+    // the gates of a graph are in order, and its ports fewer than 2^32
     let _first = graphs.first();
     match tally_by_rows(alloc, pair, first, second)? {
         Some(ban) => Ok(Some(ban)),

@@ -1,25 +1,25 @@
-//! Bans of a pair of outputs, by counts of their inputs.
+//! Tallies: bans of a pair of outputs by how many inputs each depends on, or is binate in.
 
 ghost use Rattle.std.specs.Prelude.{◌≡◌, ◌++◌, ◌<◌, not, IfNone, IfOk, IfSome, OnOk, count_by};
 ghost use Rattle.std.specs.List.{flat_map};
 ghost use Rattle.ban_book.specs.Listed.{tally_of};
 ghost use Rattle.ban_book.specs.Rows.{AreEven, IsTallyBan, both_of, lists_by, one_of, says_one};
 
-use crate::told::InputTold;
+use crate::input_claims::InputClaims;
 use account_core::{Ban, Step, Tallied};
 use circuits::Pair;
 use items::{Few, Items};
 use std::alloc::{AllocError, Global};
 
-/// The numbers of facts that a tally is by: of one claim an input for one output, and of both claims for the other one.
+/// The numbers of a tally's facts: of one claim an input at one output, and of both claims an input at the other.
 #[derive(Debug, Drop)]
 pub struct Lists {
     pub one: Items<u64>,
     pub both: Items<u64>,
 }
 
-/// The ban of a pair of outputs that facts are for: of one claim an input that holds, and two that fail, by the inputs in which
-/// outputs are binate; of one that fails, and two that hold, by the inputs that they depend on.
+/// The ban of a pair of outputs by these facts. By the inputs that outputs are binate in: one claim an input holds at
+/// one output, and both fail at the other. By the inputs that outputs depend on: one fails, and both hold.
 ///
 /// # Errors
 ///
@@ -45,12 +45,13 @@ pub fn tally_ban(alloc: Global, pair: Pair, holds: bool, lists: Lists) -> Result
     Ok(Ban { pairs, step })
 }
 
-/// The ban of a pair of outputs of which one depends on more inputs than the other one, or is binate in more, by the outputs' rows.
+/// The ban of a pair of outputs where their rows show that one depends on more inputs than the other, or is binate in
+/// more.
 pub(crate) fn tally_by_rows(
     alloc: Global,
     pair: Pair,
-    first: &[InputTold],
-    second: &[InputTold],
+    first: &[InputClaims],
+    second: &[InputClaims],
 ) -> Result<Option<Ban>, AllocError>
     ensures shown { IfOk result (λ found. IfSome found (IsTallyBan pair first.now second.now)) }
     ensures none { IfOk result (λ found. IfNone found (AreEven first.now second.now)) }
@@ -61,12 +62,12 @@ pub(crate) fn tally_by_rows(
     }
 }
 
-// The ban of a pair of outputs of which one has more inputs than the other one of which a claim holds, or fails.
+// The ban where one output has more inputs than the other of which some claim holds, or fails.
 fn uneven(
     alloc: Global,
     pair: Pair,
-    first: &[InputTold],
-    second: &[InputTold],
+    first: &[InputClaims],
+    second: &[InputClaims],
     holds: bool,
 ) -> Result<Option<Ban>, AllocError>
     ensures shown { IfOk result (λ found. IfSome found (IsTallyBan pair first.now second.now)) }
@@ -86,19 +87,19 @@ fn uneven(
     Ok(None)
 }
 
-// How many inputs there are of which a claim holds, or fails.
-fn count(row: &[InputTold], holds: bool) -> usize
+// Of how many inputs some claim holds, or fails.
+fn count(row: &[InputClaims], holds: bool) -> usize
     ensures { result ≡ count_by (says_one holds) row.now }
 {
     row.iter().filter(|told| told.says_one(holds)).count()
 }
 
-// The ban by the inputs of one row of which a claim holds, or fails, and those of the other row of which none does.
+// The ban by the inputs of one row of which some claim holds, or fails, and those of the other row of which none does.
 fn uneven_ban(
     alloc: Global,
     pair: Pair,
-    more: &[InputTold],
-    fewer: &[InputTold],
+    more: &[InputClaims],
+    fewer: &[InputClaims],
     holds: bool,
 ) -> Result<Ban, AllocError>
     ensures { IfOk result (λ ban. ban ≡ tally_of pair holds (lists_by holds more.now fewer.now)) }
@@ -108,8 +109,8 @@ fn uneven_ban(
     tally_ban(alloc, pair, holds, Lists { one, both })
 }
 
-// The facts of one claim an input that holds, or fails, where there is one.
-fn list_one(alloc: Global, row: &[InputTold], holds: bool) -> Result<Items<u64>, AllocError>
+// The facts of one claim that holds, or fails, for each input that has one.
+fn list_one(alloc: Global, row: &[InputClaims], holds: bool) -> Result<Items<u64>, AllocError>
     ensures { IfOk result (λ numbers. numbers ≡ flat_map (one_of holds) row.now) }
 {
     let mut numbers = Items::new(alloc);
@@ -119,7 +120,7 @@ fn list_one(alloc: Global, row: &[InputTold], holds: bool) -> Result<Items<u64>,
     Ok(numbers)
 }
 
-fn add_one(numbers: &mut Items<u64>, told: InputTold, holds: bool) -> Result<(), AllocError>
+fn add_one(numbers: &mut Items<u64>, told: InputClaims, holds: bool) -> Result<(), AllocError>
     ensures { OnOk result (numbers.new ≡ numbers.old ++ one_of holds told) }
 {
     if told.up.holds == holds {
@@ -130,8 +131,8 @@ fn add_one(numbers: &mut Items<u64>, told: InputTold, holds: bool) -> Result<(),
     Ok(())
 }
 
-// The facts of both claims of each input that both hold, or both fail.
-fn list_both(alloc: Global, row: &[InputTold], holds: bool) -> Result<Items<u64>, AllocError>
+// The facts of both claims, for each input of which both hold, or both fail.
+fn list_both(alloc: Global, row: &[InputClaims], holds: bool) -> Result<Items<u64>, AllocError>
     ensures { IfOk result (λ numbers. numbers ≡ flat_map (both_of holds) row.now) }
 {
     let mut numbers = Items::new(alloc);
@@ -141,7 +142,7 @@ fn list_both(alloc: Global, row: &[InputTold], holds: bool) -> Result<Items<u64>
     Ok(numbers)
 }
 
-fn add_both(numbers: &mut Items<u64>, told: InputTold, holds: bool) -> Result<(), AllocError>
+fn add_both(numbers: &mut Items<u64>, told: InputClaims, holds: bool) -> Result<(), AllocError>
     ensures { OnOk result (numbers.new ≡ numbers.old ++ both_of holds told) }
 {
     if told.says_both(holds) {

@@ -1,4 +1,4 @@
-//! The ways of a port.
+//! The ways of a port, numbered.
 
 ghost use Rattle.std.specs.Prelude.{◌≡◌, ◌^◌, ◌<◌};
 ghost use Rattle.ban_book.specs.Ways.{nth_way};

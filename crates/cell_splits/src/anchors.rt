@@ -6,7 +6,7 @@ use crate::lane_counts::LaneCounts;
 use crate::state::State;
 use items::Items;
 use net_core::Side;
-use port_cells::{Draws, FlipSim, Lanes, bit_of, literal_of, port_at};
+use port_cells::{Draws, FlipSim, Lanes, VECTORS, bit_of, literal_of, port_at};
 use std::alloc::{AllocError, Global};
 use word_sim::mix;
 
@@ -41,8 +41,7 @@ struct Profiles {
     places: Vec<Place>,
 }
 
-// By hand, and so one call wherever a value ends: a derived drop is expanded there, field by field, and makes proofs
-// long.
+// By hand, so that each exit of a function has one call for it (docs/IDIOMS.md).
 impl Drop for Profiles {
     fn drop(self) {
         let Profiles {
@@ -148,7 +147,7 @@ fn hashes_of(
     side: Side,
     simulator: &mut FlipSim<'_>,
 ) -> Result<Vec<u64>, AllocError> {
-    let mut hashes = vec![in alloc; 0u64; 256]?;
+    let mut hashes = vec![in alloc; 0u64; VECTORS]?;
     let mut of_outputs = no_counts(alloc, simulator.graph().outputs().len())?;
     let inputs = state.inputs.of(side);
     add_inputs(alloc, inputs, simulator, &mut of_outputs, &mut hashes)?;
@@ -240,7 +239,7 @@ fn class_of(cells: &[usize], port: u32) -> u64 {
     }
 }
 
-/// A vector of each circuit with one profile.
+/// A vector of each circuit, both with the same profile.
 #[derive(Clone, Copy, Drop)]
 struct Anchor {
     first: Place,
@@ -254,11 +253,8 @@ pub struct Starts<'a> {
     pub second: &'a [Items<Lanes>],
 }
 
-/// States in which the open signs are decided by vectors with one profile, those with the rarest profiles last.
-///
-/// # Errors
-///
-/// Only when out of memory.
+/// States in which the open signs are decided by a vector of each circuit, both with the same profile; those with the
+/// rarest profiles last.
 pub fn anchored(
     alloc: Global,
     state: &State,
@@ -272,7 +268,7 @@ pub fn anchored(
     states_by(alloc, state, &left, &right)
 }
 
-// States by the pairs of vectors with one profile, those with the rarest profiles last.
+// The states of all anchors, those with the rarest profiles last.
 fn states_by(
     alloc: Global,
     state: &State,
@@ -289,7 +285,8 @@ fn states_by(
     Ok(states)
 }
 
-// The state where a vector goes to the other one of its pair, or None where it can't.
+// The state in which open literals that are 1 on the first vector go to those that are 1 on the second. None where they
+// can't.
 fn state_by(
     alloc: Global,
     state: &State,
@@ -303,7 +300,7 @@ fn state_by(
     Ok(state.copy()?.with_inputs(inputs))
 }
 
-// Keys by which a literal that is open goes to one that has its bit.
+// Keys that tell open literals which are 1 on a vector from the others.
 fn anchor_keys(
     alloc: Global,
     cells: &[usize],
@@ -319,7 +316,7 @@ fn anchor_keys(
     Ok(keys)
 }
 
-// Pairs of vectors with one profile, those with the rarest profiles first.
+// Pairs of vectors with the same profile, those with the rarest profiles first.
 fn anchors(alloc: Global, left: &Profiles, right: &Profiles) -> Result<Vec<Anchor>, AllocError> {
     let mut classes = classes(alloc, left, right)?;
     classes.sort_unstable();

@@ -72,7 +72,7 @@ impl Assignment {
         })
     }
 
-    /// Whether the free inputs have all values.
+    /// Whether the vectors give the free inputs all values.
     pub fn is_all(&self) -> bool {
         self.is_all
     }

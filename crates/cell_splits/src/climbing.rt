@@ -2,7 +2,7 @@
 
 use crate::lane_counts::LaneCounts;
 use items::Items;
-use port_cells::{Draws, FlipSim, Lanes, bit_of, with_bit};
+use port_cells::{Draws, FlipSim, Lanes, VECTORS, bit_of, with_bit};
 use std::alloc::{AllocError, Global};
 
 /// The most generations. With half as many adders of 128 bits aren't guessed, and twice as many gain nothing.
@@ -35,10 +35,6 @@ const FIRST_OF_TWO: usize = 160;
 /// 256 vectors of a circuit on which many outputs change with many inputs, far more than on drawn ones: there wide
 /// gates tell their inputs. A column for each input. The first `BEST` are the best so far, the others are made of them.
 /// The climb starts from drawn vectors and from others, which may be none, blocks of 256 with a column for each input.
-///
-/// # Errors
-///
-/// Only when out of memory.
 pub fn climbed(
     alloc: Global,
     starts: &[Items<Lanes>],
@@ -128,7 +124,7 @@ fn descended(lanes: Lanes, best: &[usize], turns: [u32; 3]) -> Lanes {
 
 // Inverts one input on each vector after the best ones, and two on the last of them.
 fn mutate(draws: &mut Draws, vectors: &mut [Lanes]) {
-    for lane in BEST..256 {
+    for lane in BEST..VECTORS {
         invert(draws.below(vectors.len()), lane, vectors);
         if lane >= FIRST_OF_TWO {
             invert(draws.below(vectors.len()), lane, vectors);

@@ -13,8 +13,7 @@ pub struct Keys {
     pub outputs: Vec<u64>,
 }
 
-// By hand, and so one call wherever a value ends: a derived drop is expanded there, field by field, and makes proofs
-// long.
+// By hand, so that each exit of a function has one call for it (docs/IDIOMS.md).
 impl Drop for Keys {
     fn drop(self) {
         let Keys {

@@ -25,8 +25,7 @@ struct Walk<'a> {
     met: usize,
 }
 
-// By hand, and so one call wherever a value ends: a derived drop is expanded there, field by field, and makes proofs
-// long.
+// By hand, so that each exit of a function has one call for it (docs/IDIOMS.md).
 impl Drop for Walk<'_> {
     fn drop(self) {
         let Walk {

@@ -1,6 +1,6 @@
 //! A number for each of 256 vectors.
 
-use port_cells::{Lanes, bit_of, ones_in, replicated};
+use port_cells::{Lanes, VECTORS, bit_of, ones_in, replicated};
 use std::alloc::{AllocError, Global};
 use std::cmp::Reverse;
 
@@ -37,8 +37,8 @@ impl LaneCounts {
 
     /// The count of each vector.
     pub(crate) fn counts(&self, alloc: Global) -> Result<Vec<u64>, AllocError> {
-        let mut counts = Vec::with_capacity(alloc, 256)?;
-        for lane in 0..256usize {
+        let mut counts = Vec::with_capacity(alloc, VECTORS)?;
+        for lane in 0..VECTORS {
             counts.push(self.count(lane))?;
         }
         Ok(counts)
@@ -56,8 +56,8 @@ impl LaneCounts {
 
     /// The vectors' numbers, those with the greatest counts first.
     pub(crate) fn descending(&self, alloc: Global) -> Result<Vec<usize>, AllocError> {
-        let mut ranked = Vec::with_capacity(alloc, 256)?;
-        for lane in 0..256usize {
+        let mut ranked = Vec::with_capacity(alloc, VECTORS)?;
+        for lane in 0..VECTORS {
             ranked.push((Reverse(self.count(lane)), lane))?;
         }
         ranked.sort_unstable();

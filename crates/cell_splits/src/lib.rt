@@ -1,4 +1,4 @@
-//! Ways to split the cells of literals that may correspond.
+//! Ways to split the cells of literals that may correspond. An error comes only when out of memory.
 #![tactic(auto)]
 
 mod anchors;

@@ -54,8 +54,7 @@ struct Responses {
     is_open: bool,
 }
 
-// By hand, and so one call wherever a value ends: a derived drop is expanded there, field by field, and makes proofs
-// long.
+// By hand, so that each exit of a function has one call for it (docs/IDIOMS.md).
 impl Drop for Responses {
     fn drop(self) {
         let Responses {
@@ -207,8 +206,7 @@ pub struct Likeness {
     responses: u64,
 }
 
-// By hand, and so one call wherever a value ends: a derived drop is expanded there, field by field, and makes proofs
-// long.
+// By hand, so that each exit of a function has one call for it (docs/IDIOMS.md).
 impl Drop for Likeness {
     fn drop(self) {
         let Likeness {
@@ -226,10 +224,6 @@ impl Drop for Likeness {
 impl Likeness {
     /// Compares the inputs that aren't alone in their cells, by what gates do on drawn vectors that are constant on
     /// cells.
-    ///
-    /// # Errors
-    ///
-    /// Only when out of memory.
     pub fn new(
         alloc: Global,
         state: &State,

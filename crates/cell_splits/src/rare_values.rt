@@ -32,10 +32,6 @@ const MOST_WORDS: u64 = 1 << 24;
 
 /// Blocks of 256 vectors, a column for each input, on most of which a gate has a value that it has on hardly any of
 /// some thousand drawn vectors. Few gates that have such a value are tried, those nearest to the outputs first.
-///
-/// # Errors
-///
-/// Only when out of memory.
 pub fn rare_blocks(
     alloc: Global,
     simulator: &mut FlipSim<'_>,
@@ -51,7 +47,7 @@ pub fn rare_blocks(
 fn add_blocks(
     alloc: Global,
     simulator: &mut FlipSim<'_>,
-    seen: &mut [Seen],
+    seen: &mut [ValueCounts],
     draws: &mut Draws,
     blocks: &mut Items<Items<Lanes>>,
 ) -> Result<(), AllocError> {
@@ -87,7 +83,7 @@ fn inputs_of(alloc: Global, simulator: &FlipSim<'_>) -> Result<Items<Lanes>, All
 
 /// How often a gate had each value.
 #[derive(Clone, Copy, Drop)]
-struct Seen {
+struct ValueCounts {
     ones: u32,
     zeros: u32,
 }
@@ -97,8 +93,8 @@ fn drawn_values(
     alloc: Global,
     simulator: &mut FlipSim<'_>,
     draws: &mut Draws,
-) -> Result<Vec<Seen>, AllocError> {
-    let none = Seen { ones: 0, zeros: 0 };
+) -> Result<Vec<ValueCounts>, AllocError> {
+    let none = ValueCounts { ones: 0, zeros: 0 };
     let mut seen = vec![in alloc; none; simulator.graph().gates().len()]?;
     for _ in 0..DRAWN_BLOCKS {
         draw_inputs(simulator, draws);
@@ -109,7 +105,7 @@ fn drawn_values(
 }
 
 // Adds what gates have on the vectors.
-fn add_values(simulator: &FlipSim<'_>, seen: &mut [Seen]) {
+fn add_values(simulator: &FlipSim<'_>, seen: &mut [ValueCounts]) {
     for (gate, values) in seen.iter_mut().enumerate() {
         let lanes = simulator.gate(gate);
         values.ones = values.ones.saturating_add(ones_in(lanes));
@@ -117,8 +113,8 @@ fn add_values(simulator: &FlipSim<'_>, seen: &mut [Seen]) {
     }
 }
 
-// The value that a gate hardly ever had.
-fn rare_value(gate: usize, seen: &[Seen]) -> Option<bool> {
+// The value that a gate hardly ever had. None where it had both often enough.
+fn rare_value(gate: usize, seen: &[ValueCounts]) -> Option<bool> {
     let values = seen.get(gate)?;
     if values.ones.min(values.zeros) >= FEW_VECTORS {
         return None;
@@ -126,9 +122,9 @@ fn rare_value(gate: usize, seen: &[Seen]) -> Option<bool> {
     Some(values.ones < values.zeros)
 }
 
-// Inverts one input after another on each vector until a gate has a value on all of them, a bounded number. Each input
-// is where a path ends that begins at the gate and goes from wrong values on to those of operands by which they are
-// wrong, as in WalkSAT (Selman, Kautz and Cohen, 1994), and as values are justified where tests are made.
+// Looks for vectors on which a gate has a value: on each vector on which it hasn't, one input after another is
+// inverted, a bounded number. Each is the end of a path that begins at the gate and goes on from a wrong value to an
+// operand that makes it wrong, as in WalkSAT (Selman, Kautz and Cohen, 1994), and as test generation justifies values.
 fn walk(
     gate: usize,
     bit: bool,
@@ -210,7 +206,7 @@ fn put_path(signal: usize, lanes: Lanes, paths: &mut [Lanes]) {
     }
 }
 
-// The vectors on which the path goes through a signal, which are forgotten.
+// The vectors on which the path goes through a signal. The signal has none afterwards.
 fn take_path(signal: usize, paths: &mut [Lanes]) -> Lanes {
     if signal >= paths.len() {
         return replicated(false);

@@ -11,8 +11,7 @@ pub struct State {
     pub outputs: Cells,
 }
 
-// By hand, and so one call wherever a value ends: a derived drop is expanded there, field by field, and makes proofs
-// long.
+// By hand, so that each exit of a function has one call for it (docs/IDIOMS.md).
 impl Drop for State {
     fn drop(self) {
         let State {
@@ -44,10 +43,6 @@ impl State {
     }
 
     /// Whether some inputs whose signs are known share a cell.
-    ///
-    /// # Errors
-    ///
-    /// Only when out of memory.
     pub fn has_shared(&self, alloc: Global) -> Result<bool, AllocError> {
         let sizes = self.inputs.sizes(alloc)?;
         for (literal, cell) in self.inputs.of(Side::First).iter().enumerate() {

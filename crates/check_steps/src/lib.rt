@@ -12,7 +12,7 @@ mod words;
 
 pub use checking::check_files;
 pub use files::{File, PIECE, ReadStop, read_file, zeros};
-pub use netlists::read_netlist;
+pub use netlists::{NETLIST_LIMIT, read_netlist};
 pub use outcome::{Ending, Outcome, Which};
 pub use report::{report_line, report_named};
 pub use words::{

@@ -15,7 +15,7 @@ use std::alloc::Global;
 use watch_core::{Stage, Watch};
 
 /// The most bytes that a netlist may have.
-const NETLIST_LIMIT: u64 = 67_108_864;
+pub const NETLIST_LIMIT: u64 = 67_108_864;
 
 /// Reads the netlist under a name. The error is how the run ends where none stands there: `which` is the file that
 /// it names. A file of more than 67,108,864 bytes is closed unread.

@@ -31,7 +31,7 @@ one_with graphs inputs output are kind = record {
   only = All-push (λ (other : Pair). other.kind ≡ Output → other ≡ output) inputs output (λ k d below e. absurd (kinds_differ (sym (are.inputs k d below) ∙ e))) (λ e. refl);
 }
 
--- the held pairs of inputs are known
+-- the assigned pairs of inputs are known
 pub inputs_known : (graphs : Graphs) (held inputs : List Pair) → AreHeld graphs held → AreInputsOf held inputs → AreInputs graphs inputs
 inputs_known graphs held inputs are of = record {
   known = λ k d below. All-contains (IsKnown graphs) held (get_or inputs k d) are.known (of.part.among k d below);
@@ -47,7 +47,7 @@ one_input graphs way known kind = record {
   inputs = All-cons (λ (p : Pair). p.kind ≡ Input) way [] kind (All-nil (λ (p : Pair). p.kind ≡ Input));
 }
 
--- The held pairs of inputs so far.
+-- The assigned pairs of inputs so far.
 pub record IsTaking (held inputs : List Pair) (index : ℕ) : Type 0 where
   pub part : IsPart held inputs
   pub inputs_are : All (λ pair. pair.kind ≡ Input) inputs
@@ -70,16 +70,16 @@ taking_more held before after index d below is adds inputs here = record {
     P : Pair → Type 0
     P p = p.kind ≡ Input → Contains after p
 
--- pairs of inputs and one of the held pairs are among both
+-- pairs of inputs and one of the assigned pairs are among both
 pub with_among : (inputs held : List Pair) (pair : Pair) → Contains held pair → All (Contains (inputs ++ held)) (inputs ++ pair ∷ [])
 with_among inputs held pair there =
     All-push (Contains (inputs ++ held)) inputs pair (λ k d below. Contains-append_left inputs held (get_or inputs k d) (Contains-get_or inputs k d below)) (Contains-append_right inputs held pair there)
 
--- the held pairs of inputs are held pairs
+-- the assigned pairs of inputs are assigned pairs
 pub both_among : (held inputs : List Pair) → AreInputsOf held inputs → All (Contains held) (inputs ++ held)
 both_among held inputs of = All-append (Contains held) inputs held of.part.among (All-contains_itself held)
 
--- and with a way after them they are among it and the held pairs
+-- and with a way after them they are among it and the assigned pairs
 pub way_among : (held inputs : List Pair) (way : Pair) → AreInputsOf held inputs → All (Contains (way ∷ held)) (inputs ++ way ∷ [])
 way_among held inputs way of =
     All-push (Contains (way ∷ held)) inputs way (λ k d below. contains_cons held way (get_or inputs k d) (of.part.among k d below)) (0, omega arith, refl)

@@ -1,4 +1,4 @@
--- What facts show of held pairs and one more, by what they show of each two.
+-- What facts show of assigned pairs and one more, by what they show of each two.
 use Rattle.std.proofs.Common.{◌≡◌, ℕ, List, [], ◌∷◌, ◌++◌, All, Some, refl, sym, ap, subst, ◌∙◌, inl, inr}
 use Rattle.std.specs.Prelude.{Contains}
 use Rattle.std.proofs.lemmas.List.Elements.{All-contains, Contains-append_left, Contains-push}
@@ -81,7 +81,7 @@ module _ (graphs : Graphs) (facts : List Decided) (pairs : List Pair) (are : Are
   nothing_of : HaveNoFacts graphs facts pairs
   nothing_of = record { no_mismatch = no_mismatch; no_tally = no_tally }
 
--- held pairs, of whose inputs and any one output facts show nothing
+-- assigned pairs, of whose inputs and any one output facts show nothing
 module _ (graphs : Graphs) (facts : List Decided) (held inputs : List Pair) (are : AreHeld graphs held) (of : AreInputsOf held inputs) (alone : ShowNothingAt graphs facts inputs held) where
   nothing_at : (output : Pair) → Contains held output → output.kind ≡ Output → HaveNoFacts graphs facts (inputs ++ output ∷ [])
   nothing_at output there kind = All-contains (λ (p : Pair). p.kind ≡ Output → HaveNoFacts graphs facts (inputs ++ p ∷ [])) held output alone there kind

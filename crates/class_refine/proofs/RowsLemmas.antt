@@ -12,7 +12,7 @@ use Rattle.account_core.specs.Facts.{AreFacts}
 use Rattle.account_core.specs.Given.{Decided, decided_by}
 use Rattle.account_core.specs.Ports.{ports_in, IsKnown}
 use Rattle.oracle_core.specs.Oracles.{Grows, Known, Suits}
-use Rattle.ban_book.specs.declared.told.InputTold.{InputTold}
+use Rattle.ban_book.specs.declared.input_claims.InputClaims.{InputClaims}
 use Rattle.ban_book.specs.Rows.{AreRows, IsRow}
 use Rattle.ban_book.proofs.RowLemmas.{inputs_decided}
 use Rattle.fact_bans.specs.Serving.{HasServed}
@@ -24,24 +24,24 @@ use Rattle.class_refine.specs.Rows.{AreAllRows, AreGrounds, AreRowsOf, IsWholeRo
 use Rattle.class_refine.specs.Stable.{AreDecidedOn, AreOutputsDecided}
 
 -- rows stay rows as facts come
-pub rows_grow : (graphs : Graphs) (old new : Known) (side : Side) (count : ℕ) (rows : List (List InputTold)) → Grows old new → AreRowsOf graphs (map decided_by old.facts) side count rows → AreRowsOf graphs (map decided_by new.facts) side count rows
+pub rows_grow : (graphs : Graphs) (old new : Known) (side : Side) (count : ℕ) (rows : List (List InputClaims)) → Grows old new → AreRowsOf graphs (map decided_by old.facts) side count rows → AreRowsOf graphs (map decided_by new.facts) side count rows
 rows_grow graphs old new side count rows grows are = record {
   many = are.many;
   each = λ k d below. let row = are.each k d below in record { is = row_grows old new side k (get_or rows k d) grows row.is; whole = row.whole };
 }
 
 -- The calls so far were answered, and the outputs before the next one have their rows.
-pub record IsListing (graphs : Graphs) (old now : Known) (before after : Ledgered) (side : Side) (count : ℕ) (rows : List (List InputTold)) : Type 0 where
+pub record IsListing (graphs : Graphs) (old now : Known) (before after : Ledgered) (side : Side) (count : ℕ) (rows : List (List InputClaims)) : Type 0 where
   pub served : HasServed old now before after
   pub rows_are : AreRowsOf graphs (map decided_by now.facts) side count rows
 
-pub listing_start : (graphs : Graphs) (known : Known) (ledger : Ledgered) (side : Side) (rows : List (List InputTold)) → AreFacts known.graphs known.facts → Suits known ledger → rows ≡ [] → IsListing graphs known known ledger ledger side 0 rows
+pub listing_start : (graphs : Graphs) (known : Known) (ledger : Ledgered) (side : Side) (rows : List (List InputClaims)) → AreFacts known.graphs known.facts → Suits known ledger → rows ≡ [] → IsListing graphs known known ledger ledger side 0 rows
 listing_start graphs known ledger side rows lawful suits none = record {
   served = served_same known ledger lawful suits;
   rows_are = subst (λ l. AreRowsOf graphs (map decided_by known.facts) side 0 l) (sym none) (record { many = refl; each = λ k d below. absurd (omega (arith, below)) });
 }
 
-pub listing_more : (graphs : Graphs) (old mid new : Known) (a b c : Ledgered) (side : Side) (count : ℕ) (rows after : List (List InputTold)) (row : List InputTold) → IsListing graphs old mid a b side count rows → HasServed mid new b c → IsWholeRow graphs (map decided_by new.facts) side count row → after ≡ rows ++ row ∷ [] → IsListing graphs old new a c side (count + 1) after
+pub listing_more : (graphs : Graphs) (old mid new : Known) (a b c : Ledgered) (side : Side) (count : ℕ) (rows after : List (List InputClaims)) (row : List InputClaims) → IsListing graphs old mid a b side count rows → HasServed mid new b c → IsWholeRow graphs (map decided_by new.facts) side count row → after ≡ rows ++ row ∷ [] → IsListing graphs old new a c side (count + 1) after
 listing_more graphs old mid new a b c side count rows after row listing served here more =
     let before = rows_grow graphs mid new side count rows served.grows listing.rows_are in
     record {
@@ -67,14 +67,14 @@ module _ (g : Grounds) (output : Pair) (are : AreGrounds g) (known : IsKnown g.g
   second_whole = (are.rows_are.second.each output.to [] second_there).whole
 
   -- which were looked up
-  pub rows_at : (first second : List InputTold) → first ≡ get_or g.rows.now.first output.from [] → second ≡ get_or g.rows.now.second output.to [] → AreRows (decided g) output first second
+  pub rows_at : (first second : List InputClaims) → first ≡ get_or g.rows.now.first output.from [] → second ≡ get_or g.rows.now.second output.to [] → AreRows (decided g) output first second
   rows_at first second first_is second_is = record {
     first = subst (IsRow (decided g) First output.from) (sym first_is) (are.rows_are.first.each output.from [] first_there).is;
     second = subst (IsRow (decided g) Second output.to) (sym second_is) (are.rows_are.second.each output.to [] second_there).is;
   }
 
 -- the claims of one input of all outputs are decided
-rows_decided : (graphs : Graphs) (facts : List Decided) (side : Side) (rows : List (List InputTold)) → AreRowsOf graphs facts side (length (graph_of graphs side).outputs) rows → AreDecidedOn graphs facts side
+rows_decided : (graphs : Graphs) (facts : List Decided) (side : Side) (rows : List (List InputClaims)) → AreRowsOf graphs facts side (length (graph_of graphs side).outputs) rows → AreDecidedOn graphs facts side
 rows_decided graphs facts side rows are = λ output below.
     let row = are.each output [] (omega (arith, below, are.many)) in
     inputs_decided facts (graph_of graphs side).inputs side output (get_or rows output []) row.whole row.is

@@ -66,7 +66,7 @@ pair_or_not one other =
           ]
     ]
 
--- held pairs stay so, and what was deleted stays deleted
+-- assigned pairs stay so, and what was deleted stays deleted
 deleted_later : (before after : Domained) (pair : Pair) → OnlyDeletes before after → IsDeleted before.entries pair → IsDeleted after.entries pair
 deleted_later before after pair deletes gone =
     (gone.0, subst (λ (l : List Entry). Contains l (deleted pair gone.0)) (sym deletes.more) (Contains-append_left before.entries deletes.added (deleted pair gone.0) gone.1))
@@ -79,7 +79,7 @@ pub no_ban_beside : (bans : List Ban) (held : List Pair) (pair : Pair) → Conta
 no_ban_beside bans held pair there no_ban k d below within =
     no_ban k d below (record { among = among_more (get_or bans k d).pairs (pair ∷ held) held within.among (All-cons (Contains held) pair held there (All-contains_itself held)) })
 
--- a held pair clashes with none
+-- an assigned pair clashes with none
 no_clash : (one other : Pair) → (one ≡ other) ⊎ AreApart one other → Clash one other → ⊥
 no_clash one other (inl same) clash = clash.differ same
 no_clash one other (inr apart) clash = elim clash.share [ inl from ↦ apart.from clash.same_kind from | inr to ↦ apart.to clash.same_kind to ]
@@ -133,7 +133,7 @@ settles_ok g bans more before after these all way cases = record {
   dead = tt;
 }
 
--- no answer, whatever was deleted and held
+-- no answer, whatever was deleted and assigned
 pub stops : {E : Type 0} (g : Grounds) (bans more : List Ban) (before after : Domained) (these : Pair → Type 0) (result : Result (Option ℕ) E) → IsErr result → Refines g.graphs.now (decided g) bans more before after → Settles g bans more before after these result
 stops g bans more before after these (Ok x) is refines = absurd (false≢true is)
 stops g bans more before after these (Err stop) is refines = record { refines = refines; settled = tt; dead = tt }
@@ -165,7 +165,7 @@ settles_deleted g bans before after way why after_is refines no_ban = record {
   dead = tt;
 }
 
--- a ban within one pair and the held ones, and not within these, isn't within them and another one
+-- a ban within one pair and the assigned ones, and not within these, isn't within them and another one
 not_within : (held : List Pair) (way pair : Pair) (ban : Ban) → pair ≢ way → IsWithin (way ∷ held) ban → (IsWithin held ban → ⊥) → IsWithin (pair ∷ held) ban → ⊥
 not_within held way pair ban differ within alone other =
     alone (record { among = λ k d below. in_both (get_or ban.pairs k d) (cons_cases held way (get_or ban.pairs k d) (within.among k d below)) (cons_cases held pair (get_or ban.pairs k d) (other.among k d below)) })
@@ -175,7 +175,7 @@ not_within held way pair ban differ within alone other =
     in_both x (inl same) (inr there) = there
     in_both x (inl same) (inl also) = absurd (differ (also ∙ sym same))
 
--- a pair that is deleted by a ban that is held for it
+-- a pair that is deleted by a ban that is kept for it
 pub settles_banned : {E : Type 0} (g : Grounds) (bans more : List Ban) (before after : Domained) (way : Pair) (ban : Ban) (number : Reason) → more ≡ bans ++ ban ∷ [] → after ≡ record before { entries = before.entries ++ deleted way number ∷ [] } → Refines g.graphs.now (decided g) bans more before after → IsWithin (way ∷ held_in before.entries) ban → HaveNoBan more (held_in before.entries) → Settles {E = E} g bans more before after (λ pair. pair ≡ way) (Ok None)
 settles_banned g bans more before after way ban number more_is after_is refines within no_ban = record {
   refines = refines;
@@ -207,7 +207,7 @@ settles_banned g bans more before after way ban number more_is after_is refines 
       };
     }))
 
--- a pair that is held is settled
+-- a pair that is assigned is settled
 held_entry : (es : List Entry) (pair : Pair) (fate : Fate) → Contains es (record { pair = pair; fate = fate }) → is_held fate ≡ true → Contains (held_in es) pair
 held_entry es pair fate there held =
     let e : Entry = record { pair = pair; fate = fate } in

@@ -1,8 +1,8 @@
 -- Where all pairs are settled, and no port is without a way.
 use Rattle.std.proofs.Common.{ℕ, ◌<◌, List, get_or, sym, subst, inl, inr}
 use Rattle.ban_book.specs.Covering.{Covers}
-use Rattle.pair_search.specs.declared.conflict.Conflict.{Conflict}
-use Rattle.pair_search.specs.Conflicts.{IsConflict}
+use Rattle.pair_search.specs.declared.conflict_set.ConflictSet.{ConflictSet}
+use Rattle.pair_search.specs.ConflictSets.{IsConflictSet}
 use Rattle.ban_book.proofs.BlockListLemmas.{among_more}
 use Rattle.circuits.specs.declared.port.Pair.{Pair}
 use Rattle.circuits.specs.declared.port.PortKind.{PortKind}
@@ -44,8 +44,8 @@ module _ (g : Grounds) (bans more : List Ban) (before after : Domained) (may : M
     ports = left;
   }
 
--- the ban of a conflict of held pairs is within them
-pub covers_conflict : (bans : List Ban) (pairs : List Pair) (conflict : Conflict) → IsConflict bans pairs conflict → Covers bans pairs conflict.ban
+-- the ban of a conflict of assigned pairs is within them
+pub covers_conflict : (bans : List Ban) (pairs : List Pair) (conflict : ConflictSet) → IsConflictSet bans pairs conflict → Covers bans pairs conflict.ban
 covers_conflict bans pairs conflict is = record {
   held = is.covers.held;
   within = λ d. record { among = among_more (get_or bans conflict.ban d).pairs conflict.pairs.items pairs (is.covers.within d).among is.part.among };

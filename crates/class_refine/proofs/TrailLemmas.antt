@@ -1,4 +1,4 @@
--- Trails and bans while pairs are deleted and bans are held.
+-- Trails and bans while pairs are deleted and bans are kept.
 use Rattle.std.proofs.Common.{◌≡◌, ℕ, ◌<◌, List, [], ◌∷◌, ◌++◌, map, refl, sym, ap, subst, ◌∙◌, arith}
 use Rattle.std.proofs.lemmas.List.{append-nil, append_assoc, map-append}
 use Rattle.circuits.specs.declared.port.Pair.{Pair}
@@ -68,7 +68,7 @@ shown_then graphs facts first second third one other = record {
   valid = λ are. other.valid (one.valid are);
 }
 
--- a ban that facts show is held
+-- a ban that facts show is kept
 pub shown_one : (graphs : Graphs) (facts : List Decided) (pairs : List Pair) (bans after : List Ban) (ban : Ban) → after ≡ bans ++ ban ∷ [] → IsShownBan graphs facts pairs ban → AddsShown graphs facts bans after
 shown_one graphs facts pairs bans after ban more shown = record {
   added = ban ∷ [];
@@ -110,7 +110,7 @@ refines_then graphs facts bans mid more one two three first second = record {
   shown = λ are. second.shown (first.shown are);
 }
 
--- bans are held, and no pair is deleted
+-- bans are kept, and no pair is deleted
 pub refines_bans : (graphs : Graphs) (facts : List Decided) (bans more : List Ban) (d : Domained) → AddsShown graphs facts bans more → Refines graphs facts bans more d d
 refines_bans graphs facts bans more d adds = record {
   adds = adds;
@@ -122,7 +122,7 @@ refines_bans graphs facts bans more d adds = record {
 pub refines_held : (graphs : Graphs) (facts : List Decided) (pairs : List Pair) (bans after : List Ban) (ban : Ban) (d : Domained) → after ≡ bans ++ ban ∷ [] → IsShownBan graphs facts pairs ban → Refines graphs facts bans after d d
 refines_held graphs facts pairs bans after ban d more shown = refines_bans graphs facts bans after d (shown_one graphs facts pairs bans after ban more shown)
 
--- a pair is deleted, for what held pairs show
+-- a pair is deleted, for what assigned pairs show
 pub refines_one : (graphs : Graphs) (facts : List Decided) (bans : List Ban) (before after : Domained) (way : Pair) (why : Reason) → after ≡ record before { entries = before.entries ++ deleted way why ∷ [] } → AreDomains before → IsPairOf before.inputs before.outputs way → IsOpen before.entries way → AreNamed bans (held_in before.entries) way why → IsGrounded graphs facts way (Deleted why) → Refines graphs facts bans bans before after
 refines_one graphs facts bans before after way why after_is lawful known open' named grounded =
     let e : Entry = deleted way why in

@@ -7,7 +7,7 @@ pub use Rattle.account_core.specs.Held
 pub use Rattle.pair_search.specs.Grounded
 pub use Rattle.pair_search.specs.Justified
 pub use Rattle.pair_domains.specs.Trails
-pub use Rattle.pair_search.specs.Impasses
+pub use Rattle.pair_search.specs.Conflicts
 pub use Rattle.fact_bans.specs.Asking
 pub use Rattle.fact_bans.specs.Serving
 pub use Rattle.oracle_core.specs.Oracles

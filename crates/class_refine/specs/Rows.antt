@@ -10,7 +10,7 @@ use Rattle.account_core.specs.Facts.{AreFacts}
 use Rattle.account_core.specs.Given.{Decided, decided_by}
 use Rattle.account_core.specs.Ports.{AreOrdered, IsKnown}
 use Rattle.ban_book.specs.Vectors.{HaveNoFacts}
-use Rattle.ban_book.specs.declared.told.InputTold.{InputTold}
+use Rattle.ban_book.specs.declared.input_claims.InputClaims.{InputClaims}
 use Rattle.ban_book.specs.Rows.{IsRow}
 use Rattle.account_core.specs.Held.{IsPart}
 use Rattle.class_refine.specs.declared.grounds.Grounds.{Grounds}
@@ -18,12 +18,12 @@ use Rattle.class_refine.specs.declared.rows.Rows.{Rows}
 use Rattle.class_refine.specs.Swaps.{IsSwapIndex}
 
 -- The row of an output, with an entry for each input.
-pub record IsWholeRow (graphs : Graphs) (facts : List Decided) (side : Side) (output : ℕ) (row : List InputTold) : Type 0 where
+pub record IsWholeRow (graphs : Graphs) (facts : List Decided) (side : Side) (output : ℕ) (row : List InputClaims) : Type 0 where
   pub is : IsRow facts side output row
   pub whole : length row ≡ (graph_of graphs side).inputs
 
 -- The rows of the first outputs of a circuit.
-pub record AreRowsOf (graphs : Graphs) (facts : List Decided) (side : Side) (count : ℕ) (rows : List (List InputTold)) : Type 0 where
+pub record AreRowsOf (graphs : Graphs) (facts : List Decided) (side : Side) (count : ℕ) (rows : List (List InputClaims)) : Type 0 where
   pub many : length rows ≡ count
   pub each : EachAt (IsWholeRow graphs facts side) rows
 

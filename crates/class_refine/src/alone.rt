@@ -16,7 +16,7 @@ use std::alloc::{AllocError, Global};
 
 /// The number of a ban within the assigned pairs: one of the book, or one that decided claims show of them, which is
 /// made here.
-pub(crate) fn exclude_held(
+pub(crate) fn exclude_assigned(
     alloc: Global,
     grounds: &Grounds<'_>,
     held: &[Pair],

@@ -1,5 +1,3 @@
-//! What pairs are settled by.
-
 use crate::rows::Rows;
 use account_core::{Fact, PairableGraphs};
 use circuits::Pair;

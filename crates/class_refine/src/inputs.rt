@@ -1,5 +1,3 @@
-//! The assigned pairs of inputs.
-
 ghost use Rattle.std.specs.Prelude.{◌≡◌, All, AllPairs, Contains, IfOk, OnOk};
 ghost use Rattle.circuits.specs.declared.port.PortKind.TheVariants.{Input as InputKind};
 ghost use Rattle.account_core.specs.Held.{AddsHeld, AreApart, IsPart};

@@ -8,7 +8,7 @@ ghost use Rattle.pair_domains.specs.Trails.{held_in, ports_of};
 ghost use Rattle.pair_search.specs.Grounded.{LearnsMore};
 ghost use Rattle.pair_search.specs.Justified.{IsTrail};
 ghost use Rattle.pair_search.specs.Named.{IsPortOf};
-ghost use Rattle.pair_search.specs.Impasses.{HasNoWay};
+ghost use Rattle.pair_search.specs.Conflicts.{HasNoWay};
 ghost use Rattle.class_refine.specs.Stable.{HasLeft};
 
 use account_core::PairableGraphs;
@@ -16,7 +16,7 @@ use ban_book::BanBook;
 use circuits::PortKind;
 use net_core::Side;
 use pair_domains::Domains;
-use pair_search::{Impasse, Mismatches, Port, conflict_of, way_of};
+use pair_search::{Conflict, Mismatches, Port, conflict_set_of, way_of};
 use std::alloc::{AllocError, Global};
 
 /// Makes the ban that says that a port has no way left beside the assigned pairs, if there is such a port, and answers
@@ -56,9 +56,9 @@ fn cover(
     ensures some { IfOk result (λ dead. IfNone dead ⊥) }
 {
     let mut made = Mismatches::new(alloc);
-    let impasse = Impasse::Port(port);
-    let conflict = conflict_of(alloc, graphs, domains, impasse, &mut made, book)?;
-    Ok(Some(conflict.ban))
+    let conflict = Conflict::Port(port);
+    let set = conflict_set_of(alloc, graphs, domains, conflict, &mut made, book)?;
+    Ok(Some(set.ban))
 }
 
 // The first port of which all ways are deleted, of the first circuit, and of inputs, before others: any would do.

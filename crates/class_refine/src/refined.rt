@@ -1,5 +1,3 @@
-//! What refining comes to.
-
 /// What refining comes to.
 #[derive(Clone, Copy, Debug, Drop, PartialEq, Eq)]
 pub enum Refined {

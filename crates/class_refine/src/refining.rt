@@ -13,7 +13,7 @@ ghost use Rattle.class_refine.specs.Rows.{AreAllRows, AreGrounds, AreInputsOf, d
 ghost use Rattle.class_refine.specs.Settling.{MaySettle};
 ghost use Rattle.class_refine.specs.Stable.{IsRefined, IsStable};
 
-use crate::alone::exclude_held;
+use crate::alone::exclude_assigned;
 use crate::grounds::Grounds;
 use crate::inputs::inputs_of;
 use crate::ports::cover_empty;
@@ -120,7 +120,7 @@ fn exclude(
 {
     // assigned pairs are of ports that exist, and share none
     let _lawful = domains.entries();
-    match exclude_held(alloc, grounds, domains.pairs(), book)? {
+    match exclude_assigned(alloc, grounds, domains.pairs(), book)? {
         Some(ban) => Ok(Some(ban)),
         None => exclude_beside(alloc, grounds, domains, book),
     }

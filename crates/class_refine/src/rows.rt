@@ -8,7 +8,7 @@ ghost use Rattle.class_refine.specs.Rows.{AreAllRows, AreRowsOf};
 
 use crate::swap_index::swaps_of;
 use account_core::PairableGraphs;
-use ban_book::InputTold;
+use ban_book::InputClaims;
 use cnf_core::Stop;
 use fact_bans::{Asker, claims_of};
 use indexmap::IndexMap;
@@ -19,14 +19,13 @@ use query_core::Claim;
 
 /// What is told of each output of both circuits: a row with its claims of one input, in the order of the outputs.
 pub(crate) struct Rows {
-    pub(crate) first: Items<Items<InputTold>>,
-    pub(crate) second: Items<Items<InputTold>>,
+    pub(crate) first: Items<Items<InputClaims>>,
+    pub(crate) second: Items<Items<InputClaims>>,
     /// The numbers of the facts of claims of two inputs, by claim.
     pub(crate) swaps: IndexMap<Claim, u64>,
 }
 
-// By hand, and so one call wherever a value ends: a derived drop is expanded there, field by field, and makes proofs
-// long.
+// By hand, so that each exit of a function has one call for it (docs/IDIOMS.md).
 impl Drop for Rows {
     fn drop(self) {
         let Rows {
@@ -65,7 +64,7 @@ fn side_rows<O: Oracle>(
     graphs: &PairableGraphs<'_>,
     asker: &mut Asker<'_, O>,
     side: Side,
-) -> Result<Items<Items<InputTold>>, Stop>
+) -> Result<Items<Items<InputClaims>>, Stop>
     requires may { MayAskBy graphs.now (loans O.known asker.old) }
     ensures same { AreSame (loans O.known asker.old) (loans O.known asker.new) }
     ensures serves { ServesBy (loans O.known asker.old) (loans O.known asker.new) result }
@@ -84,7 +83,7 @@ fn side_rows<O: Oracle>(
 }
 
 /// The row of an output.
-pub(crate) fn row_at(rows: &Items<Items<InputTold>>, output: u32) -> &[InputTold]
+pub(crate) fn row_at(rows: &Items<Items<InputClaims>>, output: u32) -> &[InputClaims]
     requires { output < length rows.now }
     ensures { result.now ≡ slice_index_or rows.now output [] }
 {

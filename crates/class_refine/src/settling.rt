@@ -112,8 +112,7 @@ fn settle(
 ) -> Result<Option<u64>, AllocError>
     requires may { MaySettle grounds.now book.old domains.old }
     requires known { IsPairOf domains.old.inputs domains.old.outputs way }
-    ensures { Settles grounds.now book.old book.new domains.old domains.new
-        (λ pair. pair ≡ way) result }
+    ensures { Settles grounds.now book.old book.new domains.old domains.new (λ pair. pair ≡ way) result }
 {
     // assigned pairs are of ports that exist, and share none
     let _lawful = domains.entries();
@@ -134,8 +133,7 @@ fn settle_open(
     requires may { MaySettle grounds.now book.old domains.old }
     requires known { IsPairOf domains.old.inputs domains.old.outputs way }
     requires open { IsOpen domains.old.entries way }
-    ensures { Settles grounds.now book.old book.new domains.old domains.new
-        (λ pair. pair ≡ way) result }
+    ensures { Settles grounds.now book.old book.new domains.old domains.new (λ pair. pair ≡ way) result }
 {
     let Some(exclusion) = exclusion_of(alloc, grounds, domains, way, book)? else {
         return Ok(None);

@@ -106,7 +106,7 @@ fn output_ban(
     ban_by_facts(alloc, grounds.graphs, &pairs, output, first, second)
 }
 
-// Some pairs, and one more after them.
+// Pairs of inputs, and one of outputs after them.
 fn with_output(alloc: Global, inputs: &[Pair], output: Pair) -> Result<Vec<Pair>, AllocError>
     ensures { IfOk result (λ pairs. pairs.items ≡ inputs.now ++ output ∷ []) }
 {

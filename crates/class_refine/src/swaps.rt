@@ -14,7 +14,7 @@ ghost use Rattle.class_refine.specs.Swaps.{AgreesAt, IsExchange, IsSwapIndex, Sa
 use crate::grounds::Grounds;
 use crate::swap_index::number_of;
 use account_core::{Ban, Evidence, Fact};
-use ban_book::{Told, mismatch_ban, moved_value, two_inputs, unlike_of};
+use ban_book::{DecidedClaim, mismatch_ban, moved_value, two_inputs, unlike_of};
 use circuits::{Pair, PortKind};
 use indexmap::IndexMap;
 use net_core::Side;
@@ -31,9 +31,9 @@ pub(crate) struct Exchange {
     pub(crate) b: bool,
 }
 
-/// The ban of the pairs of an output and two inputs, by a claim of these that is decided otherwise than the one which
-/// the pairs carry it to. It looks at all facts, for each open way anew, which is good enough because the search
-/// refines whole matchings alone: no way is open there, and each fact is looked at once.
+/// The ban of the pairs of an output and two inputs where a claim of both inputs holds and its image under the pairs
+/// fails, or the other way round. All facts are gone over, for each open way anew. That is good enough, because the
+/// search refines whole matchings alone: no way is open there, and each fact is looked at once.
 pub(crate) fn swap_ban(
     alloc: Global,
     grounds: &Grounds<'_>,
@@ -87,7 +87,7 @@ fn ban_at(
 }
 
 // What a fact tells of its claim.
-fn told_at(facts: &[Fact], number: usize) -> Told
+fn told_at(facts: &[Fact], number: usize) -> DecidedClaim
     requires below { number < length facts.now }
     ensures told { IsToldAs (map decided_by facts.now) (fact_at (given_of (map decided_by facts.now) []) number).claim
         result.holds result.number }
@@ -97,7 +97,7 @@ fn told_at(facts: &[Fact], number: usize) -> Told
         Evidence::Fails(_) => false,
         Evidence::Holds(_) => true,
     };
-    Told {
+    DecidedClaim {
         holds,
         number: number as u64,
     }
@@ -134,13 +134,13 @@ pub(crate) fn claim_at(facts: &[Fact], number: usize) -> Claim
     facts[number].claim
 }
 
-// The fact of a claim of two inputs, if it says otherwise.
+// The fact of a claim of two inputs, if the claim is decided the other way.
 fn otherwise(
     facts: &[Fact],
     swaps: &IndexMap<Claim, u64>,
     claim: Claim,
     holds: bool,
-) -> Option<Told>
+) -> Option<DecidedClaim>
     requires distinct { AllPairs (λ one other. one.claim ≢ other.claim) (map decided_by facts.now) }
     requires index { IsSwapIndex (map decided_by facts.now) swaps.now.entries }
     requires two { HasTwoInputs claim.shape }
@@ -156,8 +156,8 @@ fn otherwise(
     Some(told)
 }
 
-// The pairs of a claim of two inputs of the first circuit. It is None where the claim is another one, or pairs carry it
-// to none.
+// The pairs that carry a claim of two inputs of the first circuit to one of the second. None where it is another claim,
+// or one of these pairs is missing.
 fn exchange_of(pairs: &[Pair], claim: Claim) -> Option<Exchange>
     ensures found { IfSome result (IsExchange pairs.now claim) }
     ensures none { IfNone result ((image : AnyClaim) → HasTwoInputs claim.shape → IsImage pairs.now claim image → ⊥) }

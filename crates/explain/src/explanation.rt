@@ -1,6 +1,7 @@
 //! What the end of a run means, for people.
 
-ghost use Rattle.std.specs.Prelude.{ℕ, ◌≡◌, List};
+ghost use Rattle.std.specs.Prelude.{◌≡◌};
+ghost use Rattle.refusal_words.specs.Files.{SameFiles};
 ghost use Rattle.shelf_core.specs.State.{Closed};
 
 use crate::account_lines::LineSearch;
@@ -13,13 +14,13 @@ use crate::word_fault::fault_of_words;
 use account_check::Why;
 use check_steps::{Command, Outcome, ReadStop, Which, command_asked};
 use net_file::NetFault;
-use refusal_words::{Shown, put_refusal, seek_in};
+use refusal_words::{TerminalText, put_refusal, seek_in};
 use shelf_core::Shelf;
 use std::alloc::Global;
 
 /// What is known of a run that ended.
 #[derive(Clone, Copy, Debug)]
-pub struct Told<'a> {
+pub struct EndedRun<'a> {
     /// The words of the command line.
     pub words: &'a [String],
     /// How the run ended.
@@ -32,9 +33,9 @@ pub struct Told<'a> {
 
 /// What the end of a run means, in lines that end with a line feed; nothing where the report says it all. Files are
 /// read again for it, and none is changed. Where that fails, or there is no memory, less is said.
-pub fn explain<S: Shelf>(alloc: Global, told: &Told<'_>, shelf: &mut S) -> String
+pub fn explain<S: Shelf>(alloc: Global, told: &EndedRun<'_>, shelf: &mut S) -> String
     requires { (S.state shelf.old).mode ≡ Closed }
-    ensures { (name : List ℕ) → (S.state shelf.new).held name ≡ (S.state shelf.old).held name }
+    ensures { SameFiles (S.state shelf.old) (S.state shelf.new) }
 {
     let mut text = String::new(alloc);
     // what can't be said is left out
@@ -75,12 +76,12 @@ fn name_of(words: &[String], which: Which) -> Option<&str> {
 
 fn put_explanation<S: Shelf>(
     alloc: Global,
-    told: &Told<'_>,
+    told: &EndedRun<'_>,
     shelf: &mut S,
     text: &mut String,
 ) -> Result<(), ReadStop>
     requires { (S.state shelf.old).mode ≡ Closed }
-    ensures { (n : List ℕ) → (S.state shelf.new).held n ≡ (S.state shelf.old).held n }
+    ensures { SameFiles (S.state shelf.old) (S.state shelf.new) }
 {
     match told.outcome {
         Outcome::Usage => put_usage(told.words, text),
@@ -110,9 +111,14 @@ fn put_usage(words: &[String], text: &mut String) -> Result<(), ReadStop> {
 }
 
 /// Says something of a file.
-fn put_file(told: &Told<'_>, which: Which, what: &str, text: &mut String) -> Result<(), ReadStop> {
+fn put_file(
+    told: &EndedRun<'_>,
+    which: Which,
+    what: &str,
+    text: &mut String,
+) -> Result<(), ReadStop> {
     match name_of(told.words, which) {
-        Some(name) => Ok(writeln!(text, "{}: {what}", Shown::name(name))?),
+        Some(name) => Ok(writeln!(text, "{}: {what}", TerminalText::name(name))?),
         None => Ok(()),
     }
 }
@@ -131,14 +137,14 @@ fn put_fault(
 
 fn put_netlist_fault<S: Shelf>(
     alloc: Global,
-    told: &Told<'_>,
+    told: &EndedRun<'_>,
     which: Which,
     fault: NetFault,
     shelf: &mut S,
     text: &mut String,
 ) -> Result<(), ReadStop>
     requires { (S.state shelf.old).mode ≡ Closed }
-    ensures { (n : List ℕ) → (S.state shelf.new).held n ≡ (S.state shelf.old).held n }
+    ensures { SameFiles (S.state shelf.old) (S.state shelf.new) }
 {
     match name_of(told.words, which) {
         Some(name) if told.readable => put_malformed(alloc, name, fault, shelf, text),
@@ -150,14 +156,14 @@ fn put_netlist_fault<S: Shelf>(
 /// Says of a rejected account which line is wrong, and what the line is.
 fn put_rejected<S: Shelf>(
     alloc: Global,
-    told: &Told<'_>,
+    told: &EndedRun<'_>,
     line: u64,
     why: Why,
     shelf: &mut S,
     text: &mut String,
 ) -> Result<(), ReadStop>
     requires { (S.state shelf.old).mode ≡ Closed }
-    ensures { (n : List ℕ) → (S.state shelf.new).held n ≡ (S.state shelf.old).held n }
+    ensures { SameFiles (S.state shelf.old) (S.state shelf.new) }
 {
     let Some(name) = name_of(told.words, Which::Account) else {
         return Ok(());
@@ -165,7 +171,7 @@ fn put_rejected<S: Shelf>(
     writeln!(
         text,
         "{}:{line}: {}",
-        Shown::name(name),
+        TerminalText::name(name),
         meaning_of_line(why)
     )?;
     if !told.readable {
@@ -181,17 +187,17 @@ fn put_line(line: &[u8], text: &mut String) -> Result<(), ReadStop> {
     if line.is_empty() {
         return Ok(());
     }
-    Ok(writeln!(text, "  {}", Shown(line))?)
+    Ok(writeln!(text, "  {}", TerminalText(line))?)
 }
 
 fn put_no_matching<S: Shelf>(
     alloc: Global,
-    told: &Told<'_>,
+    told: &EndedRun<'_>,
     shelf: &mut S,
     text: &mut String,
 ) -> Result<(), ReadStop>
     requires { (S.state shelf.old).mode ≡ Closed }
-    ensures { (n : List ℕ) → (S.state shelf.new).held n ≡ (S.state shelf.old).held n }
+    ensures { SameFiles (S.state shelf.old) (S.state shelf.new) }
 {
     match command_asked(told.words) {
         Some(Command::Match(asked)) if told.readable => put_refusal(alloc, &asked, shelf, text),
@@ -202,13 +208,13 @@ fn put_no_matching<S: Shelf>(
 /// Says that a budget was spent, and what budget is enough for the circuits.
 fn put_spent<S: Shelf>(
     alloc: Global,
-    told: &Told<'_>,
+    told: &EndedRun<'_>,
     budget: u64,
     shelf: &mut S,
     text: &mut String,
 ) -> Result<(), ReadStop>
     requires { (S.state shelf.old).mode ≡ Closed }
-    ensures { (n : List ℕ) → (S.state shelf.new).held n ≡ (S.state shelf.old).held n }
+    ensures { SameFiles (S.state shelf.old) (S.state shelf.new) }
 {
     writeln!(
         text,

@@ -1,6 +1,6 @@
 //! Files that couldn't be read or written.
 
-use refusal_words::Shown;
+use refusal_words::TerminalText;
 use std::fmt;
 
 /// A file of which a call failed.
@@ -15,6 +15,11 @@ pub struct FileFault<'a> {
 impl fmt::Display for FileFault<'_> {
     fn fmt<W: fmt::Write>(&self, f: &mut fmt::Formatter<W>) -> fmt::Result {
         let FileFault { name, reason } = self;
-        write!(f, "{}: {}", Shown::name(name), Shown::name(reason))
+        write!(
+            f,
+            "{}: {}",
+            TerminalText::name(name),
+            TerminalText::name(reason)
+        )
     }
 }

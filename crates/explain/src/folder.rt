@@ -1,7 +1,7 @@
 //! Files that surely can't be written, said before the search.
 
 use check_steps::{Command, command_asked};
-use refusal_words::Shown;
+use refusal_words::TerminalText;
 use std::fmt;
 
 /// Why a file can't be written.
@@ -30,21 +30,14 @@ pub struct Warning<'a> {
 impl fmt::Display for Warning<'_> {
     fn fmt<W: fmt::Write>(&self, f: &mut fmt::Formatter<W>) -> fmt::Result {
         let Warning { name, fault } = *self;
-        let (file, folder) = (Shown::name(name), Shown::name(folder_of(name)));
+        let folder = TerminalText::name(folder_of(name));
+        write!(f, "{} can't be written: ", TerminalText::name(name))?;
         match fault {
-            FolderFault::NoFolder => write!(
-                f,
-                "{file} can't be written: there is no folder {folder}"
-            ),
-            FolderFault::NotAFolder => write!(f, "{file} can't be written: {folder} is no folder"),
-            FolderFault::ClosedFolder => {
-                write!(
-                    f,
-                    "{file} can't be written: the folder {folder} isn't writable"
-                )
-            }
-            FolderFault::IsFolder => write!(f, "{file} can't be written: it is a folder"),
-            FolderFault::ClosedFile => write!(f, "{file} can't be written: it isn't writable"),
+            FolderFault::NoFolder => write!(f, "there is no folder {folder}"),
+            FolderFault::NotAFolder => write!(f, "{folder} is no folder"),
+            FolderFault::ClosedFolder => write!(f, "the folder {folder} isn't writable"),
+            FolderFault::IsFolder => f.write_str("it is a folder"),
+            FolderFault::ClosedFile => f.write_str("it isn't writable"),
         }
     }
 }

@@ -16,7 +16,7 @@ mod spending;
 mod version;
 mod word_fault;
 
-pub use explanation::{Told, explain, files_read_again};
+pub use explanation::{EndedRun, explain, files_read_again};
 pub use faults::FileFault;
 pub use folder::{FolderFault, Warning, folder_of, written_names};
 pub use notice::Notice;

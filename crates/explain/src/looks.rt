@@ -7,10 +7,8 @@ use std::fmt;
 pub(crate) enum Look {
     Empty,
     ByteOrderMark,
-    Gzip,
-    Xz,
-    Bzip2,
-    Zstd,
+    /// By the program of this name.
+    Compressed(&'static str),
     Verilog,
     Liberty,
 }
@@ -18,10 +16,10 @@ pub(crate) enum Look {
 /// The first bytes that tell a file by themselves: the magic numbers of compressed files, and the byte order marks of
 /// UTF-8 and UTF-16.
 static MARKS: [(&[u8], Look); 7] = [
-    (b"\x1f\x8b", Look::Gzip),
-    (b"\xfd7zXZ\x00", Look::Xz),
-    (b"BZh", Look::Bzip2),
-    (b"\x28\xb5\x2f\xfd", Look::Zstd),
+    (b"\x1f\x8b", Look::Compressed("gzip")),
+    (b"\xfd7zXZ\x00", Look::Compressed("xz")),
+    (b"BZh", Look::Compressed("bzip2")),
+    (b"\x28\xb5\x2f\xfd", Look::Compressed("zstd")),
     (b"\xef\xbb\xbf", Look::ByteOrderMark),
     (b"\xff\xfe", Look::ByteOrderMark),
     (b"\xfe\xff", Look::ByteOrderMark),
@@ -58,23 +56,23 @@ impl Look {
 /// What it is, and what to do about it.
 impl fmt::Display for Look {
     fn fmt<W: fmt::Write>(&self, f: &mut fmt::Formatter<W>) -> fmt::Result {
-        f.write_str(match self {
-            Look::Empty => "the file is empty",
-            Look::ByteOrderMark => {
-                "the file begins with a byte order mark: write it without one, as ASCII or UTF-8"
-            }
-            Look::Gzip => "this looks like a file compressed by gzip: `gzip -dc F > G`",
-            Look::Xz => "this looks like a file compressed by xz: `xz -dc F > G`",
-            Look::Bzip2 => "this looks like a file compressed by bzip2: `bzip2 -dc F > G`",
-            Look::Zstd => "this looks like a file compressed by zstd: `zstd -dc F > G`",
-            Look::Verilog => {
-                "this looks like Verilog: `yosys -p 'read_verilog F; synth -flatten; write_blif G'`"
-            }
-            Look::Liberty => {
+        match self {
+            Look::Empty => f.write_str("the file is empty"),
+            Look::ByteOrderMark => f.write_str(
+                "the file begins with a byte order mark: write it without one, as ASCII or UTF-8",
+            ),
+            Look::Compressed(program) => write!(
+                f,
+                "this looks like a file compressed by {program}: `{program} -dc F > G`"
+            ),
+            Look::Verilog => f.write_str(
+                "this looks like Verilog: `yosys -p 'read_verilog F; synth -flatten; write_blif G'`",
+            ),
+            Look::Liberty => f.write_str(
                 "this looks like a Liberty library, not a netlist: of a cell, `yosys -p 'read_liberty F; \
-                 prep -top CELL; techmap; write_blif G'`"
-            }
-        })
+                 prep -top CELL; techmap; write_blif G'`",
+            ),
+        }
     }
 }
 

@@ -1,20 +1,18 @@
 //! Where a netlist is malformed, and what it is instead.
 
-ghost use Rattle.std.specs.Prelude.{ℕ, ◌≡◌, List};
+ghost use Rattle.std.specs.Prelude.{◌≡◌};
+ghost use Rattle.refusal_words.specs.Files.{SameFiles};
 ghost use Rattle.shelf_core.specs.State.{Closed};
 
 use crate::looks::Look;
 use crate::meanings::meaning_of_kind;
 use crate::places::{line_around, place_of};
 use crate::remedies::Remedy;
-use check_steps::{File, ReadStop, read_file};
+use check_steps::{File, NETLIST_LIMIT, ReadStop, read_file};
 use net_file::{NetFault, NetKind};
-use refusal_words::Shown;
+use refusal_words::TerminalText;
 use shelf_core::Shelf;
 use std::alloc::Global;
-
-/// The most bytes of a netlist that is read.
-const NETLIST_LIMIT: u64 = 67_108_864;
 
 /// Says of a malformed netlist where its first fault stands, what its kind means, what the line is, and what helps.
 pub(crate) fn put_malformed<S: Shelf>(
@@ -25,7 +23,7 @@ pub(crate) fn put_malformed<S: Shelf>(
     text: &mut String,
 ) -> Result<(), ReadStop>
     requires { (S.state shelf.old).mode ≡ Closed }
-    ensures { (n : List ℕ) → (S.state shelf.new).held n ≡ (S.state shelf.old).held n }
+    ensures { SameFiles (S.state shelf.old) (S.state shelf.new) }
 {
     match read_file(alloc, shelf, name, NETLIST_LIMIT)? {
         File::Bytes(bytes) => put_fault(name, &bytes, fault, text),
@@ -35,7 +33,7 @@ pub(crate) fn put_malformed<S: Shelf>(
 
 /// Says of a malformed netlist that can't be read again what its fault means.
 pub(crate) fn put_unread(name: &str, fault: NetFault, text: &mut String) -> Result<(), ReadStop> {
-    let (name, meaning) = (Shown::name(name), meaning_of_kind(fault.kind));
+    let (name, meaning) = (TerminalText::name(name), meaning_of_kind(fault.kind));
     let at = fault.at;
     Ok(writeln!(text, "{name}: byte {at}: {meaning}")?)
 }
@@ -48,10 +46,10 @@ fn put_fault(name: &str, bytes: &[u8], fault: NetFault, text: &mut String) -> Re
         put_unread(name, fault, text)?;
     } else {
         let (meaning, place) = (meaning_of_kind(fault.kind), place_of(bytes, at));
-        writeln!(text, "{}:{place}: {meaning}", Shown::name(name))?;
+        writeln!(text, "{}:{place}: {meaning}", TerminalText::name(name))?;
     }
     if shows_line(fault.kind, look, line) {
-        writeln!(text, "  {}", Shown(line))?;
+        writeln!(text, "  {}", TerminalText(line))?;
     }
     put_help(name, look, Remedy::of(fault.kind, bytes, line), text)
 }
@@ -76,7 +74,7 @@ fn put_help(
     remedy: Option<Remedy>,
     text: &mut String,
 ) -> Result<(), ReadStop> {
-    let name = Shown::name(name);
+    let name = TerminalText::name(name);
     if let Some(look) = look {
         writeln!(text, "{name}: {look}")?;
     }

@@ -54,7 +54,8 @@ impl fmt::Display for Remedy {
                 "cut it at the registers, so that their outputs are inputs: `abc -c 'read_blif F; comb; write_blif G'`"
             }
             Remedy::CutAig => {
-                "cut it at the registers, so that their outputs are inputs: `abc -c 'read_aiger F; comb; write_aiger G'`"
+                "cut it at the registers, so that their outputs are inputs: `abc -c 'read_aiger F; comb; \
+                 write_aiger G'`"
             }
             Remedy::CutAag => {
                 "cut it at the registers, so that their outputs are inputs: `yosys -p 'read_aiger F; \

@@ -1,6 +1,7 @@
 //! What budget is enough for circuits.
 
-ghost use Rattle.std.specs.Prelude.{ℕ, ◌≡◌, List};
+ghost use Rattle.std.specs.Prelude.{◌≡◌};
+ghost use Rattle.refusal_words.specs.Files.{SameFiles};
 ghost use Rattle.shelf_core.specs.State.{Closed};
 
 use check_steps::{Info, Match, ReadStop, Which};
@@ -18,7 +19,7 @@ pub(crate) fn put_enough_of_two<S: Shelf>(
     text: &mut String,
 ) -> Result<(), ReadStop>
     requires { (S.state shelf.old).mode ≡ Closed }
-    ensures { (n : List ℕ) → (S.state shelf.new).held n ≡ (S.state shelf.old).held n }
+    ensures { SameFiles (S.state shelf.old) (S.state shelf.new) }
 {
     let first = netlist_again(alloc, shelf, Which::First, asked.first)?;
     let second = netlist_again(alloc, shelf, Which::Second, asked.second)?;
@@ -33,7 +34,7 @@ pub(crate) fn put_enough_of_one<S: Shelf>(
     text: &mut String,
 ) -> Result<(), ReadStop>
     requires { (S.state shelf.old).mode ≡ Closed }
-    ensures { (n : List ℕ) → (S.state shelf.new).held n ≡ (S.state shelf.old).held n }
+    ensures { SameFiles (S.state shelf.old) (S.state shelf.new) }
 {
     let named = netlist_again(alloc, shelf, Which::First, asked.file)?;
     put_enough(&Graphs::new(&named.graph, &named.graph), text)

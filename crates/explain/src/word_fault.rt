@@ -1,6 +1,6 @@
 //! Which word of the command line is of no form.
 
-use refusal_words::Shown;
+use refusal_words::TerminalText;
 use std::fmt;
 use text_core::is_numeral;
 
@@ -97,16 +97,24 @@ impl fmt::Display for WordFault<'_> {
     fn fmt<W: fmt::Write>(&self, f: &mut fmt::Formatter<W>) -> fmt::Result {
         match self {
             WordFault::NoCommand => write!(f, "no command is given"),
-            WordFault::UnknownCommand(word) => write!(f, "`{}` is no command", Shown::name(word)),
+            WordFault::UnknownCommand(word) => write!(
+                f,
+                "`{}` is no command",
+                TerminalText::name(word)
+            ),
             WordFault::NotAlone(word) => write!(f, "`{word}` stands alone"),
             WordFault::Missing(slot) => write!(f, "{slot} is missing"),
-            WordFault::TooMany(word) => write!(f, "`{}` is a word too many", Shown::name(word)),
+            WordFault::TooMany(word) => write!(
+                f,
+                "`{}` is a word too many",
+                TerminalText::name(word)
+            ),
             WordFault::Empty(slot) => write!(f, "{slot} is an empty word"),
             WordFault::NotANumber { slot, word } => {
-                write!(f, "{slot} is no number: `{}`", Shown::name(word))
+                write!(f, "{slot} is no number: `{}`", TerminalText::name(word))
             }
             WordFault::TooLarge { slot, word } => {
-                write!(f, "{slot} is too large: `{}`", Shown::name(word))
+                write!(f, "{slot} is too large: `{}`", TerminalText::name(word))
             }
             WordFault::SameFile { slot, other } => {
                 write!(

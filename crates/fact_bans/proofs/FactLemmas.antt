@@ -12,7 +12,7 @@ use Rattle.query_core.specs.Ledgers.{Ledgered}
 use Rattle.oracle_core.specs.Oracles.{Grows, Known, Suits}
 use Rattle.account_core.specs.Facts.{AreFacts}
 use Rattle.std.proofs.lemmas.Result.{IfOk-weaker}
-use Rattle.ban_book.specs.declared.told.InputTold.{InputTold}
+use Rattle.ban_book.specs.declared.input_claims.InputClaims.{InputClaims}
 use Rattle.ban_book.specs.Rows.{IsRow, IsTold}
 use Rattle.ban_book.specs.Told.{AddsFact, IsToldAs}
 use Rattle.ban_book.specs.Listed.{ListsOf}
@@ -34,7 +34,7 @@ pub told_grows : (old new : Known) (claim : Claim) (holds : Bool) (number : ℕ)
 told_grows old new claim holds number grows is =
     grown old new grows (λ facts. IsToldAs facts claim holds number) (λ added. told_stays (map decided_by old.facts) added claim holds number is)
 
-pub row_grows : (old new : Known) (side : Side) (output : ℕ) (row : List InputTold) → Grows old new → IsRow (map decided_by old.facts) side output row → IsRow (map decided_by new.facts) side output row
+pub row_grows : (old new : Known) (side : Side) (output : ℕ) (row : List InputClaims) → Grows old new → IsRow (map decided_by old.facts) side output row → IsRow (map decided_by new.facts) side output row
 row_grows old new side output row grows is =
     grown old new grows (λ facts. IsRow facts side output row) (λ added. row_stays (map decided_by old.facts) added side output row is)
 
@@ -74,19 +74,19 @@ listing_start known ledger wanted numbers lawful suits none = record {
 }
 
 -- The calls so far were answered, and the claims of the inputs before the next one are told.
-pub record IsTelling (old now : Known) (before after : Ledgered) (side : Side) (output input : ℕ) (row : List InputTold) : Type 0 where
+pub record IsTelling (old now : Known) (before after : Ledgered) (side : Side) (output input : ℕ) (row : List InputClaims) : Type 0 where
   pub served : HasServed old now before after
   pub told : IsRow (map decided_by now.facts) side output row
   pub size : length row ≡ input
 
-pub telling_start : (known : Known) (ledger : Ledgered) (side : Side) (output : ℕ) (row : List InputTold) → AreFacts known.graphs known.facts → Suits known ledger → row ≡ [] → IsTelling known known ledger ledger side output 0 row
+pub telling_start : (known : Known) (ledger : Ledgered) (side : Side) (output : ℕ) (row : List InputClaims) → AreFacts known.graphs known.facts → Suits known ledger → row ≡ [] → IsTelling known known ledger ledger side output 0 row
 telling_start known ledger side output row lawful suits none = record {
   served = served_same known ledger lawful suits;
   told = subst (IsRow (map decided_by known.facts) side output) (sym none) (row_none (map decided_by known.facts) side output);
   size = ap length none;
 }
 
-pub telling_more : (old mid new : Known) (a b c : Ledgered) (side : Side) (output input : ℕ) (row after : List InputTold) (told : InputTold) → IsTelling old mid a b side output input row → HasServed mid new b c → IsTold (map decided_by new.facts) side output input told → after ≡ row ++ told ∷ [] → IsTelling old new a c side output (input + 1) after
+pub telling_more : (old mid new : Known) (a b c : Ledgered) (side : Side) (output input : ℕ) (row after : List InputClaims) (told : InputClaims) → IsTelling old mid a b side output input row → HasServed mid new b c → IsTold (map decided_by new.facts) side output input told → after ≡ row ++ told ∷ [] → IsTelling old new a c side output (input + 1) after
 telling_more old mid new a b c side output input row after told telling served is after_is = record {
   served = served_then old mid new a b c telling.served served;
   told = subst (IsRow (map decided_by new.facts) side output) (sym after_is) (row_push (map decided_by new.facts) side output row told (row_grows mid new side output row served.grows telling.told) (subst (λ (i : ℕ). IsTold (map decided_by new.facts) side output i told) (sym telling.size) is));

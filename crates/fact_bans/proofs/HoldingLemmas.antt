@@ -95,7 +95,7 @@ holds_last graphs old mid new a b c first second third result held holds = recor
   adds = adds_then first second third held.adds holds.adds;
 }
 
--- calls that hold no ban
+-- calls that keep no ban
 pub holds_no_more : {X : Type 0} (graphs : Graphs) (old new : Known) (a b : Ledgered) (bans : List Ban) (result : Result X Stop) → AreValid graphs old bans → Serves old new a b result → HoldsBans graphs old new a b bans bans result
 holds_no_more graphs old new a b bans result valid serves = record {
   serves = serves;
@@ -103,7 +103,7 @@ holds_no_more graphs old new a b bans result valid serves = record {
   adds = adds_none bans;
 }
 
--- one ban is held, by a vector only as a last resort
+-- one ban is kept, by a vector only as a last resort
 pub valid_one : (graphs : Graphs) (old new : Known) (a b : Ledgered) (bans more : List Ban) (ban : Ban) → AreValid graphs old bans → HasServed old new a b → more ≡ bans ++ ban ∷ [] → IsValidBan graphs (given_of (map decided_by new.facts) bans) ban → (IsVector ban.step → IsLastResort graphs (map decided_by new.facts) ban) → AreValid graphs new more
 valid_one graphs old new a b bans more ban valid served is here resort =
     let grown = valid_grows old new graphs bans served.grows valid in
@@ -122,7 +122,7 @@ held_ban graphs old new a b bans more ban valid served is here resort = record {
   adds = adds_one bans more ban is;
 }
 
--- bans are held that no vector shows, and that are valid whatever the facts are
+-- bans are kept that no vector shows, and that are valid whatever the facts are
 pub held_more : (graphs : Graphs) (old new : Known) (a b : Ledgered) (first second third : List Ban) → HasHeld graphs old new a b first second → HoldsMore graphs second third → HasHeld graphs old new a b first third
 held_more graphs old new a b first second third held more = record {
   served = held.served;
@@ -134,7 +134,7 @@ held_more graphs old new a b first second third held more = record {
   adds = adds_then first second third held.adds (record { added = more.added; more = more.more });
 }
 
--- calls that were answered, and held no ban
+-- calls that were answered, and kept no ban
 pub held_kept : (graphs : Graphs) (old new : Known) (a b : Ledgered) (bans more : List Ban) → AreValid graphs old bans → HasServed old new a b → more ≡ bans → HasHeld graphs old new a b bans more
 held_kept graphs old new a b bans more valid served same = record {
   served = served;
@@ -150,7 +150,7 @@ holds_stop graphs old new a b bans more result is held = record {
   adds = held.adds;
 }
 
--- the first call wasn't answered, and holds no ban
+-- the first call wasn't answered, and keeps no ban
 pub holds_fail : {X Y : Type 0} (graphs : Graphs) (old new : Known) (a b : Ledgered) (bans : List Ban) (result : Result Y Stop) (stop : Stop) → IsErrAnd result (λ e. e ≡ stop) → MayHold graphs old a bans → Serves {X = X} old new a b (Err stop) → HoldsBans graphs old new a b bans bans result
 holds_fail graphs old new a b bans result stop is may serves = record {
   serves = serves_err old old new a a b result stop is (served_same old a (lawful_of graphs old a bans may) may.suits) serves;

@@ -23,7 +23,7 @@ use Rattle.ban_book.specs.Covering.{Covers}
 use Rattle.ban_book.proofs.BookLemmas.{covers_later}
 use Rattle.ban_book.proofs.ListLemmas.{zip_map, zip_taken}
 
--- as more bans are held
+-- as more bans are kept
 pub referred_later : (bans more : List Ban) (pair : Pair) (ref : Option ℕ) → OnlyAdds bans more → IsReferred bans pair ref → IsReferred more pair ref
 referred_later bans more pair ref adds is = record {
   number = is.number;

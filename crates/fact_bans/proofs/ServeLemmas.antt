@@ -1,4 +1,4 @@
--- Calls of an oracle, one after the other (`oracle_core`), and bans that are held beside them.
+-- Calls of an oracle, one after the other (`oracle_core`), and bans that are kept beside them.
 use Rattle.std.proofs.Common.{◌≡◌, List, [], map, take, get_or, ◌++◌, sym, ap, subst, ◌∙◌, append-nil}
 use Rattle.std.proofs.lemmas.List.{map-append}
 use Rattle.net_core.specs.Sides.{Graphs}

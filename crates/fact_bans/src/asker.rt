@@ -1,6 +1,4 @@
-//! Who has claims decided.
-
-use crate::seen::Seen;
+use crate::broken_claims::BrokenClaims;
 use oracle_core::Oracle;
 use query_core::Ledger;
 use std::alloc::Global;
@@ -11,6 +9,6 @@ use std::alloc::Global;
 pub struct Asker<'a, O: Oracle> {
     pub alloc: Global,
     pub oracle: &'a mut O,
-    pub seen: &'a mut Seen,
+    pub seen: &'a mut BrokenClaims,
     pub ledger: &'a mut Ledger,
 }

@@ -1,6 +1,6 @@
 //! Outputs that don't fit together by counts of their inputs.
 
-use crate::seen::Seen;
+use crate::broken_claims::BrokenClaims;
 use account_core::Tallied;
 use net_core::Side;
 use std::alloc::{AllocError, Global};
@@ -23,8 +23,7 @@ pub(crate) struct Classes {
     pub(crate) to: Vec<bool>,
 }
 
-// By hand, and so one call wherever a value ends: a derived drop is expanded there, field by field, and makes proofs
-// long.
+// By hand, so that each exit of a function has one call for it (docs/IDIOMS.md).
 impl Drop for Classes {
     fn drop(self) {
         let Classes {
@@ -41,7 +40,7 @@ impl Classes {
     pub(crate) fn new(
         alloc: Global,
         outputs: u32,
-        seen: &Seen,
+        seen: &BrokenClaims,
     ) -> Result<Option<Classes>, AllocError> {
         let first = keys(alloc, Side::First, outputs, seen)?;
         let second = keys(alloc, Side::Second, outputs, seen)?;
@@ -56,7 +55,12 @@ impl Classes {
     }
 }
 
-fn keys(alloc: Global, side: Side, outputs: u32, seen: &Seen) -> Result<Vec<Key>, AllocError> {
+fn keys(
+    alloc: Global,
+    side: Side,
+    outputs: u32,
+    seen: &BrokenClaims,
+) -> Result<Vec<Key>, AllocError> {
     let mut keys = Vec::new(alloc);
     for output in 0..outputs {
         keys.push(Key {

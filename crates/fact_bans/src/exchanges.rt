@@ -9,8 +9,8 @@ ghost use Rattle.fact_bans.specs.Carrying.{AreSwapPairs, all_of};
 ghost use Rattle.fact_bans.specs.Asking.{AreSame, HoldsBy, MayHoldBy, loans};
 
 use crate::asker::Asker;
+use crate::broken_claims::BrokenClaims;
 use crate::mismatched::hold_by;
-use crate::seen::Seen;
 use account_core::PairableGraphs;
 use ban_book::{BanBook, Carried, moved_value, two_inputs};
 use circuits::Pair;
@@ -92,7 +92,7 @@ static VALUES: [(bool, bool); 4] = [(false, true), (true, false), (false, false)
 
 // The values whose claim vectors break for one circuit and not for the other one, for which it isn't unateness that
 // keeps it.
-fn values_to_ask(pairs: SwapPairs, seen: &Seen) -> Option<(bool, bool)> {
+fn values_to_ask(pairs: SwapPairs, seen: &BrokenClaims) -> Option<(bool, bool)> {
     for values in VALUES.iter() {
         if is_worth(carried(pairs, *values), seen) {
             return Some(*values);
@@ -101,7 +101,7 @@ fn values_to_ask(pairs: SwapPairs, seen: &Seen) -> Option<(bool, bool)> {
     None
 }
 
-fn is_worth(carried: Carried, seen: &Seen) -> bool {
+fn is_worth(carried: Carried, seen: &BrokenClaims) -> bool {
     match (
         seen.is_swap_broken(carried.claim),
         seen.is_swap_broken(carried.image),
@@ -122,7 +122,9 @@ fn carried(pairs: SwapPairs, values: (bool, bool)) -> Carried
     ensures image { result.image ≡ record {
       side = AnySide.Second;
       output = pairs.output.to;
-      shape = two_inputs pairs.one.to (moved_value pairs.output.flip pairs.one values.0) pairs.other.to (moved_value pairs.output.flip pairs.other values.1);
+      shape = two_inputs
+          pairs.one.to (moved_value pairs.output.flip pairs.one values.0)
+          pairs.other.to (moved_value pairs.output.flip pairs.other values.1);
     } }
 {
     let SwapPairs { one, other, output } = pairs;

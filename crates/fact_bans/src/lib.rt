@@ -2,6 +2,7 @@
 #![tactic(auto)]
 
 mod asker;
+mod broken_claims;
 mod classes;
 mod exchanges;
 mod lists;
@@ -11,16 +12,15 @@ mod plan;
 mod refusal;
 mod rows;
 mod sampling;
-mod seen;
 mod swaps;
 mod tallies;
 mod told;
 
 pub use asker::Asker;
 pub use ban_book::Unlike;
+pub use broken_claims::BrokenClaims;
 pub use exchanges::{SwapPairs, swap_mismatch};
 pub use mismatches::{mismatch, tell_apart};
 pub use refusal::refuse;
 pub use rows::claims_of;
-pub use seen::Seen;
 pub use tallies::tally;

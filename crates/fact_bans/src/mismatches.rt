@@ -10,8 +10,8 @@ ghost use Rattle.fact_bans.specs.Carrying.{IsPairOf};
 ghost use Rattle.fact_bans.specs.Asking.{AreSame, HoldsBy, MayHoldBy, ServesBy, loans};
 
 use crate::asker::Asker;
+use crate::broken_claims::BrokenClaims;
 use crate::mismatched::{hold_by, unlike_by};
-use crate::seen::Seen;
 use account_core::PairableGraphs;
 use ban_book::{BanBook, Unlike, carry, moved_value};
 use circuits::Pair;
@@ -78,7 +78,7 @@ pub fn tell_apart<O: Oracle>(
 }
 
 // The value for which vectors break the claim of one circuit, and not that of the other one.
-fn value_to_ask(input: Pair, output: Pair, seen: &Seen) -> Option<bool> {
+fn value_to_ask(input: Pair, output: Pair, seen: &BrokenClaims) -> Option<bool> {
     if are_unlike(input, output, false, seen) {
         Some(false)
     } else if are_unlike(input, output, true, seen) {
@@ -88,7 +88,7 @@ fn value_to_ask(input: Pair, output: Pair, seen: &Seen) -> Option<bool> {
     }
 }
 
-fn are_unlike(input: Pair, output: Pair, value: bool, seen: &Seen) -> bool {
+fn are_unlike(input: Pair, output: Pair, value: bool, seen: &BrokenClaims) -> bool {
     let image = moved_value(output.flip, input, value);
     seen.is_broken(Side::First, output.from, input.from, value)
         != seen.is_broken(Side::Second, output.to, input.to, image)

@@ -1,7 +1,7 @@
 //! Which claims a tally of two outputs asks.
 
+use crate::broken_claims::BrokenClaims;
 use crate::sampling::Flips;
-use crate::seen::Seen;
 use account_core::{Tallied, other_side, port_on};
 use circuits::Pair;
 use net_core::Side;
@@ -18,8 +18,7 @@ pub(crate) struct Plan {
     pub(crate) both: Vec<Option<bool>>,
 }
 
-// By hand, and so one call wherever a value ends: a derived drop is expanded there, field by field, and makes proofs
-// long.
+// By hand, so that each exit of a function has one call for it (docs/IDIOMS.md).
 impl Drop for Plan {
     fn drop(self) {
         let Plan {
@@ -38,7 +37,7 @@ impl Plan {
         alloc: Global,
         pair: Pair,
         inputs: u32,
-        seen: &Seen,
+        seen: &BrokenClaims,
     ) -> Result<Option<Plan>, AllocError> {
         let support = Tallied::Support;
         if let Some(side) = more_on(pair, support, seen) {
@@ -53,7 +52,7 @@ impl Plan {
 }
 
 // The side whose output is of a kind in more inputs.
-fn more_on(pair: Pair, kind: Tallied, seen: &Seen) -> Option<Side> {
+fn more_on(pair: Pair, kind: Tallied, seen: &BrokenClaims) -> Option<Side> {
     let first = seen.count(Side::First, pair.from, kind);
     let second = seen.count(Side::Second, pair.to, kind);
     if first > second {
@@ -73,7 +72,7 @@ fn by_kind(
     side: Side,
     kind: Tallied,
     inputs: u32,
-    seen: &Seen,
+    seen: &BrokenClaims,
 ) -> Result<Plan, AllocError> {
     let other = other_side(side);
     let mut have = Vec::new(alloc);

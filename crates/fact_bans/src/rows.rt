@@ -10,7 +10,7 @@ ghost use Rattle.fact_bans.specs.Asking.{AreSame, MayAskBy, ServesBy, loans};
 use crate::asker::Asker;
 use crate::told::decide;
 use account_core::PairableGraphs;
-use ban_book::InputTold;
+use ban_book::InputClaims;
 use cnf_core::Stop;
 use items::Items;
 use net_core::Side;
@@ -29,7 +29,7 @@ pub fn claims_of<O: Oracle>(
     asker: &mut Asker<'_, O>,
     side: Side,
     output: u32,
-) -> Result<Items<InputTold>, Stop>
+) -> Result<Items<InputClaims>, Stop>
     requires may { MayAskBy graphs.now (loans O.known asker.old) }
     requires output { output < length (graph_of graphs.now side).outputs }
     ensures same { AreSame (loans O.known asker.old) (loans O.known asker.new) }
@@ -54,7 +54,7 @@ fn decide_both<O: Oracle>(
     side: Side,
     output: u32,
     input: u32,
-) -> Result<InputTold, Stop>
+) -> Result<InputClaims, Stop>
     requires output { output < length (graph_of (O.known asker.old.oracle.now).graphs side).outputs }
     requires input { input < (graph_of (O.known asker.old.oracle.now).graphs side).inputs }
     requires suits { Suits (O.known asker.old.oracle.now) asker.old.ledger.now }
@@ -74,5 +74,5 @@ fn decide_both<O: Oracle>(
     };
     let up = decide(asker, goes_up)?;
     let down = decide(asker, goes_down)?;
-    Ok(InputTold { up, down })
+    Ok(InputClaims { up, down })
 }

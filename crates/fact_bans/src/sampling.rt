@@ -40,7 +40,8 @@ impl Flips {
         }
     }
 
-    /// Bit 0 says that a vector breaks the claim that the input goes up, bit 1 that one breaks that it goes down.
+    /// Bit 0 says that a vector breaks the claim for the input going up, bit 1 that one breaks the claim for it going
+    /// down.
     pub(crate) fn broken(self) -> u8 {
         let up = if self.breaks_up { 1 } else { 0 };
         let down = if self.breaks_down { 2 } else { 0 };
@@ -108,7 +109,7 @@ fn mark_reached(simulator: &FlipSim<'_>, rows: &mut [Vec<Flips>]) {
     }
 }
 
-// An input reaches these outputs.
+// Marks that an input reaches these outputs.
 fn mark_outputs(rows: &mut [Vec<Flips>], outputs: &[u32], input: u32) {
     for output in outputs.iter() {
         if (*output as usize) < rows.len() {
@@ -150,7 +151,8 @@ pub(crate) fn put_block(simulator: &mut FlipSim<'_>, block: u64, is_all: bool, d
     }
 }
 
-// Half of the vectors even ones, a quarter mostly 0 and a quarter mostly 1: wide gates tell their inputs only by these.
+// Half of the vectors have 0 and 1 equally often, a quarter are mostly 0, and a quarter mostly 1: only on those do wide
+// gates depend on single inputs.
 fn drawn(draws: &mut Draws) -> Lanes {
     let sparse = draws.word() & draws.word() & draws.word();
     let dense = draws.word() | draws.word() | draws.word();

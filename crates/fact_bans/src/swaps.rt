@@ -98,8 +98,7 @@ struct Row {
     pairs: Vec<Vec<Broken>>,
 }
 
-// By hand, and so one call wherever a value ends: a derived drop is expanded there, field by field, and makes proofs
-// long.
+// By hand, so that each exit of a function has one call for it (docs/IDIOMS.md).
 impl Drop for Row {
     fn drop(self) {
         let Row {
@@ -173,8 +172,7 @@ pub(crate) struct Swaps {
     rows: Vec<Row>,
 }
 
-// By hand, and so one call wherever a value ends: a derived drop is expanded there, field by field, and makes proofs
-// long.
+// By hand, so that each exit of a function has one call for it (docs/IDIOMS.md).
 impl Drop for Swaps {
     fn drop(self) {
         let Swaps { rows: _rows } = self;

@@ -8,16 +8,19 @@ ghost use Rattle.ban_book.specs.Told.{AddsFact, IsToldAs};
 ghost use Rattle.fact_bans.specs.Asking.{AreSame, ServesBy, loans};
 
 use crate::asker::Asker;
-use crate::seen::Seen;
+use crate::broken_claims::BrokenClaims;
 use account_core::Fact;
-use ban_book::Told;
+use ban_book::DecidedClaim;
 use cnf_core::Stop;
 use items::Items;
 use oracle_core::Oracle;
 use query_core::Claim;
 
 /// Has a claim decided. Where it fails, that is noted as seen.
-pub(crate) fn decide<O: Oracle>(asker: &mut Asker<'_, O>, claim: Claim) -> Result<Told, Stop>
+pub(crate) fn decide<O: Oracle>(
+    asker: &mut Asker<'_, O>,
+    claim: Claim,
+) -> Result<DecidedClaim, Stop>
     requires placed { IsClaim (O.known asker.old.oracle.now).graphs claim }
     requires suits { Suits (O.known asker.old.oracle.now) asker.old.ledger.now }
     ensures same { AreSame (loans O.known asker.old) (loans O.known asker.new) }
@@ -29,7 +32,7 @@ pub(crate) fn decide<O: Oracle>(asker: &mut Asker<'_, O>, claim: Claim) -> Resul
     let fact = &asker.oracle.facts()[number as usize];
     let holds = fact.holds();
     asker.seen.note(claim, number, holds);
-    Ok(Told { number, holds })
+    Ok(DecidedClaim { number, holds })
 }
 
 // The number of a claim's fact. One that was noted is found without asking.
@@ -47,7 +50,7 @@ fn number_of<O: Oracle>(asker: &mut Asker<'_, O>, claim: Claim) -> Result<u64, S
 }
 
 // The number that was noted of a claim's fact, if the fact is of the claim.
-fn noted(facts: &[Fact], claim: Claim, seen: &Seen) -> Option<u64>
+fn noted(facts: &[Fact], claim: Claim, seen: &BrokenClaims) -> Option<u64>
     ensures { IfSome result (IsNumberOf facts.now claim) }
 {
     let number = seen.number(claim)?;

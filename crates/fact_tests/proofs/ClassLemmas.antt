@@ -11,11 +11,11 @@ use Rattle.claim_core.specs.declared.info.Unate.{Unate}
 use Rattle.claim_core.specs.declared.info.Unate.TheVariants.{Positive}
 use Rattle.claim_core.specs.declared.info.Sym.{Sym}
 use Rattle.claim_core.specs.Rows.{IsEntry, ListsPairs, ListsSupport}
-use Rattle.fact_tests.specs.declared.exchange_classes.Sorted.{Sorted}
+use Rattle.fact_tests.specs.declared.exchange_classes.ExchangeClasses.{ExchangeClasses}
 use Rattle.fact_tests.specs.declared.exchange_classes.Class.{Class}
-use Rattle.fact_tests.specs.declared.exchange_classes.Others.{Others}
+use Rattle.fact_tests.specs.declared.exchange_classes.OtherInputs.{OtherInputs}
 use Rattle.fact_tests.specs.declared.exchange_classes.Place.{Place}
-use Rattle.fact_tests.specs.declared.exchange_classes.Found.{Found}
+use Rattle.fact_tests.specs.declared.exchange_classes.FoundClass.{FoundClass}
 use Rattle.fact_tests.specs.Exchanges.{Adds, AreApart, AreClasses, Finds, HasLast, IsClass, IsExchange, IsFound, IsIn, IsJoined, IsNever, IsNext, IsOther, IsPlace, IsSecond, IsStranger, IsTried, IsWay, Joins, KeepsBoth, Sorts, both_by, classes_with, found_by, last_by, last_of, next_by, place_in, second_by, skew_by, sym_by}
 use Rattle.fact_tests.specs.Outputs.{IsAlike, IsSymmetry, input_at, pair_of}
 use Rattle.fact_tests.proofs.ExchangeLemmas.{exchange_between, exchange_is, exchange_over, never_back, never_over}
@@ -55,7 +55,7 @@ second_is n f first entry false false one other = neither
     neither true alike = refuted other alike
 
 -- the second input of a class joins it
-joined_second : (n : ℕ) (f : List Bool → Bool) (class : Class) (entry : ℕ × Unate) (others : Option Others) → class.others ≡ None → IsSecond n f class.first entry others → IsJoined n f class entry others
+joined_second : (n : ℕ) (f : List Bool → Bool) (class : Class) (entry : ℕ × Unate) (others : Option OtherInputs) → class.others ≡ None → IsSecond n f class.first entry others → IsJoined n f class entry others
 joined_second n f class entry None alone is =
     subst (λ others. IsNever n f (last_by class.first others).0 entry.0) (sym alone) is
 joined_second n f class entry (Some others) alone is = record {
@@ -65,7 +65,7 @@ joined_second n f class entry (Some others) alone is = record {
 }
 
 -- and an input more
-joined_next : (n : ℕ) (f : List Bool → Bool) (class : Class) (old : Others) (entry : ℕ × Unate) (way : Option Bool) → class.others ≡ Some old
+joined_next : (n : ℕ) (f : List Bool → Bool) (class : Class) (old : OtherInputs) (entry : ℕ × Unate) (way : Option Bool) → class.others ≡ Some old
     → IsOther n f class.first.0 (Some old) old.last.0 old.inverted
     → old.last.0 < entry.0
     → IsWay n f old.last.0 entry.0 way
@@ -78,10 +78,10 @@ joined_next n f class old entry (Some inverted) has joined order way = record {
   kept = subst (λ others. KeepsBoth others (record { last = entry; inverted = differ old.inverted inverted; both = old.both })) (sym has) refl;
 }
 
-pub second_joins : (n : ℕ) (f : List Bool → Bool) (class : Class) (entry : ℕ × Unate) (others : Option Others) → class.others ≡ None → IsSecond n f class.first entry others → IsJoined n f class entry others
+pub second_joins : (n : ℕ) (f : List Bool → Bool) (class : Class) (entry : ℕ × Unate) (others : Option OtherInputs) → class.others ≡ None → IsSecond n f class.first entry others → IsJoined n f class entry others
 second_joins = joined_second
 
-pub next_joins : (n : ℕ) (f : List Bool → Bool) (end : ℕ) (class : Class) (old : Others) (entry : ℕ × Unate) (next : Option Others) → class.others ≡ Some old
+pub next_joins : (n : ℕ) (f : List Bool → Bool) (end : ℕ) (class : Class) (old : OtherInputs) (entry : ℕ × Unate) (next : Option OtherInputs) → class.others ≡ Some old
     → IsClass n f end class
     → end ≤ entry.0
     → IsNext n f old entry next
@@ -95,12 +95,12 @@ next_joins n f end class old entry next has is le follows =
 pub alone_before : (n : ℕ) (f : List Bool → Bool) (end : ℕ) (class : Class) → class.others ≡ None → IsClass n f end class → class.first.0 < end
 alone_before n f end class alone is = subst (λ others. (last_by class.first others).0 < end) alone is.before
 
-pub last_before : (n : ℕ) (f : List Bool → Bool) (end : ℕ) (class : Class) (old : Others) → class.others ≡ Some old → IsClass n f end class → (old.last.0 < end) × IsEntry n f old.last
+pub last_before : (n : ℕ) (f : List Bool → Bool) (end : ℕ) (class : Class) (old : OtherInputs) → class.others ≡ Some old → IsClass n f end class → (old.last.0 < end) × IsEntry n f old.last
 last_before n f end class old has is = (subst (λ others. (last_by class.first others).0 < end) has is.before, subst (λ others. IsEntry n f (last_by class.first others)) has is.last)
 
 -- what is found
 
-pub tried_is : (n : ℕ) (f : List Bool → Bool) (classes : List Class) (entry : ℕ × Unate) (number : ℕ) (d : Class) (others : Option Others) → number < length classes
+pub tried_is : (n : ℕ) (f : List Bool → Bool) (classes : List Class) (entry : ℕ × Unate) (number : ℕ) (d : Class) (others : Option OtherInputs) → number < length classes
     → IsJoined n f (get_or classes number d) entry others
     → IsTried n f classes entry number (found_by number (get_or classes number d) others)
 tried_is n f classes entry number d None there joined =
@@ -112,7 +112,7 @@ tried_is n f classes entry number d (Some others) there joined = record {
 }
 
 -- one class more was tried in vain
-pub strangers_more : (n : ℕ) (f : List Bool → Bool) (classes : List Class) (entry : ℕ × Unate) (number : ℕ) (result : Option Found) → result ≡ None
+pub strangers_more : (n : ℕ) (f : List Bool → Bool) (classes : List Class) (entry : ℕ × Unate) (number : ℕ) (result : Option FoundClass) → result ≡ None
     → IsTried n f classes entry number result
     → ((k : ℕ) (d : Class) → k < number → k < length classes → IsStranger n f (get_or classes k d) entry.0)
     → (k : ℕ) (d : Class) → k < number + 1 → k < length classes → IsStranger n f (get_or classes k d) entry.0
@@ -126,14 +126,14 @@ strangers_more n f classes entry number result none tried so_far k d below there
 
 -- classes
 
-first_by : (n : ℕ) (f : List Bool → Bool) (end : ℕ) (first : ℕ × Unate) (others : Option Others) → HasLast n f first.0 others → (last_by first others).0 < end → first.0 < end
+first_by : (n : ℕ) (f : List Bool → Bool) (end : ℕ) (first : ℕ × Unate) (others : Option OtherInputs) → HasLast n f first.0 others → (last_by first others).0 < end → first.0 < end
 first_by n f end first None joined before = before
 first_by n f end first (Some others) joined before = omega (arith, joined.0, before)
 
 first_before : (n : ℕ) (f : List Bool → Bool) (end : ℕ) (class : Class) → IsClass n f end class → class.first.0 < end
 first_before n f end class is = first_by n f end class.first class.others is.joined is.before
 
-never_by : (n : ℕ) (f : List Bool → Bool) (i : ℕ) (first : ℕ × Unate) (others : Option Others) → HasLast n f first.0 others → (last_by first others).0 < i → IsNever n f (last_by first others).0 i → IsNever n f first.0 i
+never_by : (n : ℕ) (f : List Bool → Bool) (i : ℕ) (first : ℕ × Unate) (others : Option OtherInputs) → HasLast n f first.0 others → (last_by first others).0 < i → IsNever n f (last_by first others).0 i → IsNever n f first.0 i
 never_by n f i first None joined before never = never
 never_by n f i first (Some others) joined before never =
     never_over n f first.0 others.last.0 i others.inverted (omega (arith, joined.0)) (omega (arith, before)) (omega (arith, joined.0, before)) joined.1.alike never
@@ -164,10 +164,10 @@ classes_push n f entry classes right are strangers =
     }
 
 -- a class with an input more
-grown : Found → Class
+grown : FoundClass → Class
 grown found = record { first = found.first; others = Some found.others }
 
-class_grown : (n : ℕ) (f : List Bool → Bool) (entry : ℕ × Unate) (old : Class) (found : Found)
+class_grown : (n : ℕ) (f : List Bool → Bool) (entry : ℕ × Unate) (old : Class) (found : FoundClass)
     → IsEntry n f entry
     → IsClass n f entry.0 old
     → found.first ≡ old.first
@@ -191,7 +191,7 @@ first_kept classes number new k d there same =
       | inr apart ↦ ap (λ (class : Class). class.first) (get_or-set_other classes number k new d apart)
     ]
 
-classes_set : (n : ℕ) (f : List Bool → Bool) (entry : ℕ × Unate) (classes : List Class) (found : Found)
+classes_set : (n : ℕ) (f : List Bool → Bool) (entry : ℕ × Unate) (classes : List Class) (found : FoundClass)
     → IsEntry n f entry
     → AreClasses n f entry.0 classes
     → Finds n f classes entry found
@@ -210,11 +210,11 @@ classes_set n f entry classes found right are finds =
     }
 
 -- whoever belongs to a class belongs to it still
-in_by : (n : ℕ) (f : List Bool → Bool) (first i : ℕ) (old : Option Others) (new : Others) (inverted : Bool) → KeepsBoth old new → IsOther n f first old i inverted → IsOther n f first (Some new) i inverted
+in_by : (n : ℕ) (f : List Bool → Bool) (first i : ℕ) (old : Option OtherInputs) (new : OtherInputs) (inverted : Bool) → KeepsBoth old new → IsOther n f first old i inverted → IsOther n f first (Some new) i inverted
 in_by n f first i None new inverted kept is = absurd is
 in_by n f first i (Some old) new inverted kept is = (is.0, subst (IsExchange n f first i inverted) (sym kept) is.1)
 
-in_grown : (n : ℕ) (f : List Bool → Bool) (entry : ℕ × Unate) (old : Class) (found : Found) (i : ℕ) (inverted : Bool)
+in_grown : (n : ℕ) (f : List Bool → Bool) (entry : ℕ × Unate) (old : Class) (found : FoundClass) (i : ℕ) (inverted : Bool)
     → found.first ≡ old.first
     → Joins n f old entry found.others
     → IsIn n f old i inverted
@@ -233,7 +233,7 @@ place_push n f entry classes i place is =
       belongs = λ d. subst (λ class. IsIn n f class i place.inverted) (sym (get_or_append_left classes (new ∷ []) d place.class is.there)) (is.belongs d);
     }
 
-place_set : (n : ℕ) (f : List Bool → Bool) (entry : ℕ × Unate) (classes : List Class) (found : Found) (i : ℕ) (place : Place) → Finds n f classes entry found → IsPlace n f classes i place → IsPlace n f (classes_with entry (Some found) classes) i place
+place_set : (n : ℕ) (f : List Bool → Bool) (entry : ℕ × Unate) (classes : List Class) (found : FoundClass) (i : ℕ) (place : Place) → Finds n f classes entry found → IsPlace n f classes i place → IsPlace n f (classes_with entry (Some found) classes) i place
 place_set n f entry classes found i place finds is =
     let new : Class = record { first = found.first; others = Some found.others } in
     record {
@@ -255,7 +255,7 @@ here_push n f entry classes =
       belongs = λ d. subst (λ class. IsIn n f class entry.0 false) (sym (get_or_push classes new d (length classes) refl)) (inl (refl, refl));
     }
 
-here_set : (n : ℕ) (f : List Bool → Bool) (entry : ℕ × Unate) (classes : List Class) (found : Found) → AreClasses n f entry.0 classes → Finds n f classes entry found → IsPlace n f (classes_with entry (Some found) classes) entry.0 (place_in (Some found) classes)
+here_set : (n : ℕ) (f : List Bool → Bool) (entry : ℕ × Unate) (classes : List Class) (found : FoundClass) → AreClasses n f entry.0 classes → Finds n f classes entry found → IsPlace n f (classes_with entry (Some found) classes) entry.0 (place_in (Some found) classes)
 here_set n f entry classes found are finds =
     let new : Class = record { first = found.first; others = Some found.others } in
     record {
@@ -270,7 +270,7 @@ here_set n f entry classes found are finds =
         (first_before n f entry.0 old (are.each found.number d finds.there), (finds.joins d).exchange)
 
 -- the next input is added
-adds_by : (n : ℕ) (f : List Bool → Bool) (entry : ℕ × Unate) (old new : Sorted) (found : Option Found)
+adds_by : (n : ℕ) (f : List Bool → Bool) (entry : ℕ × Unate) (old new : ExchangeClasses) (found : Option FoundClass)
     → IsEntry n f entry
     → AreClasses n f entry.0 old.classes
     → IsFound n f old.classes entry found
@@ -292,7 +292,7 @@ adds_by n f entry old new (Some found) right are finds classes places = record {
   kept = λ j place is. subst (λ classes. IsPlace n f classes j place) (sym classes) (place_set n f entry old.classes found j place finds is);
 }
 
-pub added : (n : ℕ) (f : List Bool → Bool) (entry : ℕ × Unate) (old new : Sorted) (found : Option Found)
+pub added : (n : ℕ) (f : List Bool → Bool) (entry : ℕ × Unate) (old new : ExchangeClasses) (found : Option FoundClass)
     → IsEntry n f entry
     → AreClasses n f entry.0 old.classes
     → IsFound n f old.classes entry found
@@ -303,7 +303,7 @@ added = adds_by
 
 -- the inputs in order
 
-pub sorts_none : (n : ℕ) (f : List Bool → Bool) (support : List (ℕ × Unate)) (sorted : Sorted) → sorted.classes ≡ [] → sorted.places ≡ [] → Sorts n f support 0 sorted
+pub sorts_none : (n : ℕ) (f : List Bool → Bool) (support : List (ℕ × Unate)) (sorted : ExchangeClasses) → sorted.classes ≡ [] → sorted.places ≡ [] → Sorts n f support 0 sorted
 sorts_none n f support sorted classes places = record {
   classes = subst (AreClasses n f (input_at n support 0)) (sym classes) (record {
     each = λ k d h. absurd (omega (arith, h));
@@ -313,7 +313,7 @@ sorts_none n f support sorted classes places = record {
   places = subst (λ places. EachAt (λ k place. IsPlace n f sorted.classes (input_at n support k) place) places) (sym places) (λ k d h. absurd (omega (arith, h)));
 }
 
-pub sorts_more : (n : ℕ) (f : List Bool → Bool) (support : List (ℕ × Unate)) (k i : ℕ) (old new : Sorted) → ListsSupport n f 0 n support → k < length support
+pub sorts_more : (n : ℕ) (f : List Bool → Bool) (support : List (ℕ × Unate)) (k i : ℕ) (old new : ExchangeClasses) → ListsSupport n f 0 n support → k < length support
     → i ≡ (get_or support k (0, Positive)).0
     → Sorts n f support k old
     → Adds n f i old new
@@ -330,7 +330,7 @@ sorts_more n f support k i old new lists there read sorts adds =
     }
 
 -- what is needed before the next input is added
-pub classes_at : (n : ℕ) (f : List Bool → Bool) (support : List (ℕ × Unate)) (k i : ℕ) (sorted : Sorted) → k < length support → i ≡ (get_or support k (0, Positive)).0 → Sorts n f support k sorted → AreClasses n f i sorted.classes
+pub classes_at : (n : ℕ) (f : List Bool → Bool) (support : List (ℕ × Unate)) (k i : ℕ) (sorted : ExchangeClasses) → k < length support → i ≡ (get_or support k (0, Positive)).0 → Sorts n f support k sorted → AreClasses n f i sorted.classes
 classes_at n f support k i sorted there read sorts =
     subst (λ i. AreClasses n f i sorted.classes) (sym (read ∙ read_at n support k there)) sorts.classes
 
@@ -344,12 +344,12 @@ strange_first n f one other inverted apart is =
       | inr joined ↦ by one.others joined
     ]
   where
-    by : (others : Option Others) → IsOther n f one.first.0 others other.first.0 inverted → ⊥
+    by : (others : Option OtherInputs) → IsOther n f one.first.0 others other.first.0 inverted → ⊥
     by None joined = joined
     by (Some others) joined = apart.1 inverted joined.1.alike
 
 -- an input of a class may be exchanged with the first one, or is it
-same_or_alike : (n : ℕ) (f : List Bool → Bool) (first i : ℕ) (others : Option Others) (inverted : Bool) → IsOther n f first others i inverted → (first < i) × IsAlike n f first i inverted
+same_or_alike : (n : ℕ) (f : List Bool → Bool) (first i : ℕ) (others : Option OtherInputs) (inverted : Bool) → IsOther n f first others i inverted → (first < i) × IsAlike n f first i inverted
 same_or_alike n f first i None inverted is = absurd is
 same_or_alike n f first i (Some others) inverted is = (is.0, is.1.alike)
 
@@ -405,7 +405,7 @@ plain_sign : (sign : Bool) → differ false sign ≡ sign
 plain_sign false = refl
 plain_sign true = refl
 
-exchange_in : (n : ℕ) (f : List Bool → Bool) (first i j : ℕ) (others : Option Others) (p q : Bool) → i < j
+exchange_in : (n : ℕ) (f : List Bool → Bool) (first i j : ℕ) (others : Option OtherInputs) (p q : Bool) → i < j
     → ((i ≡ first) × (p ≡ false)) ⊎ IsOther n f first others i p
     → ((j ≡ first) × (q ≡ false)) ⊎ IsOther n f first others j q
     → IsExchange n f i j (differ p q) (both_by others)
@@ -433,7 +433,7 @@ sym_same n f i j classes one other d both way first second order same has is =
     subst (λ (way : Sym). IsSymmetry n f i j (Some way)) (sym (is ∙ ap (λ both. sym_by both (differ one.inverted other.inverted)) has)) (exchange_is n f i j (both_by class.others) (differ one.inverted other.inverted) exchange)
 
 -- one pair more is decided, by where its inputs belong
-pub pair_at : (n : ℕ) (f : List Bool → Bool) (support : List (ℕ × Unate)) (sorted : Sorted) (place t lesser greater : ℕ) (pairs new : List (ℕ × ℕ × Sym)) (way : Option Sym) (lent : List Class) (one other : Place)
+pub pair_at : (n : ℕ) (f : List Bool → Bool) (support : List (ℕ × Unate)) (sorted : ExchangeClasses) (place t lesser greater : ℕ) (pairs new : List (ℕ × ℕ × Sym)) (way : Option Sym) (lent : List Class) (one other : Place)
     → ListsSupport n f 0 n support
     → Sorts n f support (length support) sorted
     → place < t

@@ -8,11 +8,11 @@ use Rattle.claim_core.specs.declared.info.Unate.TheVariants.{Positive}
 use Rattle.claim_core.specs.declared.info.Sym.{Sym}
 use Rattle.claim_core.specs.declared.info.Sym.TheVariants.{Symmetric, Skew, Both}
 use Rattle.claim_core.specs.Rows.{IsEntry}
-use Rattle.fact_tests.specs.declared.exchange_classes.Sorted.{Sorted}
+use Rattle.fact_tests.specs.declared.exchange_classes.ExchangeClasses.{ExchangeClasses}
 use Rattle.fact_tests.specs.declared.exchange_classes.Class.{Class}
-use Rattle.fact_tests.specs.declared.exchange_classes.Others.{Others}
+use Rattle.fact_tests.specs.declared.exchange_classes.OtherInputs.{OtherInputs}
 use Rattle.fact_tests.specs.declared.exchange_classes.Place.{Place}
-use Rattle.fact_tests.specs.declared.exchange_classes.Found.{Found}
+use Rattle.fact_tests.specs.declared.exchange_classes.FoundClass.{FoundClass}
 use Rattle.fact_tests.specs.Outputs.{IsAlike, input_at}
 
 -- Two inputs may be exchanged in this way, and in the other one if and only if `both` says so.
@@ -30,7 +30,7 @@ IsWay n f i j None = IsNever n f i j
 IsWay n f i j (Some inverted) = IsAlike n f i j inverted
 
 -- an input that isn't the first one of a class belongs to it
-abbrev pub IsOther : ℕ → (List Bool → Bool) → ℕ → Option Others → ℕ → Bool → Type 0
+abbrev pub IsOther : ℕ → (List Bool → Bool) → ℕ → Option OtherInputs → ℕ → Bool → Type 0
 IsOther n f first None i inverted = ⊥
 IsOther n f first (Some others) i inverted = (first < i) × IsExchange n f first i inverted others.both
 
@@ -39,7 +39,7 @@ abbrev pub IsIn : ℕ → (List Bool → Bool) → Class → ℕ → Bool → Ty
 IsIn n f class i inverted = ((i ≡ class.first.0) × (inverted ≡ false)) ⊎ IsOther n f class.first.0 class.others i inverted
 
 -- the last input of a class
-abbrev pub last_by : ℕ × Unate → Option Others → ℕ × Unate
+abbrev pub last_by : ℕ × Unate → Option OtherInputs → ℕ × Unate
 last_by first None = first
 last_by first (Some others) = others.last
 
@@ -47,7 +47,7 @@ abbrev pub last_of : Class → ℕ × Unate
 last_of class = last_by class.first class.others
 
 -- the last input belongs to the class, as is kept with it
-abbrev pub HasLast : ℕ → (List Bool → Bool) → ℕ → Option Others → Type 0
+abbrev pub HasLast : ℕ → (List Bool → Bool) → ℕ → Option OtherInputs → Type 0
 HasLast n f first None = Unit {0}
 HasLast n f first (Some others) = IsOther n f first (Some others) others.last.0 others.inverted
 
@@ -73,13 +73,13 @@ pub record IsPlace (n : ℕ) (f : List Bool → Bool) (classes : List Class) (i 
   pub belongs : (d : Class) → IsIn n f (slice_index_or classes place.class d) i place.inverted
 
 -- The first inputs of a support are sorted, as many as `count`.
-pub record Sorts (n : ℕ) (f : List Bool → Bool) (support : List (ℕ × Unate)) (count : ℕ) (sorted : Sorted) : Type 0 where
+pub record Sorts (n : ℕ) (f : List Bool → Bool) (support : List (ℕ × Unate)) (count : ℕ) (sorted : ExchangeClasses) : Type 0 where
   pub classes : AreClasses n f (input_at n support count) sorted.classes
   pub counted : length sorted.places ≡ count
   pub places : EachAt (λ k place. IsPlace n f sorted.classes (input_at n support k) place) sorted.places
 
 -- The next input was added, and each other one belongs where it belonged.
-pub record Adds (n : ℕ) (f : List Bool → Bool) (i : ℕ) (old new : Sorted) : Type 0 where
+pub record Adds (n : ℕ) (f : List Bool → Bool) (i : ℕ) (old new : ExchangeClasses) : Type 0 where
   pub classes : AreClasses n f (i + 1) new.classes
   pub place : Place
   pub placed : new.places ≡ old.places ++ place ∷ []
@@ -91,71 +91,71 @@ abbrev pub IsStranger : ℕ → (List Bool → Bool) → Class → ℕ → Type 
 IsStranger n f class i = IsNever n f (last_of class).0 i
 
 -- in a class of two or more it stays as it is whether any two may be exchanged both ways
-abbrev pub KeepsBoth : Option Others → Others → Type 0
+abbrev pub KeepsBoth : Option OtherInputs → OtherInputs → Type 0
 KeepsBoth None new = Unit {0}
 KeepsBoth (Some others) new = new.both ≡ others.both
 
 -- An input belongs to a class, of which these are the others then.
-pub record Joins (n : ℕ) (f : List Bool → Bool) (class : Class) (entry : ℕ × Unate) (others : Others) : Type 0 where
+pub record Joins (n : ℕ) (f : List Bool → Bool) (class : Class) (entry : ℕ × Unate) (others : OtherInputs) : Type 0 where
   pub last : others.last ≡ entry
   pub exchange : IsExchange n f class.first.0 entry.0 others.inverted others.both
   pub kept : KeepsBoth class.others others
 
-abbrev pub IsJoined : ℕ → (List Bool → Bool) → Class → ℕ × Unate → Option Others → Type 0
+abbrev pub IsJoined : ℕ → (List Bool → Bool) → Class → ℕ × Unate → Option OtherInputs → Type 0
 IsJoined n f class entry None = IsStranger n f class entry.0
 IsJoined n f class entry (Some others) = Joins n f class entry others
 
 -- the second input of a class
-abbrev pub IsSecond : ℕ → (List Bool → Bool) → ℕ × Unate → ℕ × Unate → Option Others → Type 0
+abbrev pub IsSecond : ℕ → (List Bool → Bool) → ℕ × Unate → ℕ × Unate → Option OtherInputs → Type 0
 IsSecond n f first entry None = IsNever n f first.0 entry.0
 IsSecond n f first entry (Some others) = (others.last ≡ entry) × IsExchange n f first.0 entry.0 others.inverted others.both
 
-abbrev pub second_with : ℕ × Unate → Bool → Bool → Others
+abbrev pub second_with : ℕ × Unate → Bool → Bool → OtherInputs
 second_with entry inverted both = record { last = entry; inverted = inverted; both = both }
 
-abbrev pub second_by : ℕ × Unate → Bool → Bool → Option Others
+abbrev pub second_by : ℕ × Unate → Bool → Bool → Option OtherInputs
 second_by entry true true = Some (second_with entry false true)
 second_by entry true false = Some (second_with entry false false)
 second_by entry false true = Some (second_with entry true false)
 second_by entry false false = None
 
 -- an input more of a class: by the way in which it may be exchanged with the last one
-abbrev pub next_by : Others → ℕ × Unate → Option Bool → Option Others
+abbrev pub next_by : OtherInputs → ℕ × Unate → Option Bool → Option OtherInputs
 next_by others entry None = None
 next_by others entry (Some inverted) = Some (second_with entry (differ others.inverted inverted) others.both)
 
 -- an input more of a class of two or more, or that it belongs to another one
-abbrev pub IsNext : ℕ → (List Bool → Bool) → Others → ℕ × Unate → Option Others → Type 0
+abbrev pub IsNext : ℕ → (List Bool → Bool) → OtherInputs → ℕ × Unate → Option OtherInputs → Type 0
 IsNext n f others entry next = (way : Option Bool) × IsWay n f others.last.0 entry.0 way × (next ≡ next_by others entry way)
 
 abbrev pub skew_by : Bool → Option Bool
 skew_by true = Some true
 skew_by false = None
 
-abbrev pub found_by : ℕ → Class → Option Others → Option Found
+abbrev pub found_by : ℕ → Class → Option OtherInputs → Option FoundClass
 found_by number class None = None
 found_by number class (Some others) = Some (record { number = number; first = class.first; others = others })
 
 -- An input belongs to the class of this number.
-pub record Finds (n : ℕ) (f : List Bool → Bool) (classes : List Class) (entry : ℕ × Unate) (found : Found) : Type 0 where
+pub record Finds (n : ℕ) (f : List Bool → Bool) (classes : List Class) (entry : ℕ × Unate) (found : FoundClass) : Type 0 where
   pub there : found.number < length classes
   pub first : (d : Class) → found.first ≡ (slice_index_or classes found.number d).first
   pub joins : (d : Class) → Joins n f (slice_index_or classes found.number d) entry found.others
 
-abbrev pub IsFound : ℕ → (List Bool → Bool) → List Class → ℕ × Unate → Option Found → Type 0
+abbrev pub IsFound : ℕ → (List Bool → Bool) → List Class → ℕ × Unate → Option FoundClass → Type 0
 IsFound n f classes entry None = All (λ class. IsStranger n f class entry.0) classes
 IsFound n f classes entry (Some found) = Finds n f classes entry found
 
-abbrev pub IsTried : ℕ → (List Bool → Bool) → List Class → ℕ × Unate → ℕ → Option Found → Type 0
+abbrev pub IsTried : ℕ → (List Bool → Bool) → List Class → ℕ × Unate → ℕ → Option FoundClass → Type 0
 IsTried n f classes entry number None = (d : Class) → number < length classes → IsStranger n f (slice_index_or classes number d) entry.0
 IsTried n f classes entry number (Some found) = Finds n f classes entry found
 
 -- the classes with the next input, and where it belongs
-abbrev pub classes_with : ℕ × Unate → Option Found → List Class → List Class
+abbrev pub classes_with : ℕ × Unate → Option FoundClass → List Class → List Class
 classes_with entry None classes = classes ++ record { first = entry; others = None } ∷ []
 classes_with entry (Some found) classes = slice_set classes found.number (record { first = found.first; others = Some found.others })
 
-abbrev pub place_in : Option Found → List Class → Place
+abbrev pub place_in : Option FoundClass → List Class → Place
 place_in None classes = record { class = length classes; inverted = false }
 place_in (Some found) classes = record { class = found.number; inverted = found.others.inverted }
 
@@ -165,6 +165,6 @@ sym_by true inverted = Both
 sym_by false false = Symmetric
 sym_by false true = Skew
 
-abbrev pub both_by : Option Others → Bool
+abbrev pub both_by : Option OtherInputs → Bool
 both_by None = false
 both_by (Some others) = others.both

@@ -36,6 +36,13 @@ inputs_in graphs = graphs.first.inputs
 abbrev pub function_at : Graphs → ℕ → List Bool → Bool
 function_at graphs k = output_bit graphs.first k
 
+-- how many inputs an output's circuit has, and the output's function
+abbrev pub arity : FirstOutput → ℕ
+arity output = inputs_in output.graphs.now
+
+abbrev pub function : FirstOutput → List Bool → Bool
+function output = function_at output.graphs.now output.number
+
 -- how a function depends on an input: None where it doesn't
 abbrev pub IsDependence : ℕ → (List Bool → Bool) → ℕ → Option Unate → Type 0
 IsDependence n f i None = InSupport n f i → ⊥

@@ -73,6 +73,7 @@ pub(crate) fn by_structure(
     requires unspent { ledger.old.spent ≡ false }
     ensures { DecidesClaim graphs.now claim.now ledger.old ledger.new result }
 {
+    // the gates of a graph are in order, and its ports fewer than 2^32
     let _first = graphs.first();
     let _second = graphs.second();
     let query = of_claim(alloc, graphs, claim)?;
@@ -88,8 +89,7 @@ pub(crate) fn by_structure(
 /// side.
 fn line_of_outputs(alloc: Global, gates: u64) -> Result<LogLine, AllocError>
     requires { gates < 2 ^ 32 }
-    ensures { IfOk result (λ line. line
-        ≡ record { clause = []; hints = (1 + 6 * gates) ∷ (1 + 6 * gates + 1) ∷ [] }) }
+    ensures { IfOk result (λ line. line ≡ record { clause = []; hints = (1 + 6 * gates) ∷ (1 + 6 * gates + 1) ∷ [] }) }
 {
     let first = 1 + 6 * gates;
     let hints = Items::from_slice(alloc, &[first, first + 1])?;

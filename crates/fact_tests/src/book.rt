@@ -1,4 +1,4 @@
-//! What is known of two circuits, with what decides it.
+//! An oracle over what decides claims.
 
 ghost use Rattle.std.specs.Prelude.{◌≡◌, ◌≢◌, ◌<◌, [], false, true, All, IfOk, length};
 ghost use Rattle.circuits.specs.Matches.{HavePorts};
@@ -28,8 +28,8 @@ use std::alloc::Global;
 use std::marker::Model;
 use watch_core::Stage;
 
-/// What is known of the two circuits of something that decides claims: each claim that was decided is kept as a fact,
-/// and so is each answer about a matching. Contracts see it as what it knows.
+/// An oracle that keeps what something decides of its two circuits: each claim that was decided as a fact, and each
+/// answer about a matching. Contracts see it as what it knows.
 #[derive(Drop)]
 pub struct Book<D: Decide> {
     decider: D,

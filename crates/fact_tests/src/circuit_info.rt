@@ -37,6 +37,7 @@ pub fn info<W: Watch>(
     ensures serves { Serves book.old book.new ledger.old ledger.new result }
     ensures rows { IfOk result (λ rows. AreRows graphs.now.first rows.items) }
 {
+    // the facts of a book are of its circuits
     let _facts = book.facts();
     let supports = Supports::new(alloc, graphs.first())?;
     let readers = Readers::new(alloc, graphs.first())?;

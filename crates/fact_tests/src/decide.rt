@@ -30,8 +30,8 @@ pub trait Decide {
     ///
     /// # Errors
     ///
-    /// `Spent` where a line had to be learned and the budget was spent; the ledger keeps it as the refused line.
-    /// `Memory` when out of memory; nothing is said of the ledger then.
+    /// `Spent` where a line had to be learned and the budget was spent: the ledger has it as the refused line. `Memory`
+    /// when out of memory: then nothing is promised of the ledger.
     fn evidence(
         &mut self,
         alloc: Global,

@@ -3,7 +3,7 @@
 ghost use Rattle.std.specs.Prelude.{◌≡◌, ◌<◌, ◌++◌, ◌∷◌, [], IfOk, IfSome, OnOk, length};
 ghost use Rattle.oracle_core.specs.Oracles.{Serves};
 ghost use Rattle.claim_core.specs.Rows.{IsEntry, ListsSupport};
-ghost use Rattle.fact_tests.specs.Outputs.{IsOutput, MayAsk, function_at, inputs_in};
+ghost use Rattle.fact_tests.specs.Outputs.{IsOutput, MayAsk, arity, function};
 ghost use Rattle.fact_tests.specs.Exchanges.{Adds, AreClasses, IsClass, IsFound, IsJoined, IsNext, IsSecond, IsTried, IsWay, Sorts, classes_with, found_by, next_by, place_in, second_by, skew_by};
 
 use crate::first_output::FirstOutput;
@@ -18,7 +18,7 @@ use std::alloc::{AllocError, Global};
 /// Inputs of a support, sorted into classes: of one class any two may be exchanged, of two classes none. So n inputs of
 /// one class take n - 1 tests, each of an input with one of the class, and not one for each two inputs.
 #[derive(Drop)]
-pub(crate) struct Sorted {
+pub(crate) struct ExchangeClasses {
     pub classes: Items<Class>,
     /// Where each input of the support belongs, in the order of the support.
     pub places: Items<Place>,
@@ -30,12 +30,12 @@ pub(crate) struct Class {
     /// The least of them, and how the output depends on it.
     pub first: (u32, Unate),
     /// What is known of the others, where there are some.
-    pub others: Option<Others>,
+    pub others: Option<OtherInputs>,
 }
 
 /// The inputs of a class beside its first one.
 #[derive(Clone, Copy, Drop)]
-pub(crate) struct Others {
+pub(crate) struct OtherInputs {
     /// The greatest of them, with which the next input is tried: inputs that follow one another are often side by side
     /// in the circuit, and what is asked of such inputs is answered sooner.
     pub last: (u32, Unate),
@@ -56,11 +56,11 @@ pub(crate) struct Place {
 
 /// The class to which the next input belongs.
 #[derive(Clone, Copy, Drop)]
-pub(crate) struct Found {
+pub(crate) struct FoundClass {
     pub number: usize,
     pub first: (u32, Unate),
     /// What is known of the others, of which the input is the last one.
-    pub others: Others,
+    pub others: OtherInputs,
 }
 
 /// What is tried first with the next input. No answer depends on it.
@@ -80,16 +80,14 @@ pub(crate) fn sort<O: Oracle>(
     support: &[(u32, Unate)],
     oracle: &mut O,
     ledger: &mut Ledger,
-) -> Result<Sorted, Stop>
+) -> Result<ExchangeClasses, Stop>
     requires may { MayAsk output.now.graphs.now (O.known oracle.old) ledger.old }
     requires output { IsOutput output.now }
-    requires support { ListsSupport (inputs_in output.now.graphs.now)
-        (function_at output.now.graphs.now output.now.number) 0 (inputs_in output.now.graphs.now) support.now }
+    requires support { ListsSupport (arity output.now) (function output.now) 0 (arity output.now) support.now }
     ensures serves { Serves (O.known oracle.old) (O.known oracle.new) ledger.old ledger.new result }
-    ensures sorts { IfOk result (Sorts (inputs_in output.now.graphs.now)
-        (function_at output.now.graphs.now output.now.number) support.now (length support.now)) }
+    ensures sorts { IfOk result (Sorts (arity output.now) (function output.now) support.now (length support.now)) }
 {
-    let mut sorted = Sorted {
+    let mut sorted = ExchangeClasses {
         classes: Items::new(alloc),
         places: Items::new(alloc),
     };
@@ -102,19 +100,18 @@ fn add_all<O: Oracle>(
     alloc: Global,
     output: &FirstOutput<'_>,
     support: &[(u32, Unate)],
-    sorted: &mut Sorted,
+    sorted: &mut ExchangeClasses,
     oracle: &mut O,
     ledger: &mut Ledger,
 ) -> Result<(), Stop>
     requires may { MayAsk output.now.graphs.now (O.known oracle.old) ledger.old }
     requires output { IsOutput output.now }
-    requires support { ListsSupport (inputs_in output.now.graphs.now)
-        (function_at output.now.graphs.now output.now.number) 0 (inputs_in output.now.graphs.now) support.now }
+    requires support { ListsSupport (arity output.now) (function output.now) 0 (arity output.now) support.now }
     requires classes { sorted.old.classes ≡ [] }
     requires places { sorted.old.places ≡ [] }
     ensures serves { Serves (O.known oracle.old) (O.known oracle.new) ledger.old ledger.new result }
-    ensures sorts { OnOk result (Sorts (inputs_in output.now.graphs.now)
-        (function_at output.now.graphs.now output.now.number) support.now (length support.now) sorted.new) }
+    ensures sorts { OnOk result
+        (Sorts (arity output.now) (function output.now) support.now (length support.now) sorted.new) }
 {
     let mut tries = Tries {
         start: false,
@@ -131,20 +128,17 @@ fn add<O: Oracle>(
     alloc: Global,
     output: &FirstOutput<'_>,
     entry: (u32, Unate),
-    sorted: &mut Sorted,
+    sorted: &mut ExchangeClasses,
     tries: &mut Tries,
     oracle: &mut O,
     ledger: &mut Ledger,
 ) -> Result<(), Stop>
     requires may { MayAsk output.now.graphs.now (O.known oracle.old) ledger.old }
     requires output { IsOutput output.now }
-    requires entry { IsEntry (inputs_in output.now.graphs.now)
-        (function_at output.now.graphs.now output.now.number) entry }
-    requires classes { AreClasses (inputs_in output.now.graphs.now)
-        (function_at output.now.graphs.now output.now.number) entry.0 sorted.old.classes }
+    requires entry { IsEntry (arity output.now) (function output.now) entry }
+    requires classes { AreClasses (arity output.now) (function output.now) entry.0 sorted.old.classes }
     ensures serves { Serves (O.known oracle.old) (O.known oracle.new) ledger.old ledger.new result }
-    ensures adds { OnOk result (Adds (inputs_in output.now.graphs.now)
-        (function_at output.now.graphs.now output.now.number) entry.0 sorted.old sorted.new) }
+    ensures adds { OnOk result (Adds (arity output.now) (function output.now) entry.0 sorted.old sorted.new) }
 {
     let found = find(alloc, output, entry, &sorted.classes, tries, oracle, ledger)?;
     let place = put(entry, found, sorted)?;
@@ -153,7 +147,11 @@ fn add<O: Oracle>(
 }
 
 /// Puts the next input into the class that was found, else into a new one. Answers where it belongs.
-fn put(entry: (u32, Unate), found: Option<Found>, sorted: &mut Sorted) -> Result<Place, AllocError>
+fn put(
+    entry: (u32, Unate),
+    found: Option<FoundClass>,
+    sorted: &mut ExchangeClasses,
+) -> Result<Place, AllocError>
     requires found { IfSome found (λ found. found.number < length sorted.old.classes) }
     ensures classes { OnOk result (sorted.new.classes ≡ classes_with entry found sorted.old.classes) }
     ensures places { OnOk result (sorted.new.places ≡ sorted.old.places ++ place_in found sorted.old.classes ∷ []) }
@@ -166,7 +164,7 @@ fn put(entry: (u32, Unate), found: Option<Found>, sorted: &mut Sorted) -> Result
 /// The same for the classes alone.
 fn put_class(
     entry: (u32, Unate),
-    found: Option<Found>,
+    found: Option<FoundClass>,
     classes: &mut Items<Class>,
 ) -> Result<Place, AllocError>
     requires found { IfSome found (λ found. found.number < length classes.old) }
@@ -175,7 +173,7 @@ fn put_class(
 {
     match found {
         Some(found) => {
-            let Found {
+            let FoundClass {
                 number,
                 first,
                 others,
@@ -214,16 +212,13 @@ fn find<O: Oracle>(
     tries: &mut Tries,
     oracle: &mut O,
     ledger: &mut Ledger,
-) -> Result<Option<Found>, Stop>
+) -> Result<Option<FoundClass>, Stop>
     requires may { MayAsk output.now.graphs.now (O.known oracle.old) ledger.old }
     requires output { IsOutput output.now }
-    requires entry { IsEntry (inputs_in output.now.graphs.now)
-        (function_at output.now.graphs.now output.now.number) entry }
-    requires classes { AreClasses (inputs_in output.now.graphs.now)
-        (function_at output.now.graphs.now output.now.number) entry.0 classes.now }
+    requires entry { IsEntry (arity output.now) (function output.now) entry }
+    requires classes { AreClasses (arity output.now) (function output.now) entry.0 classes.now }
     ensures serves { Serves (O.known oracle.old) (O.known oracle.new) ledger.old ledger.new result }
-    ensures found { IfOk result (IsFound (inputs_in output.now.graphs.now)
-        (function_at output.now.graphs.now output.now.number) classes.now entry) }
+    ensures found { IfOk result (IsFound (arity output.now) (function output.now) classes.now entry) }
 {
     let start = &mut tries.start;
     match try_class(
@@ -250,16 +245,13 @@ fn find_among<O: Oracle>(
     start: &mut bool,
     oracle: &mut O,
     ledger: &mut Ledger,
-) -> Result<Option<Found>, Stop>
+) -> Result<Option<FoundClass>, Stop>
     requires may { MayAsk output.now.graphs.now (O.known oracle.old) ledger.old }
     requires output { IsOutput output.now }
-    requires entry { IsEntry (inputs_in output.now.graphs.now)
-        (function_at output.now.graphs.now output.now.number) entry }
-    requires classes { AreClasses (inputs_in output.now.graphs.now)
-        (function_at output.now.graphs.now output.now.number) entry.0 classes.now }
+    requires entry { IsEntry (arity output.now) (function output.now) entry }
+    requires classes { AreClasses (arity output.now) (function output.now) entry.0 classes.now }
     ensures serves { Serves (O.known oracle.old) (O.known oracle.new) ledger.old ledger.new result }
-    ensures found { IfOk result (IsFound (inputs_in output.now.graphs.now)
-        (function_at output.now.graphs.now output.now.number) classes.now entry) }
+    ensures found { IfOk result (IsFound (arity output.now) (function output.now) classes.now entry) }
 {
     for number in 0..classes.len() {
         let found = try_class(alloc, output, entry, classes, number, start, oracle, ledger)?;
@@ -281,16 +273,13 @@ fn try_class<O: Oracle>(
     start: &mut bool,
     oracle: &mut O,
     ledger: &mut Ledger,
-) -> Result<Option<Found>, Stop>
+) -> Result<Option<FoundClass>, Stop>
     requires may { MayAsk output.now.graphs.now (O.known oracle.old) ledger.old }
     requires output { IsOutput output.now }
-    requires entry { IsEntry (inputs_in output.now.graphs.now)
-        (function_at output.now.graphs.now output.now.number) entry }
-    requires classes { AreClasses (inputs_in output.now.graphs.now)
-        (function_at output.now.graphs.now output.now.number) entry.0 classes.now }
+    requires entry { IsEntry (arity output.now) (function output.now) entry }
+    requires classes { AreClasses (arity output.now) (function output.now) entry.0 classes.now }
     ensures serves { Serves (O.known oracle.old) (O.known oracle.new) ledger.old ledger.new result }
-    ensures tried { IfOk result (IsTried (inputs_in output.now.graphs.now)
-        (function_at output.now.graphs.now output.now.number) classes.now entry number) }
+    ensures tried { IfOk result (IsTried (arity output.now) (function output.now) classes.now entry number) }
 {
     if number >= classes.len() {
         return Ok(None);
@@ -301,11 +290,11 @@ fn try_class<O: Oracle>(
 }
 
 /// What was found by a class's others, once the input is the last of them.
-fn found_by(number: usize, class: Class, others: Option<Others>) -> Option<Found>
+fn found_by(number: usize, class: Class, others: Option<OtherInputs>) -> Option<FoundClass>
     ensures { result ≡ found_by number class others }
 {
     let others = others?;
-    Some(Found {
+    Some(FoundClass {
         number,
         first: class.first,
         others,
@@ -321,16 +310,13 @@ fn join<O: Oracle>(
     start: &mut bool,
     oracle: &mut O,
     ledger: &mut Ledger,
-) -> Result<Option<Others>, Stop>
+) -> Result<Option<OtherInputs>, Stop>
     requires may { MayAsk output.now.graphs.now (O.known oracle.old) ledger.old }
     requires output { IsOutput output.now }
-    requires entry { IsEntry (inputs_in output.now.graphs.now)
-        (function_at output.now.graphs.now output.now.number) entry }
-    requires class { IsClass (inputs_in output.now.graphs.now)
-        (function_at output.now.graphs.now output.now.number) entry.0 class }
+    requires entry { IsEntry (arity output.now) (function output.now) entry }
+    requires class { IsClass (arity output.now) (function output.now) entry.0 class }
     ensures serves { Serves (O.known oracle.old) (O.known oracle.new) ledger.old ledger.new result }
-    ensures joined { IfOk result (IsJoined (inputs_in output.now.graphs.now)
-        (function_at output.now.graphs.now output.now.number) class entry) }
+    ensures joined { IfOk result (IsJoined (arity output.now) (function output.now) class entry) }
 {
     match class.others {
         Some(others) => follow(alloc, output, others, entry, start, oracle, ledger),
@@ -347,17 +333,14 @@ fn pair_up<O: Oracle>(
     start: &mut bool,
     oracle: &mut O,
     ledger: &mut Ledger,
-) -> Result<Option<Others>, Stop>
+) -> Result<Option<OtherInputs>, Stop>
     requires may { MayAsk output.now.graphs.now (O.known oracle.old) ledger.old }
     requires output { IsOutput output.now }
     requires order { first.0 < entry.0 }
-    requires first { IsEntry (inputs_in output.now.graphs.now)
-        (function_at output.now.graphs.now output.now.number) first }
-    requires entry { IsEntry (inputs_in output.now.graphs.now)
-        (function_at output.now.graphs.now output.now.number) entry }
+    requires first { IsEntry (arity output.now) (function output.now) first }
+    requires entry { IsEntry (arity output.now) (function output.now) entry }
     ensures serves { Serves (O.known oracle.old) (O.known oracle.new) ledger.old ledger.new result }
-    ensures pair { IfOk result (IsSecond (inputs_in output.now.graphs.now)
-        (function_at output.now.graphs.now output.now.number) first entry) }
+    ensures pair { IfOk result (IsSecond (arity output.now) (function output.now) first entry) }
 {
     let symmetric = are_alike(alloc, output, first, entry, false, start, oracle, ledger)?;
     let skew = are_alike(alloc, output, first, entry, true, start, oracle, ledger)?;
@@ -365,13 +348,13 @@ fn pair_up<O: Oracle>(
 }
 
 /// The second input of a class, by whether it and the first one are symmetric, and whether they are skew symmetric.
-fn second_by(entry: (u32, Unate), symmetric: bool, skew: bool) -> Option<Others>
+fn second_by(entry: (u32, Unate), symmetric: bool, skew: bool) -> Option<OtherInputs>
     ensures { result ≡ second_by entry symmetric skew }
 {
     if !symmetric & !skew {
         return None;
     }
-    Some(Others {
+    Some(OtherInputs {
         last: entry,
         inverted: !symmetric,
         both: symmetric & skew,
@@ -382,33 +365,30 @@ fn second_by(entry: (u32, Unate), symmetric: bool, skew: bool) -> Option<Others>
 fn follow<O: Oracle>(
     alloc: Global,
     output: &FirstOutput<'_>,
-    others: Others,
+    others: OtherInputs,
     entry: (u32, Unate),
     start: &mut bool,
     oracle: &mut O,
     ledger: &mut Ledger,
-) -> Result<Option<Others>, Stop>
+) -> Result<Option<OtherInputs>, Stop>
     requires may { MayAsk output.now.graphs.now (O.known oracle.old) ledger.old }
     requires output { IsOutput output.now }
     requires order { others.last.0 < entry.0 }
-    requires last { IsEntry (inputs_in output.now.graphs.now)
-        (function_at output.now.graphs.now output.now.number) others.last }
-    requires entry { IsEntry (inputs_in output.now.graphs.now)
-        (function_at output.now.graphs.now output.now.number) entry }
+    requires last { IsEntry (arity output.now) (function output.now) others.last }
+    requires entry { IsEntry (arity output.now) (function output.now) entry }
     ensures serves { Serves (O.known oracle.old) (O.known oracle.new) ledger.old ledger.new result }
-    ensures follows { IfOk result (IsNext (inputs_in output.now.graphs.now)
-        (function_at output.now.graphs.now output.now.number) others entry) }
+    ensures follows { IfOk result (IsNext (arity output.now) (function output.now) others entry) }
 {
     let way = way_of(alloc, output, others.last, entry, start, oracle, ledger)?;
     Ok(next_by(others, entry, way))
 }
 
 /// The others of a class with an input more, which may be exchanged with the last one in this way.
-fn next_by(others: Others, entry: (u32, Unate), way: Option<bool>) -> Option<Others>
+fn next_by(others: OtherInputs, entry: (u32, Unate), way: Option<bool>) -> Option<OtherInputs>
     ensures { result ≡ next_by others entry way }
 {
     let inverted = way?;
-    Some(Others {
+    Some(OtherInputs {
         last: entry,
         inverted: others.inverted ^ inverted,
         both: others.both,
@@ -428,13 +408,10 @@ fn way_of<O: Oracle>(
     requires may { MayAsk output.now.graphs.now (O.known oracle.old) ledger.old }
     requires output { IsOutput output.now }
     requires order { first.0 < second.0 }
-    requires first { IsEntry (inputs_in output.now.graphs.now)
-        (function_at output.now.graphs.now output.now.number) first }
-    requires second { IsEntry (inputs_in output.now.graphs.now)
-        (function_at output.now.graphs.now output.now.number) second }
+    requires first { IsEntry (arity output.now) (function output.now) first }
+    requires second { IsEntry (arity output.now) (function output.now) second }
     ensures serves { Serves (O.known oracle.old) (O.known oracle.new) ledger.old ledger.new result }
-    ensures way { IfOk result (IsWay (inputs_in output.now.graphs.now)
-        (function_at output.now.graphs.now output.now.number) first.0 second.0) }
+    ensures way { IfOk result (IsWay (arity output.now) (function output.now) first.0 second.0) }
 {
     let symmetric = are_alike(alloc, output, first, second, false, start, oracle, ledger)?;
     if symmetric {

@@ -2,7 +2,7 @@
 
 ghost use Rattle.std.specs.Prelude.{◌≡◌, ◌<◌, ◌++◌, IfOk, OnOk, length};
 ghost use Rattle.oracle_core.specs.Oracles.{Serves};
-ghost use Rattle.fact_tests.specs.Outputs.{IsOutput, MayAsk, entry_of, function_at, inputs_in};
+ghost use Rattle.fact_tests.specs.Outputs.{IsOutput, MayAsk, arity, entry_of, function};
 ghost use Rattle.claim_core.specs.Rows.{ListsSupport};
 
 use crate::first_output::FirstOutput;
@@ -24,8 +24,7 @@ pub(crate) fn support<O: Oracle>(
     requires may { MayAsk output.now.graphs.now (O.known oracle.old) ledger.old }
     requires output { IsOutput output.now }
     ensures serves { Serves (O.known oracle.old) (O.known oracle.new) ledger.old ledger.new result }
-    ensures support { IfOk result (ListsSupport (inputs_in output.now.graphs.now)
-        (function_at output.now.graphs.now output.now.number) 0 (inputs_in output.now.graphs.now)) }
+    ensures support { IfOk result (ListsSupport (arity output.now) (function output.now) 0 (arity output.now)) }
 {
     let mut entries = Items::new(alloc);
     let inputs = output.graphs.first().inputs();

@@ -32,7 +32,7 @@ pub(crate) struct Nearby<'a> {
     graph: &'a Graph,
     seed: u64,
     /// Those that were made last.
-    held: Items<Signatures<'a>>,
+    kept: Items<Signatures<'a>>,
     /// How many were made.
     made: u64,
     /// How many passes over the gates the questions since then took.
@@ -48,7 +48,7 @@ impl<'a> Model for Nearby<'a> {
 
     ghost view = { λ a. a.graph.now };
 
-    ghost invariant = { λ a. All (IsOf a.graph.now) a.held };
+    ghost invariant = { λ a. All (IsOf a.graph.now) a.kept };
 }
 
 impl<'a> Nearby<'a> {
@@ -59,7 +59,7 @@ impl<'a> Nearby<'a> {
         Nearby {
             graph,
             seed,
-            held: Items::new(alloc),
+            kept: Items::new(alloc),
             made: 0,
             passes: 0,
         }
@@ -76,7 +76,7 @@ impl<'a> Nearby<'a> {
         requires placed { IsPlaced self.now.inputs shape }
         ensures { IfOk result (λ found. IfSome found (BreaksShape self.now output shape)) }
     {
-        for signatures in self.held.iter() {
+        for signatures in self.kept.iter() {
             if let Some(vector) = sighting_of(alloc, signatures, output, shape)? {
                 return Ok(Some(vector));
             }
@@ -104,25 +104,25 @@ impl<'a> Nearby<'a> {
         let seed = self.seed.wrapping_add(self.made);
         let (first, count) = group_with(self.graph, output);
         let signatures = Signatures::near(alloc, self.graph, first, count, vector, seed)?;
-        hold(signatures, self.made, &mut self.held)?;
+        keep(signatures, self.made, &mut self.kept)?;
         self.made = self.made.wrapping_add(1);
         Ok(())
     }
 }
 
 /// Puts signatures beside those that are kept, and, where there is no room, in the place of those that were made first.
-fn hold<'a>(
+fn keep<'a>(
     signatures: Signatures<'a>,
     made: u64,
-    held: &mut Items<Signatures<'a>>,
+    kept: &mut Items<Signatures<'a>>,
 ) -> Result<(), AllocError>
-    ensures { (net : Net) → IsOf net signatures.entry → All (IsOf net) held.old → All (IsOf net) held.new }
+    ensures { (net : Net) → IsOf net signatures.entry → All (IsOf net) kept.old → All (IsOf net) kept.new }
 {
-    if held.len() < MOST {
-        held.push(signatures)?;
+    if kept.len() < MOST {
+        kept.push(signatures)?;
         return Ok(());
     }
-    held.set((made % MOST as u64) as usize, signatures);
+    kept.set((made % MOST as u64) as usize, signatures);
     Ok(())
 }
 

@@ -90,7 +90,7 @@ fn no_spans(alloc: Global, count: usize) -> Result<Items<Span>, AllocError>
     Ok(spans)
 }
 
-/// A gate after those so far reads a literal.
+/// Notes that the next gate reads a literal.
 fn read_at(lit: Lit, place: u32, spans: &mut Items<Span>)
     requires signal { signal_of lit < length spans.old }
     requires place { place < 4_294_967_295 }

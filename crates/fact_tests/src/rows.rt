@@ -2,7 +2,7 @@
 
 ghost use Rattle.std.specs.Prelude.{◌≡◌, ◌<◌, IfOk, length};
 ghost use Rattle.oracle_core.specs.Oracles.{Serves, Suits};
-ghost use Rattle.fact_tests.specs.Outputs.{IsOutput, MayAsk, function_at, inputs_in};
+ghost use Rattle.fact_tests.specs.Outputs.{IsOutput, MayAsk, arity, function};
 ghost use Rattle.claim_core.specs.Rows.{AreRows, IsRow};
 
 use crate::first_output::FirstOutput;
@@ -33,6 +33,7 @@ pub(crate) fn rows_by<'a, O: Oracle>(
     ensures serves { Serves (O.known oracle.old) (O.known oracle.new) ledger.old ledger.new result }
     ensures rows { IfOk result (λ rows. AreRows graphs.now.first rows.items) }
 {
+    // the facts of an oracle are of its circuits
     let _facts = oracle.facts();
     let _second = graphs.second();
     let mut rows = Vec::new(alloc);
@@ -60,8 +61,7 @@ fn row<O: Oracle>(
     requires may { MayAsk output.now.graphs.now (O.known oracle.old) ledger.old }
     requires output { IsOutput output.now }
     ensures serves { Serves (O.known oracle.old) (O.known oracle.new) ledger.old ledger.new result }
-    ensures row { IfOk result (IsRow (inputs_in output.now.graphs.now)
-        (function_at output.now.graphs.now output.now.number)) }
+    ensures row { IfOk result (IsRow (arity output.now) (function output.now)) }
 {
     let support = support(alloc, output, oracle, ledger)?;
     let pairs = symmetries(alloc, output, &support, oracle, ledger)?;

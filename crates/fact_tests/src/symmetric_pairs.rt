@@ -4,9 +4,9 @@ ghost use Rattle.std.specs.Prelude.{◌≡◌, ◌+◌, ◌<◌, ◌++◌, ℕ, 
 ghost use Rattle.oracle_core.specs.Oracles.{Serves};
 ghost use Rattle.claim_core.specs.Rows.{ListsPairs, ListsSupport};
 ghost use Rattle.fact_tests.specs.Exchanges.{AreClasses, IsPlace, Sorts, both_by, sym_by};
-ghost use Rattle.fact_tests.specs.Outputs.{IsOutput, IsSymmetry, MayAsk, function_at, input_at, inputs_in, pair_of};
+ghost use Rattle.fact_tests.specs.Outputs.{IsOutput, IsSymmetry, MayAsk, arity, function, input_at, pair_of};
 
-use crate::exchange_classes::{Class, Others, Place, Sorted, sort};
+use crate::exchange_classes::{Class, ExchangeClasses, OtherInputs, Place, sort};
 use crate::first_output::FirstOutput;
 use claim_core::{Sym, Unate};
 use cnf_core::Stop;
@@ -25,11 +25,9 @@ pub(crate) fn symmetries<O: Oracle>(
 ) -> Result<Items<(u32, u32, Sym)>, Stop>
     requires may { MayAsk output.now.graphs.now (O.known oracle.old) ledger.old }
     requires output { IsOutput output.now }
-    requires support { ListsSupport (inputs_in output.now.graphs.now)
-        (function_at output.now.graphs.now output.now.number) 0 (inputs_in output.now.graphs.now) support.now }
+    requires support { ListsSupport (arity output.now) (function output.now) 0 (arity output.now) support.now }
     ensures serves { Serves (O.known oracle.old) (O.known oracle.new) ledger.old ledger.new result }
-    ensures pairs { IfOk result (ListsPairs (inputs_in output.now.graphs.now)
-        (function_at output.now.graphs.now output.now.number) (inputs_in output.now.graphs.now) 0) }
+    ensures pairs { IfOk result (ListsPairs (arity output.now) (function output.now) (arity output.now) 0) }
 {
     let sorted = sort(alloc, output, support, oracle, ledger)?;
     Ok(pairs_in(alloc, output, support, &sorted)?)
@@ -40,14 +38,11 @@ fn pairs_in(
     alloc: Global,
     output: &FirstOutput<'_>,
     support: &[(u32, Unate)],
-    sorted: &Sorted,
+    sorted: &ExchangeClasses,
 ) -> Result<Items<(u32, u32, Sym)>, AllocError>
-    requires support { ListsSupport (inputs_in output.now.graphs.now)
-        (function_at output.now.graphs.now output.now.number) 0 (inputs_in output.now.graphs.now) support.now }
-    requires sorts { Sorts (inputs_in output.now.graphs.now)
-        (function_at output.now.graphs.now output.now.number) support.now (length support.now) sorted.now }
-    ensures { IfOk result (ListsPairs (inputs_in output.now.graphs.now)
-        (function_at output.now.graphs.now output.now.number) (inputs_in output.now.graphs.now) 0) }
+    requires support { ListsSupport (arity output.now) (function output.now) 0 (arity output.now) support.now }
+    requires sorts { Sorts (arity output.now) (function output.now) support.now (length support.now) sorted.now }
+    ensures { IfOk result (ListsPairs (arity output.now) (function output.now) (arity output.now) 0) }
 {
     let mut pairs = Items::new(alloc);
     for place in 0..support.len() {
@@ -60,20 +55,18 @@ fn pairs_in(
 fn add_pairs(
     output: &FirstOutput<'_>,
     support: &[(u32, Unate)],
-    sorted: &Sorted,
+    sorted: &ExchangeClasses,
     place: usize,
     pairs: &mut Items<(u32, u32, Sym)>,
 ) -> Result<(), AllocError>
     requires place { place < length support.now }
-    requires support { ListsSupport (inputs_in output.now.graphs.now)
-        (function_at output.now.graphs.now output.now.number) 0 (inputs_in output.now.graphs.now) support.now }
-    requires sorts { Sorts (inputs_in output.now.graphs.now)
-        (function_at output.now.graphs.now output.now.number) support.now (length support.now) sorted.now }
-    requires pairs { ListsPairs (inputs_in output.now.graphs.now) (function_at output.now.graphs.now output.now.number)
-        (input_at (inputs_in output.now.graphs.now) support.now place) 0 pairs.old }
+    requires support { ListsSupport (arity output.now) (function output.now) 0 (arity output.now) support.now }
+    requires sorts { Sorts (arity output.now) (function output.now) support.now (length support.now) sorted.now }
+    requires pairs { ListsPairs (arity output.now) (function output.now)
+        (input_at (arity output.now) support.now place) 0 pairs.old }
     ensures { OnOk result
-        (ListsPairs (inputs_in output.now.graphs.now) (function_at output.now.graphs.now output.now.number)
-        (input_at (inputs_in output.now.graphs.now) support.now (place + 1)) 0 pairs.new) }
+        (ListsPairs (arity output.now) (function output.now)
+        (input_at (arity output.now) support.now (place + 1)) 0 pairs.new) }
 {
     let _ = output;
     for other in place + 1..support.len() {
@@ -116,7 +109,7 @@ fn sym_of(classes: &[Class], one: Place, other: Place) -> Option<Sym>
 }
 
 /// Whether any two inputs of a class may be exchanged both ways.
-fn is_both(others: Option<Others>) -> bool
+fn is_both(others: Option<OtherInputs>) -> bool
     ensures { result ≡ both_by others }
 {
     match others {

@@ -4,7 +4,7 @@ ghost use Rattle.std.specs.Prelude.{◌≡◌, ◌<◌, ℕ, IfOk, length};
 ghost use Rattle.std.specs.Bool.{Decides};
 ghost use Rattle.oracle_core.specs.Oracles.{Serves};
 ghost use Rattle.claim_core.specs.Claims.{IsPlaced};
-ghost use Rattle.fact_tests.specs.Outputs.{IsAlike, IsOutput, MayAsk, function_at, half_swap, inputs_in, may_be_alike};
+ghost use Rattle.fact_tests.specs.Outputs.{IsAlike, IsOutput, MayAsk, arity, function, half_swap, may_be_alike};
 ghost use Rattle.claim_core.specs.Rows.{IsEntry};
 
 use crate::first_output::FirstOutput;
@@ -32,13 +32,11 @@ pub(crate) fn are_alike<O: Oracle>(
     requires may { MayAsk output.now.graphs.now (O.known oracle.old) ledger.old }
     requires output { IsOutput output.now }
     requires order { first.0 < second.0 }
-    requires first { IsEntry (inputs_in output.now.graphs.now)
-        (function_at output.now.graphs.now output.now.number) first }
-    requires second { IsEntry (inputs_in output.now.graphs.now)
-        (function_at output.now.graphs.now output.now.number) second }
+    requires first { IsEntry (arity output.now) (function output.now) first }
+    requires second { IsEntry (arity output.now) (function output.now) second }
     ensures serves { Serves (O.known oracle.old) (O.known oracle.new) ledger.old ledger.new result }
-    ensures told { IfOk result (λ alike. Decides alike (IsAlike (inputs_in output.now.graphs.now)
-        (function_at output.now.graphs.now output.now.number) first.0 second.0 inverted)) }
+    ensures told { IfOk result
+        (λ alike. Decides alike (IsAlike (arity output.now) (function output.now) first.0 second.0 inverted)) }
 {
     if !may_be_alike(first.1, second.1, inverted) {
         return Ok(false);

@@ -2,7 +2,7 @@
 
 ghost use Rattle.std.specs.Prelude.{◌≡◌, ◌<◌, IfOk, length};
 ghost use Rattle.oracle_core.specs.Oracles.{Serves};
-ghost use Rattle.fact_tests.specs.Outputs.{IsDependence, IsOutput, MayAsk, dependence, function_at, inputs_in};
+ghost use Rattle.fact_tests.specs.Outputs.{IsDependence, IsOutput, MayAsk, arity, dependence, function};
 
 use crate::first_output::FirstOutput;
 use claim_core::Unate;
@@ -24,8 +24,7 @@ pub(crate) fn unateness<O: Oracle>(
     requires output { IsOutput output.now }
     requires input { input < output.now.graphs.now.first.inputs }
     ensures serves { Serves (O.known oracle.old) (O.known oracle.new) ledger.old ledger.new result }
-    ensures unate { IfOk result (IsDependence (inputs_in output.now.graphs.now)
-        (function_at output.now.graphs.now output.now.number) input) }
+    ensures unate { IfOk result (IsDependence (arity output.now) (function output.now) input) }
 {
     if !output.reaches(input) {
         return Ok(None);

@@ -1,4 +1,4 @@
--- Numbers in a heap (Williams, 1964): in which order they stand, where each stands, and which are held.
+-- A priority queue of numbers in a heap (Williams, 1964): in which order they stand, where each stands, and which are in the queue.
 use Rattle.std.specs.Prelude.{◌≡◌, ℕ, ◌<◌, ◌≤◌, ◌==◌, Bool, List, length, map, All, nat_lt, slice_index_or, if◌then◌else◌}
 
 -- All numbers below n, in some order, and the place of each.
@@ -18,11 +18,11 @@ turned one other place = if place == one then other else if place == other then 
 abbrev pub exchanged : ℕ → ℕ → List ℕ → List ℕ
 exchanged one other places = map (turned one other) places
 
--- for each number whether it is held: those at the first places are
+-- for each number whether it is in the queue: those at the first places are
 abbrev pub are_held : ℕ → List ℕ → List Bool
 are_held held places = map (λ place. nat_lt place held) places
 
--- What each heap keeps: a key for each number, and the order of the numbers, of which the first ones are held.
+-- What each heap keeps: a key for each number, and the order of the numbers, the first of which are in the queue.
 pub record IsKept (keys numbers places : List ℕ) (held : ℕ) : Type 0 where
   pub inverse : AreInverse (length keys) numbers places
   pub most : held ≤ length keys

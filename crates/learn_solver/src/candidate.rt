@@ -7,8 +7,8 @@ use cnf_core::SatLit;
 use std::alloc::{AllocError, Global};
 use trail_core::Trail;
 
-/// Two literals that seem never to be true together, as those by which one gate would be true and another one not that has
-/// the same value wherever it was looked at. Whether they ever are is for the search to find out.
+/// Two literals that seem never to be true together, as those by which one gate would be true and another one not that
+/// has the same value wherever it was looked at. Whether they ever are is for the search to find out.
 #[derive(Clone, Copy, Drop)]
 pub struct Candidate {
     pub one: SatLit,
@@ -30,8 +30,8 @@ pub struct Agenda {
     pub gates: Vec<Operands>,
     /// In the order in which they are looked at: best those first on which others rest.
     pub candidates: Vec<Candidate>,
-    /// What is decided before all other variables, once the candidates were looked at: each of these literals is to be true
-    /// first.
+    /// What is decided before all other variables, once the candidates were looked at: each of these literals is to be
+    /// true first.
     pub leading: Vec<SatLit>,
 }
 
@@ -52,8 +52,8 @@ pub trait QuestionGuide {
     /// Only when out of memory.
     fn done_with(&mut self, candidate: Candidate, lines: u64) -> Result<(), AllocError>;
 
-    /// The search for the question itself has this many lines now, lemmas among them. It is told after each step, also after a
-    /// decision, so that is to cost next to nothing.
+    /// The search for the question itself has this many lines now, lemmas among them. It is told after each step, also
+    /// after a decision, so that is to cost next to nothing.
     fn learned(&mut self, lines: u64);
 }
 
@@ -81,8 +81,8 @@ impl QuestionGuide for Unguided {
 }
 
 impl Candidate {
-    /// The next of the two literals to decide, so that both become true. None where both are, or one is false. A literal
-    /// over no variable of the trail is passed over.
+    /// The next of the two literals to decide, so that both become true. None where both are, or one is false. A
+    /// literal over no variable of the trail is passed over.
     pub(crate) fn next(self, trail: &Trail, variables: usize) -> Option<SatLit>
         requires { variables ≡ trail.now.variables }
         ensures { IfSome result (IsFree trail.now) }

@@ -12,8 +12,8 @@ use items::Items;
 use std::alloc::{AllocError, Global};
 use trail_core::Trail;
 
-/// What is learned from a conflict: a clause that follows, the numbers of the clauses that derive it in the order in which
-/// they are used, and the level to go back to, at which the clause leaves a single literal.
+/// What is learned from a conflict: a clause that follows, the numbers of the clauses that derive it in the order in
+/// which they are used, and the level to go back to, at which the clause leaves a single literal.
 #[derive(Drop)]
 pub(crate) struct LearnedClause {
     pub(crate) clause: Items<SatLit>,
@@ -32,10 +32,10 @@ struct Analysis {
     steps: Vec<u64>,
 }
 
-/// Learns from a clause all of whose literals are false. The clause is resolved with reasons, from the last literal of the
-/// trail down, up to the first literal of the level through which all of the conflict goes (the first unique implication
-/// point; Marques-Silva and Sakallah, GRASP, 1999). At level 0 everything is resolved. There is a mark for each
-/// variable; none of them is set before and after. The work grows with the trail and the clauses, not with the
+/// Learns from a clause all of whose literals are false. The clause is resolved with reasons, from the last literal of
+/// the trail down, up to the first literal of the level through which all of the conflict goes (the first unique
+/// implication point; Marques-Silva and Sakallah, GRASP, 1999). At level 0 everything is resolved. There is a mark for
+/// each variable; none of them is set before and after. The work grows with the trail and the clauses, not with the
 /// variables.
 pub(crate) fn analyse(
     alloc: Global,
@@ -143,9 +143,9 @@ impl Analysis {
         Ok(())
     }
 
-    // Takes the marked literals out that the others imply, from the last one down: each gives way to the other literals of
-    // its reason, which are marked or implied themselves (Sörensson and Biere, SAT 2009). One literal of the present level
-    // is left, and stays.
+    // Takes the marked literals out that the others imply, from the last one down: each gives way to the other literals
+    // of its reason, which are marked or implied themselves (Sörensson and Biere, SAT 2009). One literal of the present
+    // level is left, and stays.
     fn minimize(
         &mut self,
         alloc: Global,

@@ -13,8 +13,9 @@ use items::Items;
 use std::alloc::{AllocError, Global};
 use trail_core::Trail;
 
-/// The negated literal of the lowest of these variables that is unassigned, if there is one. The lowest is as good as any: it is asked
-/// for when a candidate's literals have all that they are computed from, and the candidate is over then.
+/// The negated literal of the lowest of these variables that is unassigned, if there is one. The lowest is as good as
+/// any: it is asked for when a candidate's literals have all that they are computed from, and the candidate is over
+/// then.
 pub(crate) fn next_decision(trail: &Trail, occurring: &[u64]) -> Option<SatLit>
     requires { All (λ v. v < trail.now.variables) occurring.now }
     ensures free { IfSome result (IsFree trail.now) }

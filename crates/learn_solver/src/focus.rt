@@ -1,5 +1,3 @@
-//! The part of a question that a search is after.
-
 ghost use Rattle.std.specs.Prelude.{◌≡◌, IfSome};
 ghost use Rattle.trail_core.specs.Trails.{IsFree};
 
@@ -8,16 +6,16 @@ use cnf_core::SatLit;
 use std::alloc::{AllocError, Global};
 use trail_core::Trail;
 
-/// The part of a question that a search is after: whether the two literals of a candidate can be true together. Only what
-/// they are computed from is decided then: the checksum of 32 bits takes a tenth of the lines that it takes where all
-/// variables are.
+/// The part of a question that a search is after: whether the two literals of a candidate can be true together. Only
+/// what they are computed from is decided then: the checksum of 32 bits takes a tenth of the lines that it takes where
+/// all variables are.
 pub(crate) struct Focus {
     /// None: the whole question.
     pub(crate) candidate: Option<Candidate>,
     /// Whether all is assigned from which the literals are computed.
     pub(crate) exhausted: bool,
-    /// Whether it is known what the literals are computed from. Most candidates are over once both literals are decided, and
-    /// nothing is to be known of them: of a divider of 12 bits a question has 3,000, and gates as many.
+    /// Whether it is known what the literals are computed from. Most candidates are over once both literals are
+    /// decided, and nothing is to be known of them: of a divider of 12 bits a question has 3,000, and gates as many.
     pub(crate) is_spread: bool,
     /// The gates of the question, each after its operands.
     pub(crate) gates: Vec<Operands>,
@@ -28,7 +26,7 @@ pub(crate) struct Focus {
     leading: Vec<SatLit>,
 }
 
-// By hand, and so one call wherever a value ends: a derived drop is expanded there, field by field, and makes proofs long.
+// By hand, so that each exit of a function has one call for it (docs/IDIOMS.md).
 impl Drop for Focus {
     fn drop(self) {
         let Focus {
@@ -64,8 +62,8 @@ impl Focus {
         self.leading = leading;
     }
 
-    /// The first of the literals that are decided before all other variables which isn't assigned. A literal over no variable
-    /// of the trail is passed over.
+    /// The first of the literals that are decided before all other variables which isn't assigned. A literal over no
+    /// variable of the trail is passed over.
     pub(crate) fn next_leading(&self, trail: &Trail, variables: usize) -> Option<SatLit>
         requires { variables ≡ trail.now.variables }
         ensures { IfSome result (IsFree trail.now) }
@@ -96,8 +94,8 @@ impl Focus {
         }
     }
 
-    /// Whether a variable is to be decided: all are for the whole question, and for a candidate those from which its literals are
-    /// computed. None is before that is known.
+    /// Whether a variable is to be decided: all are for the whole question, and for a candidate those from which its
+    /// literals are computed. None is before that is known.
     pub(crate) fn has(&self, variable: u64) -> bool {
         self.is_spread & (self.candidate.is_none() || is_marked(&self.turns, self.turn, variable))
     }

@@ -8,13 +8,14 @@ ghost use Rattle.learn_solver.specs.Heaps.{AreInverse, are_held, exchanged};
 use std::alloc::{AllocError, Global};
 use std::marker::Model;
 
-/// A set of the numbers below a bound. The one with the greatest key comes out first, and of those with the same key the
-/// greatest number (a binary heap: Williams, 1964). Each number has a key, whether it is held or not. Contracts see for each
-/// number whether it is held; which one comes out is in none. Only `new` takes memory.
+/// A priority queue of numbers below a bound. The one with the greatest key comes out first, and of those with the same
+/// key the greatest number (a binary heap: Williams, 1964). Each number has a key, whether it is in the queue or not.
+/// Contracts see which numbers are in it; no clause says which one comes out. Only `new` takes memory.
 #[derive(Drop)]
 pub(crate) struct Heap {
     keys: Vec<u64>,
-    /// All numbers, the held ones first. Of these the one at place k comes out before those at places 2 k + 1 and 2 k + 2.
+    /// All numbers, those in the queue first. Of these the one at place k comes out before those at places 2 k + 1 and
+    /// 2 k + 2.
     numbers: Vec<usize>,
     /// Where each number stands.
     places: Vec<usize>,
@@ -55,7 +56,7 @@ impl Heap {
         self.keys.len()
     }
 
-    /// Whether a number is held.
+    /// Whether a number is in the queue.
     pub(crate) fn has(&self, number: usize) -> bool
         requires { number < length self.now }
         ensures { result ≡ bit self.now number }
@@ -63,14 +64,14 @@ impl Heap {
         self.places[number] < self.held
     }
 
-    /// Holds none any more.
+    /// Takes all numbers out.
     pub(crate) fn clear(&mut self)
         ensures { self.new ≡ replicate (length self.old) false }
     {
         self.held = 0;
     }
 
-    /// Holds a number too.
+    /// Puts a number in, unless it is there.
     pub(crate) fn insert(&mut self, number: usize)
         requires { number < length self.old }
         ensures { self.new ≡ slice_set self.old number true }
@@ -82,7 +83,7 @@ impl Heap {
         self.lift(number);
     }
 
-    /// Takes out the number that comes first, if one is held.
+    /// Takes out the number that comes first, if there is one.
     pub(crate) fn pop(&mut self) -> Option<usize>
         ensures known { IfSome result (λ number. number < length self.old) }
         ensures held { IfSome result (λ number. bit self.old number ≡ true) }
@@ -120,7 +121,7 @@ impl Heap {
         }
     }
 
-    // Holds a number that isn't held, as the last one.
+    // Puts in a number that isn't there, as the last one.
     fn admit(&mut self, number: usize)
         requires known { number < length self.old }
         requires loose { bit self.old number ≡ false }
@@ -131,7 +132,7 @@ impl Heap {
         self.held += 1;
     }
 
-    // Takes a held number out. The last one stands in its place.
+    // Takes a number out. The last one comes to its place.
     fn dismiss(&mut self, number: usize)
         requires known { number < length self.old }
         requires held { bit self.old number ≡ true }
@@ -142,7 +143,7 @@ impl Heap {
         exchange(&mut self.numbers, &mut self.places, place, self.held);
     }
 
-    // Moves a held number forward to where it comes after the one before it.
+    // Moves a number forward, to where it comes after the one before it.
     fn lift(&mut self, number: usize)
         requires known { number < length self.old }
         requires held { bit self.old number ≡ true }
@@ -171,7 +172,7 @@ fn lift_from(keys: &[u64], numbers: &mut Vec<usize>, places: &mut Vec<usize>, pl
     }
 }
 
-// Moves the first of the held numbers back, while one of the two below it comes out before it.
+// Moves the first number back, while one of the two below it comes out before it.
 fn sink(keys: &[u64], numbers: &mut Vec<usize>, places: &mut Vec<usize>, held: usize)
     requires inverse { AreInverse (length keys.now) numbers.old.items places.old.items }
     requires within { held ≤ length keys.now }

@@ -1,6 +1,6 @@
 //! A search for a model of clauses that learns from each conflict and writes down how (conflict-driven clause learning:
-//! Marques-Silva and Sakallah, GRASP, 1999; Eén and Sörensson, MiniSat, 2003; the hints are those of LRAT, Cruz-Filipe and
-//! others, 2017).
+//! Marques-Silva and Sakallah, GRASP, 1999; Eén and Sörensson, MiniSat, 2003; the hints are those of LRAT, Cruz-Filipe
+//! and others, 2017).
 #![tactic(auto)]
 
 mod candidate;

@@ -1,5 +1,3 @@
-//! The order in which variables are decided.
-
 ghost use Rattle.std.specs.Prelude.{ℕ, ◌≡◌, ◌^◌, ◌<◌, All, IfOk, IfSome, length};
 ghost use Rattle.cnf_core.specs.Clauses.{variable_of, AreKnown};
 ghost use Rattle.trail_core.specs.Trails.{IsFree};
@@ -12,8 +10,9 @@ use cnf_core::{ClauseStore, SatLit};
 use std::alloc::{AllocError, Global};
 use trail_core::Trail;
 
-/// A conflict counts more than the one before it by the weight of that one divided by this. With 8, 16 and 24 the multiplier of 7
-/// bits beside an array takes 64,065, 57,439 and 57,063 lines, and the checksum of 32 bits 147,542, 150,630 and 153,309.
+/// A conflict counts more than the one before it by the weight of that one divided by this. With 8, 16 and 24 the
+/// multiplier of 7 bits beside an array takes 64,065, 57,439 and 57,063 lines, and the checksum of 32 bits 147,542,
+/// 150,630 and 153,309.
 const GROWTH: u64 = 16;
 
 /// What the first conflict counts: many times `GROWTH`, so that little is lost where a weight is divided by that.
@@ -22,14 +21,14 @@ const LEAST: u64 = 1 << 16;
 /// What a conflict counts at most, so that sums of such weights stay within a word.
 const MOST: u64 = 1 << 56;
 
-/// By which power of two all is divided that was counted, once a conflict would count more: it counts 2^24 then, and all is
-/// divided again some 370 conflicts later.
+/// By which power of two all is divided that was counted, once a conflict would count more: it counts 2^24 then, and
+/// all is divided again some 370 conflicts later.
 const BITS: u32 = 32;
 
-/// The order in which variables are decided: first those that conflicts named most, of which later ones count more (variable
-/// state independent decaying sum: Moskewicz and others, Chaff, 2001; with a heap: Eén and Sörensson, MiniSat, 2003). Each gets
-/// the value that it had last (Pipatsrisawat and Darwiche, SAT 2007), at first 0. It says what is tried first; no answer depends
-/// on it.
+/// The order in which variables are decided: first those that conflicts named most, of which later ones count more
+/// (variable state independent decaying sum: Moskewicz and others, Chaff, 2001; with a heap: Eén and Sörensson,
+/// MiniSat, 2003). Each gets the value that it had last (Pipatsrisawat and Darwiche, SAT 2007), at first 0. It says
+/// what is tried first; no answer depends on it.
 pub(crate) struct Order {
     /// Those that are to be decided, by what was counted for them. Of those that are assigned any may be among them.
     pub(crate) heap: Heap,
@@ -42,7 +41,7 @@ pub(crate) struct Order {
     pub(crate) conflicts: u64,
 }
 
-// By hand, and so one call wherever a value ends: a derived drop is expanded there, field by field, and makes proofs long.
+// By hand, so that each exit of a function has one call for it (docs/IDIOMS.md).
 impl Drop for Order {
     fn drop(self) {
         let Order {
@@ -77,9 +76,9 @@ impl Order {
         Ok(order)
     }
 
-    /// Those of the variables that a focus has are to be decided, and no others. Of two for which nothing was counted the one
-    /// with the greater number comes first: where they are those of gates in order, the one next to the outputs, by which adders
-    /// take a tenth to a fifth fewer lines than by the inputs.
+    /// Those of the variables that a focus has are to be decided, and no others. Of two for which nothing was counted
+    /// the one with the greater number comes first: where they are those of gates in order, the one next to the
+    /// outputs, by which adders take a tenth to a fifth fewer lines than by the inputs.
     pub(crate) fn turn_to(&mut self, variables: &[u64], focus: &Focus)
         requires order { IsOrder (length self.old.heap) self.old }
         requires known { All (λ v. v < length self.old.heap) variables.now }

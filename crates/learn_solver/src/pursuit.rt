@@ -11,12 +11,12 @@ use crate::verdict::Finding;
 use cnf_core::{Base, Charge, Stop};
 use std::alloc::Global;
 
-/// How many lines the question itself gets before its candidates. Those of adders of 64 bits need no more, and would take half
-/// as many again with candidates.
+/// How many lines the question itself gets before its candidates. Those of adders of 64 bits need no more, and would
+/// take half as many again with candidates.
 const FIRST: u64 = 100;
 
-/// How many lines a candidate gets. With 200 a resynthesized checksum of 32 bits takes 264,000 lines over all its questions, with
-/// 500 it takes 187,000, and with 1,000 no fewer.
+/// How many lines a candidate gets. With 200 a resynthesized checksum of 32 bits takes 264,000 lines over all its
+/// questions, with 500 it takes 187,000, and with 1,000 no fewer.
 const MOST: u64 = 500;
 
 impl<'a, B: Base> Solver<'a, B> {
@@ -29,7 +29,8 @@ impl<'a, B: Base> Solver<'a, B> {
         ledger: &mut L,
     ) -> Result<Option<Finding>, Stop>
         requires { CanGo self.old (L.charging ledger.old) search.old }
-        ensures gone { IfOk result (HasGone self.old self.new (L.charging ledger.old) (L.charging ledger.new) search.new) }
+        ensures gone { IfOk result
+            (HasGone self.old self.new (L.charging ledger.old) (L.charging ledger.new) search.new) }
         ensures stop { IfErr result (IsStopped self.old self.new (L.charging ledger.old) (L.charging ledger.new)) }
     {
         if let Some(soon) = self.pursue(alloc, search, FIRST, ledger)? {
@@ -58,7 +59,8 @@ impl<'a, B: Base> Solver<'a, B> {
         ledger: &mut L,
     ) -> Result<Option<Finding>, Stop>
         requires { CanGo self.old (L.charging ledger.old) search.old }
-        ensures gone { IfOk result (HasGone self.old self.new (L.charging ledger.old) (L.charging ledger.new) search.new) }
+        ensures gone { IfOk result
+            (HasGone self.old self.new (L.charging ledger.old) (L.charging ledger.new) search.new) }
         ensures stop { IfErr result (IsStopped self.old self.new (L.charging ledger.old) (L.charging ledger.new)) }
     {
         for candidate in candidates.iter() {
@@ -80,7 +82,8 @@ impl<'a, B: Base> Solver<'a, B> {
         ledger: &mut L,
     ) -> Result<Option<Finding>, Stop>
         requires { CanGo self.old (L.charging ledger.old) search.old }
-        ensures gone { IfOk result (HasGone self.old self.new (L.charging ledger.old) (L.charging ledger.new) search.new) }
+        ensures gone { IfOk result
+            (HasGone self.old self.new (L.charging ledger.old) (L.charging ledger.new) search.new) }
         ensures stop { IfErr result (IsStopped self.old self.new (L.charging ledger.old) (L.charging ledger.new)) }
     {
         let end = self.count().saturating_add(most);

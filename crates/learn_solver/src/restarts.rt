@@ -1,12 +1,13 @@
 //! When a search begins anew.
 
-/// How many lines are learned at least from one restart to the next. With 50 the parity of 64 bits took a third fewer lines
-/// than without restarts, the majority of 15 a quarter fewer, and adders of 64 bits up to a twelfth more (bench/solve.sh).
+/// How many lines are learned at least from one restart to the next. With 50 the parity of 64 bits took a third fewer
+/// lines than without restarts, the majority of 15 a quarter fewer, and adders of 64 bits up to a twelfth more
+/// (bench/solve.sh).
 const UNIT: u64 = 50;
 
 /// When a search goes back to level 0, with what it learned: after `UNIT` lines times 1, 1, 2, 1, 1, 2, 4, 1, .. (Luby,
-/// Sinclair and Zuckerman, 1993), by Knuth's reluctant doubling (The Art of Computer Programming, volume 4B, 7.2.2.2). It
-/// says when, and no answer depends on it.
+/// Sinclair and Zuckerman, 1993), by Knuth's reluctant doubling (The Art of Computer Programming, volume 4B, 7.2.2.2).
+/// It says when, and no answer depends on it.
 #[derive(Drop)]
 pub(crate) struct Restarts {
     left: u64,

@@ -31,7 +31,7 @@ pub(crate) struct Search {
     pub(crate) tools: Tools,
 }
 
-// By hand, and so one call wherever a value ends: a derived drop is expanded there, field by field, and makes proofs long.
+// By hand, so that each exit of a function has one call for it (docs/IDIOMS.md).
 impl Drop for Search {
     fn drop(self) {
         let Search {
@@ -53,7 +53,7 @@ pub(crate) struct Tools {
     pub(crate) focus: Focus,
 }
 
-// By hand, and so one call wherever a value ends: a derived drop is expanded there, field by field, and makes proofs long.
+// By hand, so that each exit of a function has one call for it (docs/IDIOMS.md).
 impl Drop for Tools {
     fn drop(self) {
         let Tools {
@@ -137,8 +137,8 @@ impl Tools {
         self.order.turn_to(&self.occurring, &self.focus);
     }
 
-    // The next literal to decide before all others: one of those that lead, or of the candidate that the search is after, if it
-    // is after one, both of which are to be true.
+    // The next literal to decide before all others: one of those that lead, or of the candidate that the search is
+    // after, if it is after one, both of which are to be true.
     fn wanted(&self, trail: &Trail) -> Option<SatLit>
         requires { IsOrder trail.now.variables self.now.order }
         ensures { IfSome result (IsFree trail.now) }
@@ -165,8 +165,8 @@ impl Search {
         attach_all(&mut self.watches, &mut self.trail)
     }
 
-    /// Propagates. None: every clause has a true literal or two unassigned ones. Some: a clause all of whose literals are
-    /// false.
+    /// Propagates. None: every clause has a true literal or two unassigned ones. Some: a clause all of whose literals
+    /// are false.
     pub(crate) fn propagate(&mut self) -> Option<u64>
         requires { IsFitting self.old.watches self.old.trail }
         ensures turned { HasTurned self.old self.new }
@@ -180,9 +180,9 @@ impl Search {
         conflict
     }
 
-    /// Goes back to a level with a learned clause, of which one literal alone isn't false there, and to
-    /// level 0 where it is time to begin anew. A restart comes after a learned line alone, each of which costs a unit, so
-    /// there are no more of them than units.
+    /// Goes back to a level with a learned clause, of which one literal alone isn't false there, and to level 0 where
+    /// it is time to begin anew. A restart comes after a learned line alone, each of which costs a unit, so there are
+    /// no more of them than units.
     pub(crate) fn go_back(&mut self, clause: &[SatLit], level: u64) -> Result<(), AllocError>
         requires { CanReturn self.old clause.now level }
         ensures { OnOk result (HasReturned self.old self.new clause.now) }
@@ -229,8 +229,8 @@ impl Search {
         self.begin_anew();
     }
 
-    /// Whether the search for a candidate is over: one of its literals is false, so that both can't be true where it is now, or
-    /// all is assigned from which they are computed.
+    /// Whether the search for a candidate is over: one of its literals is false, so that both can't be true where it is
+    /// now, or all is assigned from which they are computed.
     pub(crate) fn is_settled(&self) -> bool {
         match self.tools.focus.candidate {
             Some(candidate) => self.tools.focus.exhausted | candidate.is_closed(&self.trail),

@@ -22,8 +22,8 @@ use items::Items;
 use std::alloc::{AllocError, Global};
 use std::marker::Model;
 
-/// A formula, some of its clauses, and lines that were derived from it: lemmas, then learned ones. The solver looks for a
-/// model of these clauses, and keeps the reference to the formula.
+/// A formula, some of its clauses, and lines that were derived from it: lemmas, then learned ones. The solver looks for
+/// a model of these clauses, and keeps the reference to the formula.
 #[derive(Drop)]
 pub struct Solver<'a, B: Base> {
     base: &'a B,
@@ -53,7 +53,11 @@ impl<'a, B: Base> Solver<'a, B> {
         requires ids { All (λ id. id < length (B.formula base.now).clauses) ids.now }
         requires derived { AreDerived (B.formula base.now) lemmas.now }
         requires filled { list_any is_empty (clauses_of lemmas.now) ≡ false }
-        ensures { IfOk result (λ solver. solver ≡ record { formula = B.formula base.now; ids = ids.now; lines = lemmas.now }) }
+        ensures { IfOk result (λ solver. solver ≡ record {
+          formula = B.formula base.now;
+          ids = ids.now;
+          lines = lemmas.now;
+        }) }
     {
         let ids = Vec::from_slice(alloc, ids)?;
         let lines = copied(alloc, lemmas)?;
@@ -163,7 +167,8 @@ impl<'a, B: Base> Solver<'a, B> {
             (literals search.old.trail.entries) }
         requires walked { search.old.trail.walked ≡ length search.old.trail.entries }
         ensures { IfOk result (λ answer. MatchOption answer
-            (IsDecided self.now search.old.trail search.new.trail search.new.watches search.new.tools) (IsFinding self.now)) }
+            (IsDecided self.now search.old.trail search.new.trail search.new.watches search.new.tools)
+            (IsFinding self.now)) }
     {
         let Some(literal) = search.tools.decision(&search.trail) else {
             let variables = self.base.variables();
@@ -210,7 +215,8 @@ impl<'a, B: Base> Solver<'a, B> {
         ledger: &mut L,
     ) -> Result<Option<Finding>, Stop>
         requires { CanGo self.old (L.charging ledger.old) search.old }
-        ensures gone { IfOk result (HasGone self.old self.new (L.charging ledger.old) (L.charging ledger.new) search.new) }
+        ensures gone { IfOk result
+            (HasGone self.old self.new (L.charging ledger.old) (L.charging ledger.new) search.new) }
         ensures less { IfOk result (λ answer. IfNone answer
             (remaining (L.charging ledger.new) search.new.trail < remaining (L.charging ledger.old) search.old.trail)) }
         ensures stop { IfErr result (IsStopped self.old self.new (L.charging ledger.old) (L.charging ledger.new)) }
@@ -281,10 +287,10 @@ impl<'a, B: Base> Solver<'a, B> {
     }
 }
 
-/// Looks for a model of the solver's clauses. The lines of the ledger's open entry are the solver's lemmas, and each learned
-/// line is charged to it, the closing empty one too. Spent comes at a conflict that is met with the budget spent: its line is
-/// the solver's last one, and the ledger's refused one. Running out of memory may leave both anyhow. Since each line has all
-/// the literals of no clause before it, one call learns at most 3^n lines over n variables.
+/// Looks for a model of the solver's clauses. The lines of the ledger's open entry are the solver's lemmas, and each
+/// learned line is charged to it, the closing empty one too. Spent comes at a conflict that is met with the budget
+/// spent: its line is the solver's last one, and the ledger's refused one. Running out of memory may leave both anyhow.
+/// Since each line has all the literals of no clause before it, one call learns at most 3^n lines over n variables.
 pub fn solve<B: Base, L: Charge>(
     alloc: Global,
     solver: &mut Solver<'_, B>,
@@ -293,7 +299,8 @@ pub fn solve<B: Base, L: Charge>(
     requires unrefuted { list_any is_empty (clauses_of solver.old.lines) ≡ false }
     requires asking { IsAsking (L.charging ledger.old) solver.old.lines }
     ensures verdict { IfOk result (IsVerdict solver.new) }
-    ensures lines { IfOk result (λ _. IsExtended solver.old solver.new (L.charging ledger.old) (L.charging ledger.new)) }
+    ensures lines { IfOk result
+        (λ _. IsExtended solver.old solver.new (L.charging ledger.old) (L.charging ledger.new)) }
     ensures not_spent { IfOk result (λ _. IsAsking (L.charging ledger.new) solver.new.lines) }
     ensures stop { IfErr result (IsStopped solver.old solver.new (L.charging ledger.old) (L.charging ledger.new)) }
     ensures bounded { IfOk result
@@ -306,9 +313,9 @@ pub fn solve<B: Base, L: Charge>(
     Ok(verdict)
 }
 
-/// The same, where parts of the question are searched first (explicit learning: Lu, Wang, Cheng, Moon and Hanna, DATE 2003):
-/// for each candidate in order, whether its two literals can be true together. What is learned from that serves all that
-/// comes after. No answer depends on the candidates. A refutation is the solver's lines (`Solver::into_log`).
+/// The same, where parts of the question are searched first (explicit learning: Lu, Wang, Cheng, Moon and Hanna, DATE
+/// 2003): for each candidate in order, whether its two literals can be true together. What is learned from that serves
+/// all that comes after. No answer depends on the candidates. A refutation is the solver's lines (`Solver::into_log`).
 pub fn solve_guided<B: Base, G: QuestionGuide, L: Charge>(
     alloc: Global,
     solver: &mut Solver<'_, B>,
@@ -318,7 +325,8 @@ pub fn solve_guided<B: Base, G: QuestionGuide, L: Charge>(
     requires unrefuted { list_any is_empty (clauses_of solver.old.lines) ≡ false }
     requires asking { IsAsking (L.charging ledger.old) solver.old.lines }
     ensures found { IfOk result (IsFinding solver.new) }
-    ensures lines { IfOk result (λ _. IsExtended solver.old solver.new (L.charging ledger.old) (L.charging ledger.new)) }
+    ensures lines { IfOk result
+        (λ _. IsExtended solver.old solver.new (L.charging ledger.old) (L.charging ledger.new)) }
     ensures not_spent { IfOk result (λ _. IsAsking (L.charging ledger.new) solver.new.lines) }
     ensures stop { IfErr result (IsStopped solver.old solver.new (L.charging ledger.old) (L.charging ledger.new)) }
     ensures bounded { IfOk result

@@ -14,8 +14,7 @@ pub(crate) struct ChoicePoint {
     pub(crate) candidates: Vec<usize>,
 }
 
-// By hand, and so one call wherever a value ends: a derived drop is expanded there, field by field, and makes proofs
-// long.
+// By hand, so that each exit of a function has one call for it (docs/IDIOMS.md).
 impl Drop for ChoicePoint {
     fn drop(self) {
         let ChoicePoint {

@@ -63,8 +63,7 @@ pub(crate) struct Circuit<'a> {
     pub(crate) is_faint: bool,
 }
 
-// By hand, and so one call wherever a value ends: a derived drop is expanded there, field by field, and makes proofs
-// long.
+// By hand, so that each exit of a function has one call for it (docs/IDIOMS.md).
 impl Drop for Circuit<'_> {
     fn drop(self) {
         let Circuit {
@@ -80,8 +79,8 @@ impl Drop for Circuit<'_> {
 pub(crate) type Blocks = Items<Items<Lanes>>;
 
 impl<'a> Circuit<'a> {
-    /// Counts on a sample's vectors. Where these leave some inputs faint, also blocks of vectors on which gates have
-    /// rare values.
+    /// Counts the circuit on a sample's vectors. The blocks are of vectors on which gates have rare values: none,
+    /// unless the sample leaves inputs faint.
     pub(crate) fn new(
         alloc: Global,
         simulator: FlipSim<'a>,

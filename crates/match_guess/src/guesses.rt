@@ -4,7 +4,8 @@ ghost use Rattle.std.specs.Prelude.{IfOk, IfSome};
 ghost use Rattle.circuits.specs.Matches.{HavePorts};
 ghost use Rattle.match_guess.specs.Trials.{AreTrials};
 
-use crate::guesser::{Effort, Guesser};
+use crate::effort::Effort;
+use crate::guesser::Guesser;
 use crate::likely::{Likely, copied, in_place, rated};
 use crate::trials::Trials;
 use account_core::PairableGraphs;
@@ -37,8 +38,7 @@ pub struct Guesses<'a> {
     guesser: Option<Guesser<'a>>,
 }
 
-// By hand, and so one call wherever a value ends: a derived drop is expanded there, field by field, and makes proofs
-// long.
+// By hand, so that each exit of a function has one call for it (docs/IDIOMS.md).
 impl Drop for Guesses<'_> {
     fn drop(self) {
         let Guesses {
@@ -53,10 +53,6 @@ impl Drop for Guesses<'_> {
 
 impl<'a> Guesses<'a> {
     /// The candidates are tried on vectors; nothing is guessed yet.
-    ///
-    /// # Errors
-    ///
-    /// Only when out of memory.
     pub fn new(
         alloc: Global,
         graphs: &PairableGraphs<'a>,
@@ -112,10 +108,6 @@ impl<'a> Guesses<'a> {
 
     /// Keeps a vector of the first circuit's inputs on which a matching failed, so that matchings that are guessed
     /// agree on it.
-    ///
-    /// # Errors
-    ///
-    /// Only when out of memory.
     pub fn keep(&mut self, vector: &Bits) -> Result<(), AllocError> {
         match &mut self.guesser {
             Some(guesser) => guesser.keep(vector),
@@ -126,10 +118,6 @@ impl<'a> Guesses<'a> {
 
     /// The next matching, whose outputs agree on all vectors that were tried. None where there are no more candidates,
     /// and none is guessed within this effort, which bounds what all guesses take together.
-    ///
-    /// # Errors
-    ///
-    /// Only when out of memory.
     pub fn next(
         &mut self,
         alloc: Global,

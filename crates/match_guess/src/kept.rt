@@ -1,7 +1,7 @@
 //! Vectors on which guessed matchings failed.
 
 use bit_list::Bits;
-use port_cells::{Lanes, replicated, with_bit};
+use port_cells::{Lanes, VECTORS, replicated, with_bit};
 use std::alloc::{AllocError, Global};
 
 /// Vectors of the first circuit's inputs on which matchings failed, the last 256 of them: one run tries a matching on
@@ -33,7 +33,7 @@ impl Kept {
         for (input, lanes) in self.inputs.iter_mut().enumerate() {
             *lanes = with_bit(*lanes, self.next, bit_at(vector, input));
         }
-        self.next = self.next.saturating_add(1) % 256;
+        self.next = self.next.saturating_add(1) % VECTORS;
     }
 }
 

@@ -1,9 +1,10 @@
-//! A matching that may be a match, without evidence.
+//! A matching that may be a match, without evidence. An error comes only when out of memory.
 #![tactic(auto)]
 
 mod choice;
 mod choice_point;
 mod circuit;
+mod effort;
 mod guesser;
 mod guesses;
 mod kept;
@@ -11,10 +12,12 @@ mod leaf;
 mod likely;
 mod matching;
 mod patience;
+mod refiner;
 mod signs;
 mod trials;
 mod vectors;
 
-pub use guesser::{Effort, Guesser};
+pub use effort::Effort;
+pub use guesser::Guesser;
 pub use guesses::{Guesses, Hints};
 pub use trials::{Suspect, Trials};

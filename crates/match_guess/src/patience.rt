@@ -1,5 +1,3 @@
-//! How many more guesses may fail.
-
 /// How many guesses that fail at once count as one. With half as many the adder and subtractor of 24 bits takes a
 /// second longer; with twice as many none of 29 pairs changes.
 const SHARE: u32 = 8;

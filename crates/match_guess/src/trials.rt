@@ -30,8 +30,7 @@ pub struct Trials {
     pub next: u32,
 }
 
-// By hand, and so one call wherever a value ends: a derived drop is expanded there, field by field, and makes proofs
-// long.
+// By hand, so that each exit of a function has one call for it (docs/IDIOMS.md).
 impl Drop for Trials {
     fn drop(self) {
         let Trials {
@@ -81,8 +80,8 @@ impl Trials {
         Ok(())
     }
 
-    /// An output's pair among those that are assigned, and one of the vectors, on which the partner is said to be wrong
-    /// whatever the inputs have that aren't paired.
+    /// The pair of an output among the assigned ones, and one of the vectors, on which the partner has the wrong value
+    /// whatever the unpaired inputs have.
     pub fn suspect(
         &self,
         alloc: Global,
@@ -105,7 +104,7 @@ impl Trials {
         Ok(None)
     }
 
-    // One on the 512 vectors of eight words.
+    // The same for the 512 vectors of eight words.
     fn suspect_in(
         &self,
         alloc: Global,
@@ -149,11 +148,7 @@ impl Trials {
 }
 
 fn have_output(pairs: &[Pair]) -> bool {
-    pairs.iter().any(|pair| is_of_output(*pair))
-}
-
-fn is_of_output(pair: Pair) -> bool {
-    pair.kind == PortKind::Output
+    pairs.iter().any(|pair| pair.kind == PortKind::Output)
 }
 
 // The first vector of eight words on which the partner of an output is known and wrong: its word and its bit.

@@ -1,4 +1,4 @@
--- Calls that have claims decided and hold bans while pairs are held and deleted.
+-- Calls that have claims decided and keep bans while pairs are assigned and deleted.
 use Rattle.std.proofs.Common.{◌≡◌, ◌≤◌, ℕ, List, [], ◌∷◌, ◌++◌, map, Option, None, Some, Result, Ok, Err, refl, sym, ap, subst, ◌∙◌, inl, inr, arith}
 use Rattle.std.specs.Prelude.{Contains, IfOk, IfSome}
 use Rattle.std.proofs.lemmas.List.Elements.{Contains-append_left}
@@ -39,12 +39,12 @@ use Rattle.match_search.specs.declared.ahead.Ahead.{Ahead}
 use Rattle.match_search.specs.declared.ahead.Ahead.TheVariants as ahead
 use Rattle.match_search.specs.States.{AreInputsAndOutput, AreOfBothKinds, AreSameLoans, Deletes, IsAhead, IsShownTrail, Lent}
 
--- the trail after pairs were held and deleted in view of the bans as they were lent
+-- the trail after pairs were assigned and deleted in view of the bans as they were lent
 pub trail_beside : (graphs : Graphs) (bans lent : List Ban) (before after : Domained) → lent ≡ bans → IsTrail graphs bans before → after.inputs ≡ before.inputs → after.outputs ≡ before.outputs → AreJustified after.inputs after.outputs lent after.entries → IsTrail graphs bans after
 trail_beside graphs bans lent before after same is inputs outputs are =
     trail_on graphs bans before after is inputs outputs (subst (λ (l : List Ban). AreJustified after.inputs after.outputs l after.entries) same are)
 
--- after pairs were held and deleted in view of the bans as they were lent
+-- after pairs were assigned and deleted in view of the bans as they were lent
 pub shown_beside : (graphs : Graphs) (known : Known) (bans lent : List Ban) (before after : Domained) → lent ≡ bans → IsShownTrail graphs known bans before → after.inputs ≡ before.inputs → after.outputs ≡ before.outputs → AreJustified after.inputs after.outputs lent after.entries → StayGrounded before.entries after.entries → IsShownTrail graphs known bans after
 shown_beside graphs known bans lent before after same is inputs outputs are stay = record {
   trail = trail_beside graphs bans lent before after same is.trail inputs outputs are;
@@ -69,7 +69,7 @@ held_learned graphs old new a b first second third es held shown more = record {
   adds = adds_then first second third held.adds (record { added = more.added; more = more.more });
 }
 
--- one more way is deleted, by a mismatch with a held pair
+-- one more way is deleted, by a mismatch with an assigned pair
 pub shown_one : (graphs : Graphs) (known : Known) (bans : List Ban) (before after : Domained) (pair way : Pair) (fails holds : ℕ) → after ≡ record before { entries = before.entries ++ deleted way (Mismatch pair fails holds) ∷ [] } → IsShownTrail graphs known bans before → Contains (held_in before.entries) pair → IsGrounded graphs (map decided_by known.facts) way (Deleted (Mismatch pair fails holds)) → IsShownTrail graphs known bans after
 shown_one graphs known bans before after pair way fails holds after_is is there shown =
     let e : Entry = deleted way (Mismatch pair fails holds) in
@@ -123,7 +123,7 @@ shown_of graphs facts pair way pairs (Ok (Some unlike)) order is = λ bans.
     subst (λ (ps : List Pair). IsValidBan graphs (given_of facts bans) (record { pairs = ps; step = step.Mismatch unlike.fails unlike.holds })) (sym order) (is.valid bans)
 shown_of graphs facts pair way pairs (Err stop) order is = is
 
--- Bans were held, while pairs were held and deleted as it follows.
+-- Bans were kept, while pairs were assigned and deleted as it follows.
 pub record IsUnderWay (graphs : Graphs) (old now : Lent) (domains : Domained) : Type 0 where
   pub same : AreSameLoans old now
   pub held : HasHeld graphs old.known now.known old.ledger now.ledger old.bans now.bans
@@ -135,7 +135,7 @@ pub record IsSettling (graphs : Graphs) (old now : Lent) (start domains : Domain
   pub way : IsUnderWay graphs old now domains
   pub less : left domains ≤ left start
 
--- Ways are deleted one after the other, beside a held pair.
+-- Ways are deleted one after the other, beside an assigned pair.
 pub record IsDeleting (graphs : Graphs) (old now : Lent) (pair : Pair) (start domains : Domained) : Type 0 where
   pub way : IsUnderWay graphs old now domains
   pub deletes : Deletes pair start domains
@@ -143,7 +143,7 @@ pub record IsDeleting (graphs : Graphs) (old now : Lent) (pair : Pair) (start do
 step_later : (graphs : Graphs) (lent : Lent) (start before after : Domained) (step : Ahead) → left before ≤ left start → IsAhead graphs lent before after step → IsAhead graphs lent start after step
 step_later graphs lent start before after ahead.Deeper less is = omega (arith, less, is)
 step_later graphs lent start before after (ahead.Match matching logs) less is = is
-step_later graphs lent start before after (ahead.Impasse impasse) less is = record { impasse_is = is.impasse_is; less = omega (arith, less, is.less) }
+step_later graphs lent start before after (ahead.Conflict conflict) less is = record { conflict_is = is.conflict_is; less = omega (arith, less, is.less) }
 
 -- a step after others after which no more is left
 pub ahead_later : (graphs : Graphs) (lent : Lent) (start before after : Domained) (result : Result Ahead Stop) → left before ≤ left start → IfOk result (IsAhead graphs lent before after) → IfOk result (IsAhead graphs lent start after)

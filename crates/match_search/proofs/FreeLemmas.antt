@@ -1,4 +1,4 @@
--- Ports of which a pair is held.
+-- Ports of which a pair is assigned.
 use Rattle.std.proofs.Common.{◌<◌, ℕ, List, Option, None, Some, arith}
 use Rattle.std.specs.Prelude.{IfNone}
 use Rattle.circuits.specs.declared.port.Pair.{Pair}
@@ -12,10 +12,10 @@ use Rattle.ban_book.proofs.BlockListLemmas.{any_of_contained}
 use Rattle.pair_domains.specs.declared.entry.Entry.{Entry}
 use Rattle.pair_domains.specs.Trails.{IsHeldAt, held_in}
 use Rattle.pair_domains.proofs.EntryLemmas.{of_at}
-use Rattle.pair_search.specs.Conflicts.{FitPorts}
+use Rattle.pair_search.specs.ConflictSets.{FitPorts}
 use Rattle.pair_search.specs.declared.port.Port.{Port}
 
--- a port of a held pair is taken
+-- a port of an assigned pair is taken
 pub taken_of : (es : List Entry) (side : Side) (kind : PortKind) (port : ℕ) (p : Pair) → IsHeldAt es side kind port p → IsTaken side (held_in es) kind port
 taken_of es side kind port p is =
     let at = of_at side kind port p is.at in

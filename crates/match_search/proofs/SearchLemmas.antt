@@ -72,7 +72,7 @@ searches_last served searches = record {
   found = searches.found;
 }
 
--- Bans were held and let go, again and again.
+-- Bans were kept and let go, again and again.
 pub record IsSearching (graphs : Graphs) (old now : Lent) : Type 0 where
   pub same : AreSameLoans old now
   pub served : HasServed old.known now.known old.ledger now.ledger

@@ -34,23 +34,23 @@ pub never_if : {X : Type 0} (P : X → Type 0) (result : Result X Stop) (stop : 
 never_if P (Ok x) stop is = absurd is
 never_if P (Err e) stop is = tt
 
--- one more call that holds bans, after others that were answered
+-- one more call that keeps bans, after others that were answered
 pub held_on : {X : Type 0} {graphs : Graphs} {old mid new : Known} {a b c : Ledgered} {first second third : List Ban} {x : X} → HasHeld graphs old mid a b first second → HoldsBans graphs mid new b c second third (Ok x) → HasHeld graphs old new a c first third
 held_on held holds = held_then _ _ _ _ _ _ _ _ _ _ held (held_one _ _ _ _ _ _ _ _ holds)
 
--- and one that holds none
+-- and one that keeps none
 pub held_asked : {X : Type 0} {graphs : Graphs} {old mid new : Known} {a b c : Ledgered} {first second : List Ban} {x : X} → HasHeld graphs old mid a b first second → Serves mid new b c (Ok x) → HasHeld graphs old new a c first second
 held_asked held serves = held_then _ _ _ _ _ _ _ _ _ _ held (held_kept _ _ _ _ _ _ _ held.valid (served_one _ _ _ _ _ serves) refl)
 
 -- what is lent may change, and the loans stay the same
 pub same_loans : {s : Lent} {known : Known} {ledger : Ledgered} {bans : List Ban} {vectors : Trials} → AreSameLoans s (record s { known = known; ledger = ledger; bans = bans; vectors = vectors })
-same_loans = record { oracle = refl; seen = refl; aids = refl; book = refl; ledger = refl }
+same_loans = record { oracle = refl; seen = refl; heuristics = refl; book = refl; ledger = refl }
 
 pub same_then : {old mid new : Lent} → AreSameLoans old mid → AreSameLoans mid new → AreSameLoans old new
 same_then one other = record {
   oracle = other.oracle ∙ one.oracle;
   seen = other.seen ∙ one.seen;
-  aids = other.aids ∙ one.aids;
+  heuristics = other.heuristics ∙ one.heuristics;
   book = other.book ∙ one.book;
   ledger = other.ledger ∙ one.ledger;
 }
@@ -61,7 +61,7 @@ asker_of s = record { known = s.known; ledger = s.ledger; oracle_name = s.oracle
 
 -- the asker was lent to a call
 pub same_asker : {s : Lent} {known : Known} {ledger : Ledgered} {oracle seen book : GName} {bans : List Ban} {vectors : Trials} → AreSame (asker_of s) (record { known = known; ledger = ledger; oracle_name = oracle; seen_name = seen; ledger_name = book }) → AreSameLoans s (record s { known = known; ledger = ledger; oracle_name = oracle; seen_name = seen; ledger_name = book; bans = bans; vectors = vectors })
-same_asker same = record { oracle = same.oracle; seen = same.seen; aids = refl; book = refl; ledger = same.ledger }
+same_asker same = record { oracle = same.oracle; seen = same.seen; heuristics = refl; book = refl; ledger = same.ledger }
 
 -- all pairs are open
 pub may_anew : {graphs : Graphs} {s : Lent} {d : Domained} → MayGoOn graphs s → AreTrials graphs.first s.vectors → IsTrail graphs s.bans d → d.entries ≡ [] → MayStep graphs s d
@@ -98,7 +98,7 @@ way_more way steps = record {
   trials = steps.trials;
 }
 
--- bans were held, and no pair
+-- bans were kept, and no pair assigned
 pub way_bans : {X : Type 0} {graphs : Graphs} {old mid new : Lent} {d : Domained} {x : X} → IsUnderWay graphs old mid d → GoesOn graphs mid new (Ok x) → IsUnderWay graphs old new d
 way_bans {X} {graphs} way goes = record {
   same = same_then way.same goes.same;
@@ -116,7 +116,7 @@ way_tried way same holds trials = record {
   trials = trials;
 }
 
--- what follows was held and deleted, in view of the bans as they were lent
+-- what follows was assigned and deleted, in view of the bans as they were lent
 pub way_follows : {graphs : Graphs} {old now : Lent} {lent : List Ban} {d e : Domained} → lent ≡ now.bans → IsUnderWay graphs old now d → Propagates lent d e → IsUnderWay graphs old now e
 way_follows same way follows = record {
   same = way.same;
@@ -172,7 +172,7 @@ steps_cut is way same holds = record {
 pub steps_err : {X Y : Type 0} {graphs : Graphs} {old mid new : Lent} {c d e : Domained} {result : Result Y Stop} {stop : Stop} → IsErrAnd result (λ e. e ≡ stop) → IsUnderWay graphs old mid c → Steps {X = X} graphs mid new d (Err stop) → Steps graphs old new e result
 steps_err is way steps = steps_cut is way steps.same steps.holds
 
--- and a call that holds and deletes no pair
+-- and a call that assigns and deletes no pair
 pub steps_fail : {X Y : Type 0} {graphs : Graphs} {old mid new : Lent} {c e : Domained} {result : Result Y Stop} {stop : Stop} → IsErrAnd result (λ e. e ≡ stop) → IsUnderWay graphs old mid c → GoesOn {X = X} graphs mid new (Err stop) → Steps graphs old new e result
 steps_fail is way goes = steps_cut is way goes.same goes.holds
 
@@ -228,7 +228,7 @@ goes_told may same serves = goes_by same (holds_no_more _ _ _ _ _ _ _ may.valid 
 pub goes_asked : {X : Type 0} {graphs : Graphs} {old : Lent} {known : Known} {ledger : Ledgered} {result : Result X Stop} → MayGoOn graphs old → Serves old.known known old.ledger ledger result → GoesOn graphs old (record old { known = known; ledger = ledger }) result
 goes_asked may serves = goes_told may (record { oracle = refl; seen = refl; ledger = refl }) serves
 
--- Calls that hold bans and no pair, one after the other.
+-- Calls that keep bans and assign no pair, one after the other.
 pub record HasGoneOn (graphs : Graphs) (old now : Lent) : Type 0 where
   pub same : AreSameLoans old now
   pub held : HasHeld graphs old.known now.known old.ledger now.ledger old.bans now.bans

@@ -3,8 +3,8 @@ pub mod Founds
 pub use Rattle.account_core.specs.Held
 pub use Rattle.ban_book.specs.Ways
 pub use Rattle.pair_search.specs.Progress
-pub use Rattle.pair_search.specs.Impasses
 pub use Rattle.pair_search.specs.Conflicts
+pub use Rattle.pair_search.specs.ConflictSets
 pub use Rattle.pair_search.specs.Grounded
 pub use Rattle.match_guess.specs.Trials
 pub use Rattle.account_core.specs.Facts

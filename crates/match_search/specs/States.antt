@@ -17,8 +17,8 @@ use Rattle.fact_bans.specs.Serving.{HoldsBans, MayHold}
 use Rattle.oracle_core.specs.Oracles.{Known, Serves, Suits}
 use Rattle.match_guess.specs.declared.trials.Trials.{Trials}
 use Rattle.match_guess.specs.Trials.{AreTrials}
-use Rattle.pair_search.specs.declared.impasse.Impasse.{Impasse}
-use Rattle.pair_search.specs.Impasses.{IsImpasse}
+use Rattle.pair_search.specs.declared.conflict.Conflict.{Conflict}
+use Rattle.pair_search.specs.Conflicts.{IsConflict}
 use Rattle.pair_search.specs.Progress.{left}
 use Rattle.class_refine.specs.Stable.{AreOutputsDecided}
 use Rattle.match_search.specs.Founds.{IsDecidedFound, IsFound}
@@ -39,7 +39,7 @@ pub record Lent : Type 0 where
   pub vectors : Trials
   pub oracle_name : GName
   pub seen_name : GName
-  pub aids_name : GName
+  pub heuristics_name : GName
   pub book_name : GName
   pub ledger_name : GName
 
@@ -48,10 +48,10 @@ lent known s = record {
   known = known s.asker.oracle.now;
   ledger = s.asker.ledger.now;
   bans = s.book.now;
-  vectors = s.aids.now.trials;
+  vectors = s.heuristics.now.trials;
   oracle_name = s.asker.oracle.ghost_name;
   seen_name = s.asker.seen.ghost_name;
-  aids_name = s.aids.ghost_name;
+  heuristics_name = s.heuristics.ghost_name;
   book_name = s.book.ghost_name;
   ledger_name = s.asker.ledger.ghost_name;
 }
@@ -60,7 +60,7 @@ lent known s = record {
 pub record AreSameLoans (old new : Lent) : Type 0 where
   pub oracle : new.oracle_name ≡ old.oracle_name
   pub seen : new.seen_name ≡ old.seen_name
-  pub aids : new.aids_name ≡ old.aids_name
+  pub heuristics : new.heuristics_name ≡ old.heuristics_name
   pub book : new.book_name ≡ old.book_name
   pub ledger : new.ledger_name ≡ old.ledger_name
 
@@ -153,8 +153,8 @@ pub record AreInputsAndOutput (one other third : Pair) (pairs : SwapPairs) : Typ
   pub are : (pairs ≡ record { one = one; other = other; output = third }) ⊎ (pairs ≡ record { one = other; other = third; output = one })
 
 -- It doesn't go on, and no more is left than before.
-pub record IsStuck (bans : List Ban) (before after : Domained) (impasse : Impasse) : Type 0 where
-  pub impasse_is : IsImpasse bans after impasse
+pub record IsStuck (bans : List Ban) (before after : Domained) (conflict : Conflict) : Type 0 where
+  pub conflict_is : IsConflict bans after conflict
   pub less : left after ≤ left before
 
 -- a step ahead: less is left, a match was found, with all claims of one input decided, or it doesn't go on
@@ -162,7 +162,7 @@ abbrev pub IsAhead : Graphs → Lent → Domained → Domained → Ahead → Typ
 IsAhead graphs lent before after ahead.Deeper = left after < left before
 IsAhead graphs lent before after (ahead.Match matching logs) =
     IsShownMatch graphs matching logs × AreOutputsDecided graphs (map decided_by lent.known.facts)
-IsAhead graphs lent before after (ahead.Impasse impasse) = IsStuck lent.bans before after impasse
+IsAhead graphs lent before after (ahead.Conflict conflict) = IsStuck lent.bans before after conflict
 
 -- a whole matching is a match, or has all pairs of a ban
 abbrev pub IsSettled : Graphs → List Ban → List Pair → Settled → Type 0

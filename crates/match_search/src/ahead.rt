@@ -1,9 +1,7 @@
-//! What a step ahead comes to.
-
 use cnf_core::Log;
 use items::Items;
 use net_core::Matching;
-use pair_search::Impasse;
+use pair_search::Conflict;
 
 /// What a step ahead comes to.
 #[derive(Drop)]
@@ -12,8 +10,8 @@ pub(crate) enum Ahead {
     Deeper,
     /// The pairs that are assigned, one of each port, are a match.
     Match(Matching, Items<Log>),
-    /// The search can't go on: a conflict.
-    Impasse(Impasse),
+    /// The search can't go on.
+    Conflict(Conflict),
 }
 
 /// What comparing the outputs under a whole matching comes to.

@@ -3,7 +3,7 @@
 ghost use Rattle.std.specs.Prelude.{◌<◌, Contains, IfSome};
 ghost use Rattle.account_core.specs.Ports.{IsKnown};
 ghost use Rattle.pair_domains.specs.Trails.{held_in};
-ghost use Rattle.pair_search.specs.Conflicts.{FitPorts};
+ghost use Rattle.pair_search.specs.ConflictSets.{FitPorts};
 ghost use Rattle.match_search.specs.States.{GoesOn, MayGoOn, MayStep, Steps, lent, AreOfBothKinds};
 
 use crate::session::Session;
@@ -43,7 +43,7 @@ pub(crate) fn ask_output<O: Oracle>(
 
 /// Makes the bans that decided claims show of an assigned pair: by itself, or with another assigned one. Such bans have
 /// one pair or two, so that what refers to them needs few pairs too. Answers whether there are any.
-pub(crate) fn ask_held<O: Oracle>(
+pub(crate) fn ask_assigned<O: Oracle>(
     graphs: &PairableGraphs<'_>,
     session: &mut Session<'_, O>,
     domains: &Domains,
@@ -98,7 +98,7 @@ fn ask_two<O: Oracle>(
     mismatch(graphs, &mut session.asker, input, output, session.book)
 }
 
-/// An input's pair and an output's, of two that are of different kinds.
+/// Of two pairs of different kinds the input's, and the output's. None where they are of one kind.
 pub(crate) fn input_and_output(pair: Pair, other: Pair) -> Option<(Pair, Pair)>
     ensures { IfSome result (AreOfBothKinds pair other) }
 {

@@ -22,7 +22,7 @@ use cnf_core::{Log, Stop};
 use items::Items;
 use net_core::Matching;
 use oracle_core::Oracle;
-use pair_search::{Impasse, branch, start_over, turn_back};
+use pair_search::{Conflict, branch, start_over, turn_back};
 use watch_core::Stage;
 
 /// Searches from nothing, with the bans that are kept, for this many rounds, or until the bans take all their room, and
@@ -42,7 +42,7 @@ pub(crate) fn explore_rounds<O: Oracle>(
     ensures found { IfOk result (λ found. IfSome found (IsFoundBy graphs.now (lent O.known session.new))) }
 {
     let mut trail = PairTrail::new(session.asker.alloc, graphs)?;
-    session.aids.guide.begin(lines);
+    session.heuristics.guide.begin(lines);
     run_rounds(graphs, session, &mut trail, rounds)
 }
 
@@ -61,11 +61,14 @@ fn run_rounds<O: Oracle>(
         if let Some(found) = explore_round(graphs, session, trail, true)? {
             return Ok(Some(found));
         }
-        if session.aids.guide.is_full() {
+        if session.heuristics.guide.is_full() {
             return Ok(None);
         }
         start_over(&mut trail.domains, &mut trail.queue);
-        session.aids.guide.begin_round(trail.domains.pairs().len());
+        session
+            .heuristics
+            .guide
+            .begin_round(trail.domains.pairs().len());
     }
     Ok(None)
 }
@@ -113,7 +116,7 @@ fn explore_round<O: Oracle>(
 
 fn is_round_over<O: Oracle>(session: &Session<'_, O>) -> bool {
     let learned = session.learned();
-    session.aids.guide.is_round_over(learned)
+    session.heuristics.guide.is_round_over(learned)
 }
 
 // Goes one step ahead, and back after a conflict. None: the search isn't over, and less is left than before.
@@ -129,24 +132,27 @@ fn turn<O: Oracle>(
 {
     let bans = session.book.bans().len() as u64;
     session.at(Stage::Banning { bans });
-    let impasse = match ahead(graphs, session, trail)? {
+    let conflict = match ahead(graphs, session, trail)? {
         Ahead::Deeper => return Ok(None),
         Ahead::Match(matching, logs) => return Ok(Some(Found::Match(matching, logs))),
-        Ahead::Impasse(impasse) => impasse,
+        Ahead::Conflict(conflict) => conflict,
     };
     let before = session.book.bans().len();
-    let dead = impasse.ban();
-    session.aids.guide.hurry(&impasse);
+    let dead = conflict.ban();
+    session.heuristics.guide.hurry(&conflict);
     let refusal = turn_back(
         session.asker.alloc,
         graphs,
         &mut trail.domains,
         &mut trail.queue,
-        impasse,
+        conflict,
         session.book,
     )?;
-    session.aids.guide.learn(session.book.bans(), before, dead);
-    session.aids.guide.forget(trail.domains.pairs().len());
+    session
+        .heuristics
+        .guide
+        .learn(session.book.bans(), before, dead);
+    session.heuristics.guide.forget(trail.domains.pairs().len());
     match refusal {
         None => Ok(None),
         Some(ban) => Ok(Some(Found::None(ban))),
@@ -163,8 +169,8 @@ fn ahead<O: Oracle>(
     ensures steps { Steps graphs.now (lent O.known session.old) (lent O.known session.new) trail.new.domains result }
     ensures ahead { IfOk result (IsAhead graphs.now (lent O.known session.new) trail.old.domains trail.new.domains) }
 {
-    if let Some(impasse) = follow(graphs, session, trail)? {
-        return Ok(Ahead::Impasse(impasse));
+    if let Some(conflict) = follow(graphs, session, trail)? {
+        return Ok(Ahead::Conflict(conflict));
     }
     go_on(graphs, session, &mut trail.domains)
 }
@@ -179,18 +185,18 @@ fn go_on<O: Oracle>(
     ensures steps { Steps graphs.now (lent O.known session.old) (lent O.known session.new) domains.new result }
     ensures ahead { IfOk result (IsAhead graphs.now (lent O.known session.new) domains.old domains.new) }
 {
-    let Some(port) = next_port(session.asker.alloc, &session.aids.guide, domains)? else {
-        return compare_held(graphs, session, domains);
+    let Some(port) = next_port(session.asker.alloc, &session.heuristics.guide, domains)? else {
+        return compare_assigned(graphs, session, domains);
     };
-    session.aids.guide.decide(port);
+    session.heuristics.guide.decide(port);
     match branch(domains, port)? {
         None => Ok(Ahead::Deeper),
-        Some(impasse) => Ok(Ahead::Impasse(impasse)),
+        Some(conflict) => Ok(Ahead::Conflict(conflict)),
     }
 }
 
 // Compares the outputs under the pairs that are assigned, one of each port.
-fn compare_held<O: Oracle>(
+fn compare_assigned<O: Oracle>(
     graphs: &PairableGraphs<'_>,
     session: &mut Session<'_, O>,
     domains: &mut Domains,
@@ -202,7 +208,7 @@ fn compare_held<O: Oracle>(
 {
     match compare_whole(graphs, session, domains)? {
         Settled::Match(matching, logs) => confirm(graphs, session, domains, matching, logs),
-        Settled::Ban(ban) => Ok(Ahead::Impasse(Impasse::Ban(ban))),
+        Settled::Ban(ban) => Ok(Ahead::Conflict(Conflict::Ban(ban))),
     }
 }
 
@@ -222,6 +228,6 @@ fn confirm<O: Oracle>(
 {
     match refine(graphs, &mut session.asker, domains, session.book)? {
         Refined::Stable => Ok(Ahead::Match(matching, logs)),
-        Refined::Dead(ban) => Ok(Ahead::Impasse(Impasse::Ban(ban))),
+        Refined::Dead(ban) => Ok(Ahead::Conflict(Conflict::Ban(ban))),
     }
 }

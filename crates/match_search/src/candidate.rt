@@ -57,7 +57,7 @@ pub(crate) fn compare_whole<O: Oracle>(
         None => Ok(Settled::Match(matching, logs)),
         Some(found) => {
             session
-                .aids
+                .heuristics
                 .trials
                 .keep(alloc, graphs.first(), &found.vector)?;
             let ban = exclude(graphs, &mut session.asker, &matching, &found, session.book)?;

@@ -5,7 +5,7 @@ ghost use Rattle.net_core.specs.Sides.{Graphs as AnyGraphs};
 ghost use Rattle.net_core.specs.declared.graphs.Side.TheVariants as AnySide;
 ghost use Rattle.account_core.specs.Held.{IsTaken, IsWhole};
 ghost use Rattle.pair_domains.specs.Trails.{IsFreePort, held_in, ports_of};
-ghost use Rattle.pair_search.specs.Conflicts.{FitPorts};
+ghost use Rattle.pair_search.specs.ConflictSets.{FitPorts};
 
 use crate::fewest::fewest_ways;
 use crate::guide::Guide;

@@ -1,5 +1,3 @@
-//! Which pairs were compared.
-
 use circuits::{Pair, PortKind};
 use std::alloc::{AllocError, Global};
 

@@ -2,17 +2,17 @@
 
 ghost use Rattle.match_search.specs.States.{MayBegin, MaySearch, Searches, SearchesBy, lent};
 
-use crate::aids::Aids;
 use crate::branching::explore_rounds;
 use crate::found::Found;
 use crate::guessed::compare_guesses;
+use crate::heuristics::Heuristics;
 use crate::searching::{refuse_by_counts, refuse_or_explore};
 use crate::session::Session;
 use account_core::PairableGraphs;
 use ban_book::BanBook;
 use circuits::PortKind;
 use cnf_core::Stop;
-use fact_bans::{Asker, Seen};
+use fact_bans::{Asker, BrokenClaims};
 use match_guess::{Effort, Guesses, Hints};
 use oracle_core::Oracle;
 use query_core::Ledger;
@@ -59,6 +59,7 @@ pub fn decide<O: Oracle>(
     ensures searches { Searches graphs.now (O.known oracle.old)
         (O.known oracle.new) ledger.old ledger.new book.new result }
 {
+    // the facts of an oracle are of its circuits
     let _facts = oracle.facts();
     let mut guesses = Guesses::new(alloc, graphs, hints)?;
     let effort = first_effort(graphs);
@@ -72,8 +73,8 @@ pub fn decide<O: Oracle>(
     )? {
         return Ok(Found::Match(matching, logs));
     }
-    let mut seen = Seen::new(alloc, graphs, hints.seed)?;
-    let mut aids = Aids::new(alloc, graphs, hints.seed)?;
+    let mut seen = BrokenClaims::new(alloc, graphs, hints.seed)?;
+    let mut heuristics = Heuristics::new(alloc, graphs, hints.seed)?;
     let mut session = Session {
         asker: Asker {
             alloc,
@@ -81,7 +82,7 @@ pub fn decide<O: Oracle>(
             seen: &mut seen,
             ledger,
         },
-        aids: &mut aids,
+        heuristics: &mut heuristics,
         book,
     };
     match effort {

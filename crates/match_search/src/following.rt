@@ -1,12 +1,12 @@
 //! What follows of the pairs that are assigned, by bans, by decided claims and by vectors.
 
 ghost use Rattle.std.specs.Prelude.{◌≤◌, Contains, IfOk, IfSome, OnOk};
-ghost use Rattle.pair_search.specs.Impasses.{IsImpasse};
+ghost use Rattle.pair_search.specs.Conflicts.{IsConflict};
 ghost use Rattle.pair_domains.specs.Trails.{held_in};
 ghost use Rattle.pair_search.specs.Progress.{left};
 ghost use Rattle.match_search.specs.States.{Deletes, MayStep, Steps, lent};
 
-use crate::asking::{ask_held, ask_output};
+use crate::asking::{ask_assigned, ask_output};
 use crate::exchanged::exclude_by_swaps;
 use crate::session::Session;
 use crate::trail::PairTrail;
@@ -17,7 +17,7 @@ use class_refine::Domains;
 use cnf_core::Stop;
 use fact_bans::Asker;
 use oracle_core::Oracle;
-use pair_search::{Impasse, propagate};
+use pair_search::{Conflict, propagate};
 use std::alloc::AllocError;
 use vector_bans::foresee;
 
@@ -27,35 +27,35 @@ pub(crate) fn follow<O: Oracle>(
     graphs: &PairableGraphs<'_>,
     session: &mut Session<'_, O>,
     trail: &mut PairTrail,
-) -> Result<Option<Impasse>, Stop>
+) -> Result<Option<Conflict>, Stop>
     requires may { MayStep graphs.now (lent O.known session.old) trail.old.domains }
     ensures steps { Steps graphs.now (lent O.known session.old) (lent O.known session.new) trail.new.domains result }
     ensures less { OnOk result (left trail.new.domains ≤ left trail.old.domains) }
-    ensures impasse { IfOk result (λ found. IfSome found (IsImpasse session.new.book.now trail.new.domains)) }
+    ensures conflict { IfOk result (λ found. IfSome found (IsConflict session.new.book.now trail.new.domains)) }
 {
-    if let Some(impasse) = settle(graphs, session, trail)? {
-        return Ok(Some(impasse));
+    if let Some(conflict) = settle(graphs, session, trail)? {
+        return Ok(Some(conflict));
     }
     let learned = session.learned();
-    if session.aids.guide.has_had_its_share(learned) {
+    if session.heuristics.guide.has_had_its_share(learned) {
         return Ok(None);
     }
     let domains = &trail.domains;
-    if let Some(exchanged) = exchange_held(graphs, session, domains)? {
+    if let Some(exchanged) = exchange_assigned(graphs, session, domains)? {
         return Ok(Some(exchanged));
     }
-    try_held(graphs, session, domains)
+    try_assigned(graphs, session, domains)
 }
 
 // Tries the assigned pairs on vectors.
-fn try_held<O: Oracle>(
+fn try_assigned<O: Oracle>(
     graphs: &PairableGraphs<'_>,
     session: &mut Session<'_, O>,
     domains: &Domains,
-) -> Result<Option<Impasse>, Stop>
+) -> Result<Option<Conflict>, Stop>
     requires may { MayStep graphs.now (lent O.known session.old) domains.now }
     ensures steps { Steps graphs.now (lent O.known session.old) (lent O.known session.new) domains.now result }
-    ensures impasse { IfOk result (λ found. IfSome found (IsImpasse session.new.book.now domains.now)) }
+    ensures conflict { IfOk result (λ found. IfSome found (IsConflict session.new.book.now domains.now)) }
 {
     // assigned pairs are of ports that exist, and share none
     let _lawful = domains.entries();
@@ -63,34 +63,34 @@ fn try_held<O: Oracle>(
         graphs,
         &mut session.asker,
         domains.pairs(),
-        &session.aids.trials,
+        &session.heuristics.trials,
         session.book,
     )? {
-        Some(ban) => Ok(Some(Impasse::Ban(ban))),
+        Some(ban) => Ok(Some(Conflict::Ban(ban))),
         None => Ok(None),
     }
 }
 
 // Compares each assigned pair that wasn't compared yet with claims of two inputs, beside all other assigned pairs.
-fn exchange_held<O: Oracle>(
+fn exchange_assigned<O: Oracle>(
     graphs: &PairableGraphs<'_>,
     session: &mut Session<'_, O>,
     domains: &Domains,
-) -> Result<Option<Impasse>, Stop>
+) -> Result<Option<Conflict>, Stop>
     requires may { MayStep graphs.now (lent O.known session.old) domains.now }
     ensures steps { Steps graphs.now (lent O.known session.old) (lent O.known session.new) domains.now result }
-    ensures impasse { IfOk result (λ found. IfSome found (IsImpasse session.new.book.now domains.now)) }
+    ensures conflict { IfOk result (λ found. IfSome found (IsConflict session.new.book.now domains.now)) }
 {
     // assigned pairs are of ports that exist, and share none
     let _lawful = domains.entries();
     let held = domains.pairs();
-    for place in session.aids.guide.exchanged..held.len() {
-        session.aids.guide.exchanged = place;
+    for place in session.heuristics.guide.exchanged..held.len() {
+        session.heuristics.guide.exchanged = place;
         if let Some(ban) = exclude_by_swaps(graphs, session, held, held[place])? {
-            return Ok(Some(Impasse::Ban(ban)));
+            return Ok(Some(Conflict::Ban(ban)));
         }
     }
-    session.aids.guide.exchanged = held.len();
+    session.heuristics.guide.exchanged = held.len();
     Ok(None)
 }
 
@@ -100,26 +100,26 @@ fn settle<O: Oracle>(
     graphs: &PairableGraphs<'_>,
     session: &mut Session<'_, O>,
     trail: &mut PairTrail,
-) -> Result<Option<Impasse>, Stop>
+) -> Result<Option<Conflict>, Stop>
     requires may { MayStep graphs.now (lent O.known session.old) trail.old.domains }
     ensures steps { Steps graphs.now (lent O.known session.old) (lent O.known session.new) trail.new.domains result }
     ensures less { OnOk result (left trail.new.domains ≤ left trail.old.domains) }
-    ensures impasse { IfOk result (λ found. IfSome found (IsImpasse session.new.book.now trail.new.domains)) }
+    ensures conflict { IfOk result (λ found. IfSome found (IsConflict session.new.book.now trail.new.domains)) }
 {
     let inputs = trail.domains.ports(PortKind::Input) as u64;
     let outputs = trail.domains.ports(PortKind::Output) as u64;
     for _turn in 0..inputs + 2 * outputs + 1 {
-        if let Some(impasse) = propagate(
+        if let Some(conflict) = propagate(
             session.asker.alloc,
             &mut trail.domains,
             &mut trail.queue,
             session.book.bans(),
         )? {
-            return Ok(Some(impasse));
+            return Ok(Some(conflict));
         }
         let more = ask_next(graphs, session, &mut trail.domains)?;
         let learned = session.learned();
-        if !more | session.aids.guide.has_had_its_share(learned) {
+        if !more | session.heuristics.guide.has_had_its_share(learned) {
             return Ok(None);
         }
     }
@@ -138,7 +138,7 @@ fn ask_next<O: Oracle>(
     ensures less { OnOk result (left domains.new ≤ left domains.old) }
 {
     let outputs = domains.ports(PortKind::Output);
-    let Some(output) = session.aids.guide.next_output(outputs) else {
+    let Some(output) = session.heuristics.guide.next_output(outputs) else {
         return ask_next_pair(graphs, session, domains);
     };
     ask_output(graphs, session, domains, output)?;
@@ -157,20 +157,20 @@ fn ask_next_pair<O: Oracle>(
     ensures steps { Steps graphs.now (lent O.known session.old) (lent O.known session.new) domains.new result }
     ensures less { OnOk result (left domains.new ≤ left domains.old) }
 {
-    let Some(pair) = next_held(domains, session.aids.guide.asked) else {
+    let Some(pair) = next_assigned(domains, session.heuristics.guide.asked) else {
         return Ok(false);
     };
-    let more = ask_held(graphs, session, domains, pair)?;
+    let more = ask_assigned(graphs, session, domains, pair)?;
     if more {
         return Ok(true);
     }
-    session.aids.guide.asked = session.aids.guide.asked.saturating_add(1);
+    session.heuristics.guide.asked = session.heuristics.guide.asked.saturating_add(1);
     delete_beside(graphs, session, domains, pair)?;
     Ok(true)
 }
 
 // The assigned pair of a place.
-fn next_held(domains: &Domains, place: usize) -> Option<Pair>
+fn next_assigned(domains: &Domains, place: usize) -> Option<Pair>
     ensures { IfSome result (Contains (held_in domains.now.entries)) }
 {
     domains.pairs().get(place).copied()
@@ -188,7 +188,7 @@ fn delete_beside<O: Oracle>(
     ensures steps { Steps graphs.now (lent O.known session.old) (lent O.known session.new) domains.new result }
     ensures deletes { OnOk result (Deletes pair domains.old domains.new) }
 {
-    let again = session.aids.guide.compare(pair);
+    let again = session.heuristics.guide.compare(pair);
     let ways = ways_beside(&session.asker, domains, pair, again)?;
     delete_unlike(graphs, session, domains, pair, &ways)
 }

@@ -1,5 +1,3 @@
-//! What a search comes to.
-
 use cnf_core::Log;
 use items::Items;
 use net_core::Matching;

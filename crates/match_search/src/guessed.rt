@@ -71,6 +71,7 @@ fn compare_guess<'a, O: Oracle>(
     ensures serves { Serves (O.known oracle.old) (O.known oracle.new) ledger.old ledger.new result }
     ensures guessed { IfOk result (IsGuessed graphs.now) }
 {
+    // the gates of a graph are in order, and its ports fewer than 2^32
     let _first = graphs.first();
     let _second = graphs.second();
     let Some(matching) = guesses.next(alloc, graphs, effort)? else {

@@ -9,7 +9,7 @@ use crate::rounds::Rounds;
 use crate::weights::Weights;
 use account_core::{Ban, PairableGraphs};
 use circuits::Pair;
-use pair_search::{Impasse, Port};
+use pair_search::{Conflict, Port};
 use std::alloc::{AllocError, Global};
 
 /// The most that tallies of all signed pairs of outputs may ask: the pairs times the inputs. Each pair's ban lists up
@@ -120,19 +120,19 @@ impl Guide {
         self.compared.mark(pair)
     }
 
-    /// Notes an impasse. Where outputs have too few others to go to, the port that was decided last comes first until
+    /// Notes a conflict. Where outputs have too few others to go to, the port that was decided last comes first until
     /// it has a pair (last conflict: Lecoutre and others, Artificial Intelligence 2009). A way that several assigned
     /// pairs exclude has the first of them as its reason, so the conflict may have pairs that were assigned long
     /// before, and each way of this port would be tried beside each of these. With this done after every conflict a
     /// near miss of a graph (`triangular8_or`) took 2.5 times as many.
-    pub fn hurry(&mut self, impasse: &Impasse) {
-        if let Impasse::Block(_) = impasse {
+    pub fn hurry(&mut self, conflict: &Conflict) {
+        if let Conflict::Block(_) = conflict {
             self.urgent = self.decided;
         }
     }
 
-    /// Notes the bans that the conflict of an impasse came to, those from a place on, the last of which was learned;
-    /// where there are none, the ban that the impasse was is the learned one.
+    /// Notes the bans that a conflict came to, those from a place on, the last of which was learned; where there are
+    /// none, the ban all of whose pairs were assigned is the learned one.
     pub fn learn(&mut self, bans: &[Ban], from: usize, dead: Option<u64>) {
         self.rounds.count();
         self.room.count(bans);

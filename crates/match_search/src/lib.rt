@@ -2,7 +2,6 @@
 #![tactic(auto)]
 
 mod ahead;
-mod aids;
 mod asking;
 mod branching;
 mod candidate;
@@ -15,6 +14,7 @@ mod following;
 mod found;
 mod guessed;
 mod guide;
+mod heuristics;
 mod matching;
 mod reads;
 mod room;

@@ -1,5 +1,3 @@
-//! How much memory the bans of a search take.
-
 use account_core::{Ban, Step};
 
 /// How many bytes the bans may take. With the facts and what isn't counted a search took less than a gigabyte then,

@@ -6,14 +6,14 @@ ghost use Rattle.account_core.specs.Shown.{IsEmptyBan};
 ghost use Rattle.match_search.specs.Founds.{IsDecidedFound};
 ghost use Rattle.match_search.specs.States.{Explores, MayBegin, MaySearch, Searches, SearchesBy, lent};
 
-use crate::aids::Aids;
 use crate::branching::{explore_rounds, explore_whole};
 use crate::found::Found;
+use crate::heuristics::Heuristics;
 use crate::session::Session;
 use account_core::PairableGraphs;
 use ban_book::BanBook;
 use cnf_core::Stop;
-use fact_bans::{Asker, Seen, refuse};
+use fact_bans::{Asker, BrokenClaims, refuse};
 use oracle_core::Oracle;
 use query_core::Ledger;
 use std::alloc::Global;
@@ -57,8 +57,8 @@ pub fn search<O: Oracle>(
 {
     // the facts of an oracle are of its circuits
     let _facts = oracle.facts();
-    let mut seen = Seen::new(alloc, graphs, seed)?;
-    let mut aids = Aids::new(alloc, graphs, seed)?;
+    let mut seen = BrokenClaims::new(alloc, graphs, seed)?;
+    let mut heuristics = Heuristics::new(alloc, graphs, seed)?;
     let mut session = Session {
         asker: Asker {
             alloc,
@@ -66,7 +66,7 @@ pub fn search<O: Oracle>(
             seen: &mut seen,
             ledger,
         },
-        aids: &mut aids,
+        heuristics: &mut heuristics,
         book,
     };
     refuse_or_explore(graphs, &mut session)
@@ -99,7 +99,7 @@ pub(crate) fn refuse_or_explore<O: Oracle>(
             return Ok(found);
         }
         let_go(session.asker.alloc, session.book);
-        session.aids.guide.begin_anew();
+        session.heuristics.guide.begin_anew();
     }
     explore_whole(graphs, session)
 }

@@ -1,6 +1,4 @@
-//! What the steps of a search are lent.
-
-use crate::aids::Aids;
+use crate::heuristics::Heuristics;
 use ban_book::BanBook;
 use fact_bans::Asker;
 use oracle_core::Oracle;
@@ -10,7 +8,7 @@ use watch_core::Stage;
 #[derive(Drop)]
 pub(crate) struct Session<'a, O: Oracle> {
     pub(crate) asker: Asker<'a, O>,
-    pub(crate) aids: &'a mut Aids,
+    pub(crate) heuristics: &'a mut Heuristics,
     pub(crate) book: &'a mut BanBook,
 }
 

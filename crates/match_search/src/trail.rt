@@ -1,5 +1,3 @@
-//! The pairs that are assigned and deleted, and how far propagation has come.
-
 ghost use Rattle.std.specs.Prelude.{◌≡◌, [], List, IfOk};
 ghost use Rattle.account_core.specs.declared.step.Ban.{Ban as AnyBan};
 ghost use Rattle.pair_search.specs.Progress.{IsTrail};

@@ -15,13 +15,14 @@ use account_core::{PairableGraphs, port_on};
 use circuits::{Pair, PortKind};
 use class_refine::{Domains, Reason};
 use cnf_core::Stop;
-use fact_bans::{Seen, Unlike, tell_apart};
+use fact_bans::{BrokenClaims, Unlike, tell_apart};
 use net_core::Side;
 use oracle_core::Oracle;
 use pair_search::is_open;
 use std::alloc::{AllocError, Global};
 
-/// A port of the other kind, and what vectors break of the claims of it and an assigned pair's port (`Seen::broken`).
+/// A port of the other kind, and what vectors break of the claims of it and an assigned pair's port
+/// (`BrokenClaims::broken`).
 #[derive(Clone, Copy)]
 struct Beside {
     port: u32,
@@ -39,7 +40,7 @@ struct Beside {
 pub(crate) fn list_unlike(
     alloc: Global,
     domains: &Domains,
-    seen: &Seen,
+    seen: &BrokenClaims,
     pair: Pair,
     again: bool,
 ) -> Result<Vec<Pair>, AllocError> {
@@ -59,7 +60,7 @@ pub(crate) fn list_unlike(
 fn free_ports(
     alloc: Global,
     domains: &Domains,
-    seen: &Seen,
+    seen: &BrokenClaims,
     pair: Pair,
     side: Side,
 ) -> Result<Vec<Beside>, AllocError> {
@@ -82,7 +83,7 @@ fn other_kind(kind: PortKind) -> PortKind {
 }
 
 // What vectors break of the claims of a pair's port of a circuit and a port of the other kind.
-fn broken_beside(seen: &Seen, pair: Pair, side: Side, port: u32) -> u8 {
+fn broken_beside(seen: &BrokenClaims, pair: Pair, side: Side, port: u32) -> u8 {
     let own = port_on(side, pair);
     match pair.kind {
         PortKind::Output => seen.broken(side, own, port),

@@ -1,3 +1,4 @@
+pub mod CommandLine
 pub mod Solving
 pub use Rattle.check_steps.specs.Check
 pub use Rattle.check_steps.specs.Checks

@@ -9,10 +9,9 @@ ghost use Rattle.account_core.specs.Steps.{AreValidBans};
 ghost use Rattle.account_core.specs.Shown.{IsEmptyBan, IsShownMatch};
 ghost use Rattle.match_search.specs.Founds.{IsFound};
 ghost use Rattle.shelf_core.specs.State.{Closed};
-ghost use Rattle.npnp.specs.Solving.{Solves};
+ghost use Rattle.npnp.specs.Solving.{IsSolved, Solves};
 ghost use Rattle.run_steps.specs.Info.{IsSpentOf};
-ghost use Rattle.account_write.specs.Records.{account_of, records_of};
-ghost use Rattle.run_steps.specs.Steps.{Decides, Finds, IsAnswered, IsNew};
+ghost use Rattle.run_steps.specs.Steps.{Decides, Finds, IsNew};
 ghost use Rattle.run_steps.specs.Commands.{asked_match};
 
 use crate::naming::paired_by_names;
@@ -131,10 +130,8 @@ fn search_in<'a, W: Watch>(
     watch: &'a W,
 ) -> Result<Solved, Stop>
     requires new { IsNew ledger.old }
-    ensures answer { IfOk result
-        (λ solved. IsAnswered graphs.now (account_of (records_of solved.account)) solved.outcome) }
-    ensures spent { (learned : ℕ) → result ≡ Err (Spent learned)
-        → IsSpentOf graphs.now ledger.old.budget ledger.new }
+    ensures answer { IfOk result (IsSolved graphs.now) }
+    ensures spent { (learned : ℕ) → result ≡ Err (Spent learned) → IsSpentOf graphs.now ledger.old.budget ledger.new }
 {
     let mut book = FactBook::watched(alloc, graphs.graphs(), hints.seed, watch)?;
     let mut bans = BanBook::new(alloc);
@@ -153,7 +150,7 @@ fn answered(
     requires facts { AreFacts graphs.now facts }
     requires bans { AreValidBans graphs.now (map decided_by facts) bans }
     requires found { IsFound graphs.now bans found }
-    ensures { IfOk result (λ solved. IsAnswered graphs.now (account_of (records_of solved.account)) solved.outcome) }
+    ensures { IfOk result (IsSolved graphs.now) }
 {
     match found {
         Found::Match(matching, logs) => matched(alloc, graphs, matching, logs),
@@ -169,7 +166,7 @@ fn matched(
     logs: Items<Log>,
 ) -> Result<Solved, AllocError>
     requires { IsShownMatch graphs.now matching logs }
-    ensures { IfOk result (λ solved. IsAnswered graphs.now (account_of (records_of solved.account)) solved.outcome) }
+    ensures { IfOk result (IsSolved graphs.now) }
 {
     // a graph's ports are numbers of 32 bits
     let _first = graphs.first();
@@ -191,9 +188,11 @@ fn refused(
     requires facts { AreFacts graphs.now facts }
     requires bans { AreValidBans graphs.now (map decided_by facts) bans }
     requires empty { IsEmptyBan bans number }
-    ensures { IfOk result (λ solved. IsAnswered graphs.now (account_of (records_of solved.account)) solved.outcome) }
+    ensures { IfOk result (IsSolved graphs.now) }
 {
+    // both circuits have as many ports
     let _ports = graphs.graphs();
+    // the gates of a graph are in order, and its ports fewer than 2^32
     let _first = graphs.first();
     let _second = graphs.second();
     let Core {
@@ -210,8 +209,9 @@ fn refused(
 /// The answer that there is no match, since the graphs have other numbers of ports, with its account.
 fn other_ports(alloc: Global, graphs: &Graphs<'_>) -> Result<Solved, AllocError>
     requires { HaveAsMany graphs.now.first graphs.now.second → ⊥ }
-    ensures { IfOk result (λ solved. IsAnswered graphs.now (account_of (records_of solved.account)) solved.outcome) }
+    ensures { IfOk result (IsSolved graphs.now) }
 {
+    // the gates of a graph are in order, and its ports fewer than 2^32
     let _first = graphs.first();
     let _second = graphs.second();
     Ok(Solved {

@@ -1,6 +1,6 @@
 //! One run of the program: words in, files read, one report out.
 
-ghost use Rattle.std.specs.Prelude.{◌≡◌, ◌≢◌, ℕ, ◌++◌, ◌↔◌, ◌⊎◌, List, IsTrue, Some, Err, map, string_bytes};
+ghost use Rattle.std.specs.Prelude.{◌≡◌, ◌≢◌, ℕ, ◌++◌, ◌↔◌, ◌⊎◌, List, IsTrue, Some, Err};
 ghost use Rattle.net_core.specs.declared.matching.Matching.{Matching};
 ghost use Rattle.net_file.specs.declared.fault.NetKind.{NetKind};
 ghost use Rattle.shelf_core.specs.Fault.{NoCallFollows, NoPutFollows, Rose};
@@ -19,6 +19,7 @@ ghost use Rattle.check_steps.specs.Checks.{IsSound};
 ghost use Rattle.run_steps.specs.Report.{IsReport};
 ghost use Rattle.check_steps.specs.Lines.{line_of};
 ghost use Rattle.run_steps.specs.Steps.{Decides, TellsLine, PutsText, WritesPart};
+ghost use Rattle.npnp.specs.CommandLine.{bytes_of};
 ghost use Rattle.run_steps.specs.Commands.{IsTrialCommand};
 ghost use Rattle.run_steps.specs.Trial.{IsSpentOnPair, IsTried};
 
@@ -60,6 +61,9 @@ const OUT_OF_MEMORY: &[u8] = b"out of memory\n";
 /// failure no further call of the shelf is made.
 ///
 /// The sink is told what the run is at, and gets the report at the end.
+///
+/// What is promised of files is promised on a shelf that tells its files (`S.tells`), as one in memory, and what is
+/// promised of the report's bytes on a sink that tells them (`K.tells`). A disk and standard output tell nothing.
 pub fn run<S: Shelf, K: Sink>(
     alloc: Global,
     words: &[String],
@@ -71,94 +75,85 @@ pub fn run<S: Shelf, K: Sink>(
     // A matching is found only where it is a match of the two files' netlists, and the account as it is afterwards
     // proves it: a check by the same names accepts it.
     ensures matched { IsTrue S.tells → (matching : Matching) → result ≡ Outcome.Matched matching
-        → IsMatchFound (S.state shelf.old).held (map string_bytes words.now) matching }
+        → IsMatchFound (S.state shelf.old).held (bytes_of words.now) matching }
     ensures matched_account { IsTrue S.tells → (matching : Matching) → result ≡ Outcome.Matched matching
-        → IsProved (S.state shelf.new).held (map string_bytes words.now) (Verdict.Match matching) }
+        → IsProved (S.state shelf.new).held (bytes_of words.now) (Verdict.Match matching) }
 
     // There is said to be no match exactly where no signed bijections make the two netlists equal, unless the budget
-    // was spent, a fault came or memory ran out; and the account as it is afterwards proves it.
+    // was spent, a call failed or memory ran out; and the account as it is afterwards proves it.
     ensures no_matching { IsTrue S.tells → IsSettled result
-        → ((result ≡ Outcome.NoMatching)
-        ↔ HasNoMatch (S.state shelf.old).held (map string_bytes words.now)) }
+        → ((result ≡ Outcome.NoMatching) ↔ HasNoMatch (S.state shelf.old).held (bytes_of words.now)) }
     ensures no_matching_account { IsTrue S.tells → result ≡ Outcome.NoMatching
-        → IsProved (S.state shelf.new).held (map string_bytes words.now) Verdict.None }
+        → IsProved (S.state shelf.new).held (bytes_of words.now) Verdict.None }
 
-    // Where a match of two netlists is sought and no fault came and memory did not run out, one of the two is answered,
-    // or the budget was spent.
+    // Where a match of two netlists is sought, no call failed and memory did not run out, a match or that there is none
+    // is answered, or that the budget was spent.
     ensures answered { IsTrue S.tells → IsDecided result
-        → IsAskedToMatch (S.state shelf.old).held (map string_bytes words.now)
-        → IsOfMatch result }
+        → IsAskedToMatch (S.state shelf.old).held (bytes_of words.now) → IsOfMatch result }
 
-    // Where no fault came between and memory did not run out, the words and the files decide the outcome.
+    // Where no call failed and memory did not run out, the words and the files decide the outcome: an account that is
+    // accepted, or its first bad line; a netlist that isn't there, is too large, or is malformed, and where.
     ensures accepted { IsTrue S.tells → IsDecided result → (matching : Matching)
         → ((result ≡ Outcome.AcceptedMatch matching)
-        ↔ IsAccepted (S.state shelf.old).held (map string_bytes words.now) (Verdict.Match matching)) }
+        ↔ IsAccepted (S.state shelf.old).held (bytes_of words.now) (Verdict.Match matching)) }
     ensures accepted_refusal { IsTrue S.tells → IsDecided result
         → ((result ≡ Outcome.AcceptedRefusal)
-        ↔ IsAccepted (S.state shelf.old).held (map string_bytes words.now) Verdict.None) }
+        ↔ IsAccepted (S.state shelf.old).held (bytes_of words.now) Verdict.None) }
     ensures rejected { IsTrue S.tells → IsDecided result → (line : ℕ) (why : Reason)
         → ((result ≡ Outcome.Rejected line why)
-        ↔ IsRejected (S.state shelf.old).held (map string_bytes words.now) line why) }
+        ↔ IsRejected (S.state shelf.old).held (bytes_of words.now) line why) }
     ensures absent { IsTrue S.tells → IsDecided result → (which : AnyFile)
-        → ((result ≡ Outcome.Absent which)
-        ↔ IsAbsent (S.state shelf.old).held (map string_bytes words.now) which) }
+        → ((result ≡ Outcome.Absent which) ↔ IsAbsent (S.state shelf.old).held (bytes_of words.now) which) }
     ensures too_large { IsTrue S.tells → IsDecided result → (which : AnyFile)
         → ((result ≡ Outcome.TooLarge which)
-        ↔ EndsEarly (S.state shelf.old).held (map string_bytes words.now) (Outcome.TooLarge which)) }
-    ensures malformed { IsTrue S.tells → IsDecided result
-        → (which : AnyFile) (kind : NetKind) (at : ℕ)
+        ↔ EndsEarly (S.state shelf.old).held (bytes_of words.now) (Outcome.TooLarge which)) }
+    ensures malformed { IsTrue S.tells → IsDecided result → (which : AnyFile) (kind : NetKind) (at : ℕ)
         → ((result ≡ Outcome.Malformed which kind at)
-        ↔ EndsEarly (S.state shelf.old).held (map string_bytes words.now)
-        (Outcome.Malformed which kind at)) }
+        ↔ EndsEarly (S.state shelf.old).held (bytes_of words.now) (Outcome.Malformed which kind at)) }
 
     // A matching is accepted only where it is a match of the two files' netlists, whoever wrote the account.
     ensures sound { IsTrue S.tells → (matching : Matching) → result ≡ Outcome.AcceptedMatch matching
-        → IsMatchOfFiles (S.state shelf.old).held (map string_bytes words.now) matching }
+        → IsMatchOfFiles (S.state shelf.old).held (bytes_of words.now) matching }
 
     // A refusal is accepted only where no signed bijections make the two files' netlists equal, whoever wrote it.
     ensures sound_refusal { IsTrue S.tells → result ≡ Outcome.AcceptedRefusal
-        → LacksMatch (S.state shelf.old).held (map string_bytes words.now) }
+        → LacksMatch (S.state shelf.old).held (bytes_of words.now) }
 
     // What is known of a netlist is reported where no budget was spent, and by rows that are right for its circuit. A
     // budget is spent by work on the netlists that the words name.
     ensures informed { IsTrue S.tells → IsSettled result
-        → ((result ≡ Outcome.Informed)
-        ↔ IsAskedOf (S.state shelf.old).held (map string_bytes words.now)) }
+        → ((result ≡ Outcome.Informed) ↔ IsAskedOf (S.state shelf.old).held (bytes_of words.now)) }
     ensures spent { IsTrue S.tells → (ledger : Ledgered) → result ≡ Outcome.Spent ledger
-        → IsSpentOn (S.state shelf.old).held (map string_bytes words.now) ledger
-        ⊎ IsSpentOnTwo (S.state shelf.old).held (map string_bytes words.now) ledger
-        ⊎ IsSpentOnPair (map string_bytes words.now) ledger }
+        → IsSpentOn (S.state shelf.old).held (bytes_of words.now) ledger
+        ⊎ IsSpentOnTwo (S.state shelf.old).held (bytes_of words.now) ledger
+        ⊎ IsSpentOnPair (bytes_of words.now) ledger }
 
-    // A pair is made exactly where the words ask for one, unless a write failed or memory ran out. The two files have
-    // it then: netlists as it is printed, which are read as circuits of its functions, with a match of them.
-    ensures made { IsTold result
-        → ((result ≡ Outcome.Made) ↔ AskForPair (map string_bytes words.now)) }
-    ensures pair { IsTrue S.tells → result ≡ Outcome.Made
-        → HoldsPair (S.state shelf.new).held (map string_bytes words.now) }
+    // A pair is made exactly where the words ask for one, unless a write failed or memory ran out. The two files are
+    // then the pair as it is printed, which is read as circuits of the pair's functions, and these have a match.
+    ensures made { IsTold result → ((result ≡ Outcome.Made) ↔ AskForPair (bytes_of words.now)) }
+    ensures pair { IsTrue S.tells → result ≡ Outcome.Made → HoldsPair (S.state shelf.new).held (bytes_of words.now) }
 
     // A pair was tried only where its number is that of the words and the account, which the outcome has, is accepted
     // for it: it proves a matching that is a match. Nothing else comes of a trial, but that the budget is spent on the
     // pair.
     ensures tried { (number : ℕ) (account : List ℕ) → result ≡ Outcome.Tried number account
-        → IsTried (map string_bytes words.now) number account }
-    ensures trial { IsTold result → (number : ℕ) → AsksTrial (map string_bytes words.now) number
-        → IsOfTrial number result }
+        → IsTried (bytes_of words.now) number account }
+    ensures trial { IsTold result → (number : ℕ) → AsksTrial (bytes_of words.now) number → IsOfTrial number result }
 
-    // Words of no known form are answered so. They, and those of a trial, make no call of the shelf.
-    ensures usage { IsTold result
-        → ((result ≡ Outcome.Usage) ↔ AskNothing (map string_bytes words.now)) }
-    ensures no_call { AskNothing (map string_bytes words.now) → shelf.new ≡ shelf.old }
-    ensures trial_no_call { (number : ℕ) → AsksTrial (map string_bytes words.now) number
-        → shelf.new ≡ shelf.old }
+    // The words have no known form exactly where that is answered, unless the report can't be put. Such words, and
+    // those of a trial, lead to no call of the shelf.
+    ensures usage { IsTold result → ((result ≡ Outcome.Usage) ↔ AskNothing (bytes_of words.now)) }
+    ensures no_call { AskNothing (bytes_of words.now) → shelf.new ≡ shelf.old }
+    ensures trial_no_call { (number : ℕ) → AsksTrial (bytes_of words.now) number → shelf.new ≡ shelf.old }
 
-    // A fault has its cause outside, in this call: the output; or the shelf, where the words name files that are read,
-    // or files that are written, and then nothing is put.
+    // A fault that is answered is that of a call which failed in this run. A read fault: of the shelf, where the words
+    // name files that are read. A write fault: of the output; or of the shelf, where they name files that are written,
+    // and then nothing is put.
     ensures read_fault { result ≡ Outcome.ReadFault
-        → ReadFiles (map string_bytes words.now)
-        × Rose (S.state shelf.old).faults (S.state shelf.new).faults }
+        → ReadFiles (bytes_of words.now) × Rose (S.state shelf.old).faults (S.state shelf.new).faults }
     ensures write_fault { result ≡ Outcome.WriteFault
         → Rose (K.state out.old).faults (K.state out.new).faults
-        ⊎ (WriteFiles (map string_bytes words.now)
+        ⊎ (WriteFiles (bytes_of words.now)
         × Rose (S.state shelf.old).faults (S.state shelf.new).faults
         × (out.new ≡ out.old)) }
 
@@ -170,24 +165,24 @@ pub fn run<S: Shelf, K: Sink>(
     // pair. A failed write or running out of memory may leave a first part of an account that is accepted, or of the
     // pair's first netlist, and only where that is whole a part of the second.
     ensures files { IsTrue S.tells → (name : List ℕ)
-        → (NamesAccount (map string_bytes words.now) name → ⊥)
-        → (NamesPair (map string_bytes words.now) name → ⊥)
+        → (NamesAccount (bytes_of words.now) name → ⊥)
+        → (NamesPair (bytes_of words.now) name → ⊥)
         → (S.state shelf.new).held name ≡ (S.state shelf.old).held name }
     ensures kept { IsTrue S.tells → LeavesFiles result → (name : List ℕ)
         → (S.state shelf.new).held name ≡ (S.state shelf.old).held name }
     ensures cut { IsTrue S.tells → (result ≡ Outcome.WriteFault) ⊎ (result ≡ Outcome.Memory)
-        → MayBeCut (S.state shelf.old).held (S.state shelf.new).held (map string_bytes words.now) }
+        → MayBeCut (S.state shelf.old).held (S.state shelf.new).held (bytes_of words.now) }
 
     // The report is put whole, or after a failed write or running out of memory a first part of a right one.
     ensures report { IsTrue K.tells → IsTold result
         → (text : List ℕ)
-        × IsReport S.tells (S.state shelf.old).held (map string_bytes words.now) result text
+        × IsReport S.tells (S.state shelf.old).held (bytes_of words.now) result text
         × ((K.state out.new).written ≡ (K.state out.old).written ++ text) }
     ensures part { IsTrue S.tells → IsTrue K.tells
         → (asked : AnyOutcome) × (text : List ℕ)
-        × IsRight (S.state shelf.old).held (map string_bytes words.now) asked
-        × IsSound (S.state shelf.old).held (map string_bytes words.now) asked
-        × IsReport S.tells (S.state shelf.old).held (map string_bytes words.now) asked text
+        × IsRight (S.state shelf.old).held (bytes_of words.now) asked
+        × IsSound (S.state shelf.old).held (bytes_of words.now) asked
+        × IsReport S.tells (S.state shelf.old).held (bytes_of words.now) asked text
         × WritesPart (K.state out.old) (K.state out.new) text }
 {
     let ending = answer(alloc, words, shelf, &*out);
@@ -197,30 +192,26 @@ pub fn run<S: Shelf, K: Sink>(
 /// How the words and the files, or a fault that came between, end the run.
 fn answer<S: Shelf, W: Watch>(alloc: Global, words: &[String], shelf: &mut S, watch: &W) -> Ending
     requires { (S.state shelf.old).mode ≡ Closed }
-    ensures right { IsTrue S.tells
-        → IsRight (S.state shelf.old).held (map string_bytes words.now) result.outcome }
-    ensures sound { IsTrue S.tells
-        → IsSound (S.state shelf.old).held (map string_bytes words.now) result.outcome }
+    ensures right { IsTrue S.tells → IsRight (S.state shelf.old).held (bytes_of words.now) result.outcome }
+    ensures sound { IsTrue S.tells → IsSound (S.state shelf.old).held (bytes_of words.now) result.outcome }
     ensures report { (result.outcome ≡ Outcome.Memory)
-        ⊎ IsReport S.tells (S.state shelf.old).held (map string_bytes words.now)
-        result.outcome result.report.items }
+        ⊎ IsReport S.tells (S.state shelf.old).held (bytes_of words.now) result.outcome result.report.items }
     ensures files { IsTrue S.tells → (name : List ℕ)
-        → (NamesAccount (map string_bytes words.now) name → ⊥)
-        → (NamesPair (map string_bytes words.now) name → ⊥)
+        → (NamesAccount (bytes_of words.now) name → ⊥)
+        → (NamesPair (bytes_of words.now) name → ⊥)
         → (S.state shelf.new).held name ≡ (S.state shelf.old).held name }
     ensures left { IsTrue S.tells
-        → Leaves (S.state shelf.old).held (S.state shelf.new).held (map string_bytes words.now) result.outcome }
+        → Leaves (S.state shelf.old).held (S.state shelf.new).held (bytes_of words.now) result.outcome }
     ensures read_fault { result.outcome ≡ Outcome.ReadFault
         → Rose (S.state shelf.old).faults (S.state shelf.new).faults }
     ensures write_fault { result.outcome ≡ Outcome.WriteFault
-        → WriteFiles (map string_bytes words.now)
+        → WriteFiles (bytes_of words.now)
         × Rose (S.state shelf.old).faults (S.state shelf.new).faults }
     ensures no_call_follows { NoCallFollows (S.state shelf.old) (S.state shelf.new) }
-    ensures by_words { FollowsWords (map string_bytes words.now) result.outcome }
-    ensures usage { result.outcome ≡ Outcome.Usage → AskNothing (map string_bytes words.now) }
-    ensures trial_no_call { (number : ℕ) → AsksTrial (map string_bytes words.now) number
-        → shelf.new ≡ shelf.old }
-    ensures no_form { AskNothing (map string_bytes words.now)
+    ensures by_words { FollowsWords (bytes_of words.now) result.outcome }
+    ensures usage { result.outcome ≡ Outcome.Usage → AskNothing (bytes_of words.now) }
+    ensures trial_no_call { (number : ℕ) → AsksTrial (bytes_of words.now) number → shelf.new ≡ shelf.old }
+    ensures no_form { AskNothing (bytes_of words.now)
         → (shelf.new ≡ shelf.old) × ((result.outcome ≡ Outcome.Usage) ⊎ (result.outcome ≡ Outcome.Memory)) }
 {
     let Some(command) = command_asked(words) else {

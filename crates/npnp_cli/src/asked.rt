@@ -4,8 +4,8 @@ use std::env;
 use std::io::IsTerminal;
 use std::rt::Env;
 
-/// Whether something is to be said on standard error: where a variable of the environment is 1, and not where it is 0; else where
-/// standard error is a terminal.
+/// Whether something is to be said on standard error: where a variable of the environment is 1, and not where it is 0;
+/// else where standard error is a terminal.
 pub(crate) fn is_asked(rt: &HostRuntime, variable: &str) -> bool {
     match switch(rt, variable) {
         Some(on) => on,

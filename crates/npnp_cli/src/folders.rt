@@ -15,7 +15,8 @@ const OTHERS: u32 = 0o022;
 /// The folder that belongs to whoever runs the program.
 const OWN: &str = "/proc/self";
 
-/// Says on standard error which of the files that the words ask to write surely can't be written. None is made or changed.
+/// Says on standard error which of the files that the words ask to write surely can't be written. None is made or
+/// changed.
 pub(crate) fn warn<R: Files + Eprint>(rt: &R, words: &[String]) {
     for name in written_names(words).into_iter().flatten() {
         if let Some(fault) = fault_of(rt, name) {
@@ -64,7 +65,8 @@ fn fault_of_error(error: &io::Error) -> Option<FolderFault> {
     }
 }
 
-/// Whether nothing can be made in a folder: its owner needs the right to, and others where nobody else has it. Root may.
+/// Whether nothing can be made in a folder: its owner needs the right to, and others where nobody else has it. Root
+/// may.
 fn is_closed<R: Files>(rt: &R, folder: &Metadata) -> bool {
     let Ok(own) = fs::metadata(rt, OWN) else {
         return false;

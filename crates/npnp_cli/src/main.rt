@@ -30,8 +30,8 @@ fn main(rt: HostRuntime) -> ExitCode {
     }
 }
 
-/// Does what the words of the command line ask for, and answers the status. An error comes before the run begins: memory is
-/// refused, or a word isn't UTF-8.
+/// Does what the words of the command line ask for, and answers the status. An error comes before the run begins:
+/// memory is refused, or a word isn't UTF-8.
 fn run_words(rt: HostRuntime) -> io::Result<u8> {
     let words = words_after_name(&rt)?;
     match Notice::asked(&words) {

@@ -2,7 +2,7 @@
 
 use crate::asked::is_asked;
 use crate::folders::warn;
-use explain::{FileFault, Told, explain, files_read_again};
+use explain::{EndedRun, FileFault, explain, files_read_again};
 use npnp::outcome::Outcome;
 use shelf_core::{DiskShelf, FileError};
 use std::rt::{Files, Runtime};
@@ -67,7 +67,7 @@ impl People {
         outcome: &Outcome,
         fault: Option<FileFault<'_>>,
     ) -> io::Result<()> {
-        let told = Told {
+        let told = EndedRun {
             words,
             outcome,
             fault,

@@ -10,7 +10,8 @@ use watch_core::{Stage, Watch};
 /// The variable of the environment that asks for it, by the value 1, or forbids it by 0.
 const VARIABLE: &str = "NPNP_PROGRESS";
 
-/// Nothing is told before a run has taken this many seconds, since most runs are over then; and after that once in each.
+/// Nothing is told before a run has taken this many seconds, since most runs are over then; and after that once in
+/// each.
 const FIRST: u64 = 2;
 
 const BETWEEN: u64 = 1;

@@ -1,6 +1,7 @@
-//! Runs of the program `npnp` one after another, each over the machine's files as they stand then: the words of the command
-//! line are those of the runs, with the word `then` between. After each report a line says with which status the program
-//! would end. So the stored run of this crate, in the gate, shows files that one run writes and another reads.
+//! Runs of the program `npnp` one after another, each over the machine's files as they stand then: the words of the
+//! command line are those of the runs, with the word `then` between. After each report a line says with which status
+//! the program would end. So the stored run of this crate, in the gate, shows files that one run writes and another
+//! reads.
 #![tactic(auto)]
 
 use npnp::run::run;

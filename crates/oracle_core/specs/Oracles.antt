@@ -18,13 +18,13 @@ use Rattle.oracle_core.specs.declared.oracle.Compared.{Compared}
 use Rattle.oracle_core.specs.declared.oracle.Compared.TheVariants.{Same, Differs}
 use Rattle.oracle_core.specs.Work.{IsCharged, IsWorkOfClaimsAndMatches}
 
--- What an oracle knows: its two circuits, the claims that it decided, in order, and the queries that it has answered.
+-- What an oracle knows: its two circuits, the facts of the claims that it decided, in order, and the queries that it answered.
 pub record Known : Type 0 where
   pub graphs : Graphs
   pub facts : List Fact
   pub answered : List Query
 
--- A fact of this number is of this claim.
+-- There is a fact of this number, and it is of this claim.
 pub record IsNumberOf (facts : List Fact) (claim : Claim) (number : ℕ) : Type 0 where
   pub within : number < length facts
   pub claim_is : (d : Fact) → (slice_index_or facts number d).claim ≡ claim
@@ -33,14 +33,13 @@ pub record IsNumberOf (facts : List Fact) (claim : Claim) (number : ℕ) : Type 
 abbrev pub IsAnswered : Known → Query → Type 0
 IsAnswered known query = Any (λ other. other ≡ query) known.answered
 
--- A ledger suits an oracle: it is work on the oracle's circuits, no line was refused, and each query for which lines were
--- learned was answered.
+-- A ledger that an oracle can go on with: it is work on the oracle's circuits, no line was refused, and each query for which lines were learned was answered.
 pub record Suits (known : Known) (ledger : Ledgered) : Type 0 where
   pub work : IsWorkOfClaimsAndMatches known.graphs ledger
   pub unspent : ledger.spent ≡ false
   pub answered : All (λ entry. IsCharged entry → IsAnswered known entry.query) ledger.asked
 
--- The circuits stay, facts come at the end alone and are facts, and what was answered stays answered.
+-- The circuits are the same, facts are added at the end alone and are right, and what was answered stays answered.
 pub record Grows (old new : Known) : Type 0 where
   pub graphs : new.graphs ≡ old.graphs
   pub added : List Fact
@@ -56,7 +55,7 @@ entry_at asked k = slice_index_or asked k nothing_asked
 abbrev pub IsAsBefore : List Asked → List Asked → ℕ → Type 0
 IsAsBefore before after k = (k < length before) × (k < length after) × (entry_at after k ≡ entry_at before k)
 
--- The budget stays, and each entry for which lines were learned. What is opened was not answered before.
+-- The budget is the same, and so is each entry for which lines were learned. Each new entry is of a query that was not answered before.
 pub record Keeps (old : Known) (before after : Ledgered) : Type 0 where
   pub budget : after.budget ≡ before.budget
   pub charged : (k : ℕ) → k < length before.asked
@@ -65,7 +64,7 @@ pub record Keeps (old : Known) (before after : Ledgered) : Type 0 where
   pub opened : (k : ℕ) → k < length after.asked
       → IsAsBefore before.asked after.asked k ⊎ (IsAnswered old (entry_at after.asked k).query → ⊥)
 
--- The budget is spent, by work, and the last line was refused: the entries hold as many lines as the budget, and that one.
+-- The budget was spent by work, and the last line was refused: the entries have as many learned lines as the budget, and that one.
 pub record IsSpentWork (old : Known) (before after : Ledgered) (learned : ℕ) : Type 0 where
   pub learned_is : learned ≡ before.budget
   pub used : learned_in after ≡ before.budget
@@ -86,19 +85,19 @@ pub record Serves {X : Type 0} (old new : Known) (before after : Ledgered) (resu
   pub keeps : IfOk result (λ answer. Keeps old before after)
   pub stopped : IfErr result (IsStopped old before after)
 
--- What an oracle and a ledger are after calls that were all answered.
+-- What calls that were all answered have done to an oracle and a ledger.
 pub record HasServed (old new : Known) (before after : Ledgered) : Type 0 where
   pub grows : Grows old new
   pub suits : Suits new after
   pub keeps : Keeps old before after
 
--- Deciding a claim: the answer is the number of a fact of this claim. A claim that was decided before changes nothing.
+-- Deciding a claim: the answer is the number of its fact. Where it was decided earlier nothing changes.
 pub record Claims (claim : Claim) (old new : Known) (before after : Ledgered) (result : Result ℕ Stop) : Type 0 where
   pub serves : Serves old new before after result
   pub number : IfOk result (IsNumberOf new.facts claim)
   pub held : (number : ℕ) → IsNumberOf old.facts claim number → (new.facts ≡ old.facts) × (after ≡ before)
 
--- On the vector output k of the first circuit hasn't the bit that the matching asks of it.
+-- On the vector, output k of the first circuit hasn't the bit that the matching demands of it.
 pub record IsDifference (graphs : Graphs) (matching : Matching) (k : ℕ) (x : List Bool) : Type 0 where
   pub inputs : length x ≡ graphs.first.inputs
   pub unlike : bit (function_of graphs.first x) k

@@ -23,7 +23,7 @@ use Rattle.query_core.specs.Ledgers.{Ledgered}
 abbrev pub IsCharged : Asked → Type 0
 IsCharged entry = entry.lemmas < length entry.lines
 
--- a clause that says something that another doesn't say: it hasn't all its literals
+-- the clause isn't weaker than another one: some literal of that one isn't in it
 abbrev pub IsNewBeside : List SatLit → List SatLit → Type 0
 IsNewBeside clause other = has_all clause other ≡ false
 

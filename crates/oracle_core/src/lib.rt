@@ -1,4 +1,5 @@
-//! What decides claims about two circuits and compares their outputs, and what the entries of its ledger are worth.
+//! The oracle, which decides claims about two circuits and compares their outputs, and what its ledger's entries are
+//! worth.
 #![tactic(auto)]
 
 mod oracle;

@@ -1,4 +1,4 @@
-//! What decides claims and compares outputs.
+//! The oracle of a search.
 
 ghost use Rattle.std.specs.Prelude.{◌≡◌, ◌<◌, length};
 ghost use Rattle.circuits.specs.Matches.{HavePorts};
@@ -17,28 +17,28 @@ use watch_core::Stage;
 /// How an output of the first circuit compares with the output that a matching sends it to.
 #[derive(Debug, Drop)]
 pub enum Compared {
-    /// They agree on every vector: the logs refute that they differ where the output is true, and where it is false.
+    /// They agree on every vector. The first log refutes that they differ where the output is true, the second where it
+    /// is false.
     Same(Log, Log),
     /// They differ on this vector of the first circuit's inputs.
     Differs(Bits),
 }
 
-/// Decides claims about two circuits, and compares their outputs. What is decided is kept as a fact, with evidence that
-/// others can check. What has to be refuted is asked in a ledger, and each line that is learned costs a unit of its
-/// budget.
+/// Decides claims about two circuits, and compares their outputs. Each decided claim stays as a fact, with evidence
+/// that others can check. What needs a refutation is asked in a ledger, and each line that is learned for it costs a
+/// unit of the ledger's budget.
 ///
-/// The facts stay, each under its number, and no two are of one claim. A query that was answered is not asked again.
+/// Facts stay, each under its number, and no two are of the same claim. No query is asked twice.
 pub trait Oracle {
     /// The two circuits, the facts, and the queries that were answered.
     ghost known: { Self → Known };
 
-    /// Decides a claim, and answers the number of its fact. For a claim that was decided before, nothing changes.
+    /// Decides a claim, and answers the number of its fact. Where the claim was decided earlier nothing changes.
     ///
     /// # Errors
     ///
-    /// `Spent` where a line had to be learned and the budget was spent; the ledger keeps it as the refused line.
-    /// `Memory`
-    /// when out of memory; nothing is said of the ledger then.
+    /// `Spent` where a line had to be learned and the budget was spent: the ledger has it as the refused line. `Memory`
+    /// when out of memory: then nothing is promised of the ledger.
     fn claim(&mut self, alloc: Global, claim: Claim, ledger: &mut Ledger) -> Result<u64, Stop>
         requires placed { IsClaim (known self.old).graphs claim }
         requires suits { Suits (known self.old) ledger.old }
@@ -67,6 +67,6 @@ pub trait Oracle {
         ensures value { result.now ≡ (known self.now).facts }
         ensures lawful { AreFacts (known self.now).graphs (known self.now).facts };
 
-    /// Whoever watches is told what the run is at. No answer depends on it.
+    /// Tells whoever watches what the run is at. No answer depends on it.
     fn at(&self, stage: Stage);
 }

@@ -42,7 +42,7 @@ of_at side kind port pair e =
     let parts = and_parts (same_kind pair.kind kind) (eqb (port_on side pair) port) e in
     (kind_is pair.kind kind parts.0, eqb-true (port_on side pair) port parts.1)
 
--- the held pairs with one entry more
+-- the assigned pairs with one entry more
 one_kept : (es : List Entry) (e : Entry) → held_in (es ++ e ∷ []) ≡ held_in es ++ map (λ (x : Entry). x.pair) (cond (is_held e.fate) (e ∷ []) [])
 one_kept es e =
     ap (map (λ (x : Entry). x.pair)) (filter-append (λ (x : Entry). is_held x.fate) es (e ∷ []))

@@ -43,7 +43,8 @@ impl Model for Domains {
 
     ghost view = { λ a. record { inputs = a.inputs; outputs = a.outputs; entries = a.entries.items } };
 
-    ghost invariant = { λ a. IsKept a.inputs a.outputs a.entries.items a.pairs.items a.places.items a.holders.items a.gone.items };
+    ghost invariant = { λ a. IsKept a.inputs a.outputs a.entries.items
+        a.pairs.items a.places.items a.holders.items a.gone.items };
 }
 
 impl Domains {
@@ -124,6 +125,7 @@ impl Domains {
             Contains self.now.entries (record { pair = pair; fate = Fate.Deleted reason })) }
         ensures none { IfNone result (IsDeleted self.now.entries pair → ⊥) }
     {
+        // no pair has two entries
         let _lawful = self.entries();
         match self.fate(pair) {
             Some(Fate::Deleted(reason)) => Some(reason),

@@ -1,5 +1,3 @@
-//! What became of a signed pair.
-
 use circuits::Pair;
 use net_core::Side;
 

@@ -14,7 +14,7 @@ use Rattle.account_core.specs.Held.{IsPart}
 use Rattle.ban_book.proofs.BlockListLemmas.{cons_more}
 use Rattle.pair_domains.specs.Trails.{IsPairOf, ports_of}
 use Rattle.pair_search.specs.declared.port.Resolved.{Resolved}
-use Rattle.pair_search.specs.Conflicts.{FitPorts}
+use Rattle.pair_search.specs.ConflictSets.{FitPorts}
 use Rattle.pair_domains.specs.declared.entry.Entry.{Entry}
 use Rattle.pair_search.specs.Named.{AreAllGathered, IsLeftOutOr}
 use Rattle.pair_search.specs.Resolutions.{left_out}
@@ -65,7 +65,7 @@ known_of graphs n m pair fit is = record {
   to = omega (arith, is.to, second_ports graphs n m pair.kind fit);
 }
 
--- Some of the held pairs, among them the first of others.
+-- Some of the assigned pairs, among them the first of others.
 pub record IsAdding (held now first : List Pair) : Type 0 where
   pub part : IsPart held now
   pub among : All (Contains now) first

@@ -1,4 +1,4 @@
--- What follows of pairs that are held and deleted.
+-- What follows of pairs that are assigned and deleted.
 use Rattle.std.proofs.Common.{◌≡◌, ◌⊎◌, ℕ, suc, ◌+◌, ◌<◌, ◌≤◌, true, cond, List, [], ◌∷◌, ◌++◌, length, map, filter, get_or, take, drop, All, AllPairs, Contains, Some, refl, sym, ap, subst, ◌∙◌, inl, inr, arith}
 use Rattle.std.proofs.lemmas.Bool.{cases_lt, cases_order}
 use Rattle.std.proofs.lemmas.List.{drop_more, get_or_append_left, get_or_at, get_or_default, get_or_push, get_or-take, length-append, length_push, length-take-le, map-append, take_all, take-append-drop, take-append-le, take_at, take-take}
@@ -24,7 +24,7 @@ held_append xs ys =
     ap (map (λ (e : Entry). e.pair)) (filter-append (λ (e : Entry). is_held e.fate) xs ys)
     ∙ map-append (λ (e : Entry). e.pair) (filter (λ (e : Entry). is_held e.fate) xs) (filter (λ (e : Entry). is_held e.fate) ys)
 
--- the pairs that are held in a front are held
+-- the pairs that are assigned in a front are assigned
 pub held_front : (es : List Entry) (k : ℕ) → All (Contains (held_in es)) (held_in (take k es))
 held_front es k i d below =
     subst (λ l. Contains l (get_or (held_in (take k es)) i d)) (sym (held_append (take k es) (drop k es)) ∙ ap held_in (take-append-drop k es)) (Contains-append_left (held_in (take k es)) (held_in (drop k es)) (get_or (held_in (take k es)) i d) (i, below, get_or_default (held_in (take k es)) i (get_or (held_in (take k es)) i d) d below))
@@ -37,12 +37,12 @@ named_at : (n m : ℕ) (bans : List Ban) (es : List Entry) (place : ℕ) (pair :
 named_at n m bans es place pair why are below is =
     subst (λ (e : Entry). IsJustified n m bans (take place es) e.pair e.fate) is (are.each place (deleted pair why) below)
 
--- what a deleted pair's reason names is held
+-- what a deleted pair's reason names is assigned
 pub names_held : (n m : ℕ) (bans : List Ban) (es : List Entry) (pair : Pair) (why : Reason) → AreJustified n m bans es → Contains es (deleted pair why) → AreNamed bans (held_in es) pair why
 names_held n m bans es pair why are there =
     named_more bans (held_in (take there.0 es)) (held_in es) pair why (held_front es there.0) (named_at n m bans es there.0 pair why are there.1 there.2)
 
--- a pair that is deleted in a front names pairs that are held in it
+-- a pair that is deleted in a front names pairs that are assigned in it
 pub front_named : (n m : ℕ) (bans : List Ban) (es : List Entry) (k : ℕ) (way : Pair) → k ≤ length es → AreJustified n m bans es → IsDeleted (take k es) way → IsNamedIn bans es (held_in (take k es)) way
 front_named n m bans es k way within are is =
     let there = is.1 in
@@ -82,7 +82,7 @@ one_place xs ys p i apart below is = by_order (cases_order i (length xs))
     by_order (inr (inl less)) = absurd (not_apart p (subst (λ (q : Pair). AreApart q p) is (subst (AreApart (get_or (xs ++ p ∷ ys) i p)) here (apart i (length xs) p less (omega (arith, size))))))
     by_order (inr (inr more)) = absurd (not_apart p (subst (λ (q : Pair). AreApart q p) here (subst (AreApart (get_or (xs ++ p ∷ ys) (length xs) p)) is (apart (length xs) i p more below))))
 
--- the held pairs before one are those that are held before its entry
+-- the assigned pairs before one are those that are assigned before its entry
 pub held_before : (es : List Entry) (place index : ℕ) (e : Entry) → AllPairs AreApart (held_in es) → place < length es → get_or es place e ≡ e → is_held e.fate ≡ true → index < length (held_in es) → get_or (held_in es) index e.pair ≡ e.pair → take index (held_in es) ≡ held_in (take place es)
 held_before es place index e apart below is held within there =
     let at : index ≡ length (held_in (take place es)) = one_place (held_in (take place es)) (held_in (drop (place + 1) es)) e.pair index (subst (AllPairs AreApart) split apart) (subst (λ (l : List Pair). index < length l) split within) (subst (λ (l : List Pair). get_or l index e.pair ≡ e.pair) split there) in
@@ -113,7 +113,7 @@ justified_later n m before added after es more are = record {
   each = λ place e below. fate_later n m before added after (take place es) (get_or es place e).pair (get_or es place e).fate more (are.each place e below);
 }
 
--- the ways of the port that forced a held pair, by its place among the held pairs
+-- the ways of the port that forced an assigned pair, by its place among the assigned pairs
 pub ways_before : (n m : ℕ) (bans : List Ban) (es : List Entry) (index : ℕ) (pair : Pair) (side : Side) → AllPairs AreApart (held_in es) → AreJustified n m bans es → Contains es (record { pair = pair; fate = Held (LastWay side) }) → index < length (held_in es) → get_or (held_in es) index pair ≡ pair → EachWay (port_of side pair) (ports_of n m pair.kind) (λ way. IsLeftOutOr (Some pair) way (IsNamedIn bans es (take index (held_in es)) way))
 ways_before n m bans es index pair side apart are there within is =
     let e : Entry = record { pair = pair; fate = Held (LastWay side) } in

@@ -1,4 +1,4 @@
--- Where the entries of held pairs stand, and what is held before a choice.
+-- Where the entries of assigned pairs stand, and what is assigned before a choice.
 use Rattle.std.proofs.Common.{◌≡◌, ◌≢◌, ◌⊎◌, ℕ, zero, suc, ◌+◌, ◌<◌, ◌≤◌, Bool, true, false, cond, List, [], ◌∷◌, ◌++◌, length, map, filter, get_or, take, All, AllPairs, Contains, refl, sym, ap, subst, ◌∙◌, inl, inr, arith}
 use Rattle.std.proofs.lemmas.Bool.{cases_lt, false≢true}
 use Rattle.std.proofs.lemmas.List.{get_or_default, get_or-take, length-take-le, take_more}
@@ -15,7 +15,7 @@ use Rattle.pair_domains.specs.declared.entry.Fate.{Fate}
 use Rattle.pair_domains.specs.declared.entry.Cause.TheVariants.{Choice, LastWay}
 use Rattle.pair_domains.specs.Trails.{AreDomains, AreEntries, Domained, IsOpen, IsPairOf, IsPlace, held_in, is_held}
 use Rattle.pair_domains.proofs.EntryLemmas.{held_more, one_entry}
-use Rattle.pair_search.specs.Conflicts.{FitPorts, HasNoChoice, IsChoiceAt, IsLastOf, IsLearned}
+use Rattle.pair_search.specs.ConflictSets.{FitPorts, HasNoChoice, IsChoiceAt, IsLastOf, IsLearned}
 use Rattle.pair_search.specs.Pivots.{IsSplit}
 use Rattle.circuits.specs.declared.port.PortKind.TheVariants.{Input}
 use Rattle.account_core.specs.declared.step.Ban.{Ban}
@@ -28,7 +28,7 @@ use Rattle.pair_search.proofs.ResolveLemmas.{up_to_last}
 use Rattle.ban_book.proofs.BookLemmas.{covers_wider}
 use Rattle.circuits.proofs.Lists.{contains_cons}
 
--- An entry by which a pair is held.
+-- An entry by which a pair is assigned.
 pub record IsSource (es : List Entry) (p : Pair) (e : Entry) : Type 0 where
   pub there : Contains es e
   pub held : is_held e.fate ≡ true
@@ -52,18 +52,18 @@ source_by : (x : Entry) (es : List Entry) (p : Pair) → (Contains (held_in es) 
 source_by x es p later true held here = source_at x es p later held here.0 here.1 here.2
 source_by x es p later false held here = let rest = later here in (rest.0, source_later x es p rest.0 rest.1)
 
--- each held pair has one
+-- each assigned pair has one
 pub source_of : (es : List Entry) (p : Pair) → Contains (held_in es) p → (e : Entry) × IsSource es p e
 source_of [] p there = absurd (omega (arith, there.1))
 source_of (x ∷ es) p there = source_by x es p (λ rest. source_of es p rest) (is_held x.fate) refl there
 
--- held pairs are of ports that exist
+-- assigned pairs are of ports that exist
 pub held_pair_of : (n m : ℕ) (es : List Entry) (p : Pair) → AreEntries n m es → Contains (held_in es) p → IsPairOf n m p
 held_pair_of n m es p are there =
     let s = source_of es p there in
     subst (IsPairOf n m) s.1.is (All-contains (λ (e : Entry). IsPairOf n m e.pair) es s.0 are.known s.1.there)
 
--- a held pair isn't open
+-- an assigned pair isn't open
 pub held_not_open : (es : List Entry) (p : Pair) → Contains (held_in es) p → IsOpen es p → ⊥
 held_not_open es p there none =
     let s = source_of es p there in
@@ -72,14 +72,14 @@ held_not_open es p there none =
 entry_at : (es : List Entry) (place : ℕ) (d : Entry) → place < length es → Contains es (get_or es place d)
 entry_at es place d below = (place, below, get_or_default es place (get_or es place d) d below)
 
--- the entry of a held pair says that it is held
+-- the entry of an assigned pair says that it is assigned
 pub placed_held : (es : List Entry) (p : Pair) (place : ℕ) (d : Entry) → AllPairs (λ (x y : Entry). x.pair ≢ y.pair) es → Contains (held_in es) p → IsPlace es p place → is_held (get_or es place d).fate ≡ true
 placed_held es p place d distinct there at =
     let s = source_of es p there in
     let same : get_or es place d ≡ s.0 = one_entry es (get_or es place d) s.0 distinct (entry_at es place d at.within) s.1.there (at.there d ∙ sym s.1.is) in
     ap (λ (e : Entry). is_held e.fate) same ∙ s.1.held
 
--- what is held up to an entry, and with it
+-- what is assigned up to an entry, and with it
 pub front_more : (es : List Entry) (held : List Pair) (place index : ℕ) (p : Pair) (d : Entry) → place < length es → index < length held → take index held ≡ held_in (take place es) → is_held (get_or es place d).fate ≡ true → (get_or es place d).pair ≡ get_or held index p → take (index + 1) held ≡ held_in (take (place + 1) es)
 front_more es held place index p d below within front kept same =
     take_more held index p within
@@ -87,7 +87,7 @@ front_more es held place index p d below within front kept same =
     ∙ (ap (λ q. held_in (take place es) ++ q ∷ []) (sym same)
     ∙ (sym (held_more (take place es) (get_or es place d) kept) ∙ ap held_in (sym (take_more es place d below)))))
 
--- all pairs but the latest are held up to the entry of the second latest
+-- all pairs but the latest are assigned up to the entry of the second latest
 pub others_before : (es : List Entry) (pairs : List Pair) (last second place : ℕ) (d : Pair) → last < length (held_in es) → All (Contains (take (last + 1) (held_in es))) pairs → IsLastOf (held_in es) last pairs second → take (second + 1) (held_in es) ≡ held_in (take place es) → All (Contains (get_or (held_in es) last d ∷ held_in (take place es))) pairs
 others_before es pairs last second place d below among last_is front k e inside =
     by_case (Contains-push_cases (take last (held_in es)) (get_or (held_in es) last d) (get_or pairs k e) (subst (λ (l : List Pair). Contains l (get_or pairs k e)) (take_more (held_in es) last d below) (among k e inside)))
@@ -134,7 +134,7 @@ split_own es pairs p last own distinct below is choice within last_is front amon
     by_case k e (inl early) = contains_cons (held_in (take own es)) p (get_or pairs k e) (subst (λ (l : List Pair). Contains l (get_or pairs k e)) front early)
     by_case k e (inr same) = (0, omega arith, same)
 
--- the held pairs are of ports that exist, and share none
+-- the assigned pairs are of ports that exist, and share none
 pub held_known : (graphs : Graphs) (n m : ℕ) (es : List Entry) → FitPorts graphs n m → AreEntries n m es → AreHeld graphs (held_in es)
 held_known graphs n m es fit are = record {
   known = λ k d below. known_of graphs n m (get_or (held_in es) k d) fit (held_pair_of n m es (get_or (held_in es) k d) are (k, below, get_or_default (held_in es) k (get_or (held_in es) k d) d below));
@@ -152,12 +152,12 @@ held_first graphs held k within are = record {
       subst (λ (p : Pair). AreApart p (get_or (take k held) j d)) (sym (get_or-take k held i d (omega (arith, less, early)))) (subst (AreApart (get_or held i d)) (sym (get_or-take k held j d early)) (are.apart i j d less (omega (arith, early, within))));
 }
 
--- a held pair, as it is lent
+-- an assigned pair, as it is lent
 pub lent_held : (held lent : List Pair) (index : ℕ) (d : Pair) → lent ≡ held → index < length held → Contains held (get_or lent index d)
 lent_held held lent index d same below =
     subst (λ (l : List Pair). Contains held (get_or l index d)) (sym same) (index, below, get_or_default held index (get_or held index d) d below)
 
--- the held pairs before one are those that are held before its entry
+-- the assigned pairs before one are those that are assigned before its entry
 pub front_of : (n m : ℕ) (es : List Entry) (place index : ℕ) (p : Pair) → AreEntries n m es → IsPlace es p place → Contains (held_in es) p → index < length (held_in es) → ((d : Pair) → get_or (held_in es) index d ≡ p) → take index (held_in es) ≡ held_in (take place es)
 front_of n m es place index p are at there below is =
     held_before es place index e are.apart at.within (get_or_default es place e d at.within) (placed_held es p place d are.distinct there at) below (is e.pair ∙ sym (at.there d))

@@ -51,13 +51,13 @@ first_of : (x : Entry) (es : List Entry) (b : Bool) → b ≡ true → Contains 
 first_of x es true held = (0, omega arith, refl)
 first_of x es false held = absurd (false≢true held)
 
--- the pair of an entry that holds it is held
+-- the pair of an entry that assigns it is assigned
 pub held_by : (es : List Entry) (k : ℕ) (d : Entry) → k < length es → is_held (get_or es k d).fate ≡ true → Contains (held_in es) (get_or es k d).pair
 held_by [] k d below held = absurd (omega (arith, below))
 held_by (x ∷ es) zero d below held = first_of x es (is_held x.fate) held
 held_by (x ∷ es) (suc k) d below held = wider x es (get_or es k d).pair (is_held x.fate) (held_by es k d (omega (arith, below)) held)
 
--- a pair of a port of which none is held is open, if it isn't deleted
+-- a pair of a port of which none is assigned is open, if it isn't deleted
 pub open_of_free : (es : List Entry) (side : Side) (kind : PortKind) (port : ℕ) (way : Pair) → IsFreePort es side kind port → way.kind ≡ kind → port_on side way ≡ port → (IsDeleted es way → ⊥) → IsOpen es way
 open_of_free es side kind port way free kind_is port_is left k d below same = by_fate (get_or es k d).fate refl
   where

@@ -1,4 +1,4 @@
--- Conflicts that are resolved on, one held pair after the other.
+-- Conflicts that are resolved on, one assigned pair after the other.
 use Rattle.std.proofs.Common.{◌≡◌, ◌≢◌, ◌⊎◌, ℕ, ◌+◌, ◌-◌, ◌<◌, ◌≤◌, List, [], ◌∷◌, length, get_or, take, All, Contains, refl, sym, subst, ◌∙◌, inl, inr, arith}
 use Rattle.std.proofs.lemmas.Bool.{cases_lt, cases_eq}
 use Rattle.std.proofs.lemmas.List.{get_or_default, get_or-take, length-take-le, take_more}
@@ -8,12 +8,12 @@ use Rattle.net_core.specs.Sides.{Graphs}
 use Rattle.account_core.specs.declared.step.Ban.{Ban}
 use Rattle.pair_domains.specs.declared.entry.Entry.{Entry}
 use Rattle.pair_domains.specs.Trails.{held_in}
-use Rattle.pair_search.specs.declared.conflict.Conflict.{Conflict}
-use Rattle.pair_search.specs.Conflicts.{IsConflict, IsLastOf}
+use Rattle.pair_search.specs.declared.conflict_set.ConflictSet.{ConflictSet}
+use Rattle.pair_search.specs.ConflictSets.{IsConflictSet, IsLastOf}
 use Rattle.pair_search.specs.Grounded.{LearnsMore}
 use Rattle.pair_search.proofs.GroundedLemmas.{learns_twice}
 
--- none of the held pairs from a place on, of the first ones, is one of some
+-- none of the assigned pairs from a place on, of the first ones, is one of some
 pub record ArePassed (held pairs : List Pair) (left limit : ℕ) : Type 0 where
   pub order : left ≤ limit
   pub none : (k : ℕ) (d : Pair) → left ≤ k → k < limit → Contains pairs (get_or held k d) → ⊥
@@ -38,12 +38,12 @@ passed_all held pairs left limit all few are k d below there =
     are.none k d (omega (arith, all)) inside (subst (Contains pairs) (get_or-take limit held k d inside) there)
 
 -- what a conflict is while it is resolved
-pub record IsResolving (graphs : Graphs) (entries : List Entry) (before now : List Ban) (conflict : Conflict) (limit : ℕ) : Type 0 where
+pub record IsResolving (graphs : Graphs) (entries : List Entry) (before now : List Ban) (conflict : ConflictSet) (limit : ℕ) : Type 0 where
   pub within : limit ≤ length (held_in entries)
-  pub conflict_is : IsConflict now (take limit (held_in entries)) conflict
+  pub conflict_is : IsConflictSet now (take limit (held_in entries)) conflict
   pub more : LearnsMore graphs entries before now
 
--- what is among the first held pairs, and none of the later ones, is among those up to the last
+-- what is among the first assigned pairs, and none of the later ones, is among those up to the last
 pub up_to_last : (held pairs : List Pair) (limit last : ℕ) (pair : Pair) → limit ≤ length held → IsLastOf held limit pairs last → Contains pairs pair → Contains (take limit held) pair → Contains (take (last + 1) held) pair
 up_to_last held pairs limit last pair few is here there =
     let k = there.0 in
@@ -56,7 +56,7 @@ up_to_last held pairs limit last pair few is here there =
           (k, omega (arith, inside, length-take-le (last + 1) held (omega (arith, is.within, few))), get_or-take (last + 1) held k pair inside ∙ at)
     ]
 
-pub resolving_at : (graphs : Graphs) (entries : List Entry) (before now : List Ban) (conflict : Conflict) (limit last : ℕ) → IsResolving graphs entries before now conflict limit → IsLastOf (held_in entries) limit conflict.pairs.items last → IsConflict now (take (last + 1) (held_in entries)) conflict
+pub resolving_at : (graphs : Graphs) (entries : List Entry) (before now : List Ban) (conflict : ConflictSet) (limit last : ℕ) → IsResolving graphs entries before now conflict limit → IsLastOf (held_in entries) limit conflict.pairs.items last → IsConflictSet now (take (last + 1) (held_in entries)) conflict
 resolving_at graphs entries before now conflict limit last is last_is = record {
   part = record {
     among = λ k d below. up_to_last (held_in entries) conflict.pairs.items limit last (get_or conflict.pairs.items k d) is.within last_is (k, below, get_or_default conflict.pairs.items k (get_or conflict.pairs.items k d) d below) (is.conflict_is.part.among k d below);
@@ -65,7 +65,7 @@ resolving_at graphs entries before now conflict limit last is last_is = record {
   covers = is.conflict_is.covers;
 }
 
-pub resolving_on : (graphs : Graphs) (entries : List Entry) (before now next : List Ban) (conflict other : Conflict) (limit last : ℕ) → IsResolving graphs entries before now conflict limit → last < limit → LearnsMore graphs entries now next → IsConflict next (take last (held_in entries)) other → IsResolving graphs entries before next other last
+pub resolving_on : (graphs : Graphs) (entries : List Entry) (before now next : List Ban) (conflict other : ConflictSet) (limit last : ℕ) → IsResolving graphs entries before now conflict limit → last < limit → LearnsMore graphs entries now next → IsConflictSet next (take last (held_in entries)) other → IsResolving graphs entries before next other last
 resolving_on graphs entries before now next conflict other limit last is less more there = record {
   within = omega (arith, less, is.within);
   conflict_is = there;
@@ -81,12 +81,12 @@ part_without held place way pairs fewer below is among stays gone k d inside =
     by_case (inl early) = early
     by_case (inr same) = absurd (gone k d inside (sym same ∙ is way))
 
--- a conflict of none of the held pairs
+-- a conflict of none of the assigned pairs
 pub none_left : (pairs held : List Pair) → All (Contains held) pairs → All (λ pair. Contains pairs pair → ⊥) held → pairs ≡ []
 none_left [] held among none = refl
 none_left (p ∷ pairs) held among none = absurd (All-contains (λ (x : Pair). Contains (p ∷ pairs) x → ⊥) held p none (among 0 p (omega arith)) (0, omega arith, refl))
 
--- the last of the held pairs, as they are lent
+-- the last of the assigned pairs, as they are lent
 pub last_lent : (held lent pairs pairs_lent : List Pair) (limit last : ℕ) → lent ≡ held → pairs_lent ≡ pairs → IsLastOf lent limit pairs_lent last → IsLastOf held limit pairs last
 last_lent held lent pairs pairs_lent limit last one two is =
     subst (λ (l : List Pair). IsLastOf l limit pairs last) one (subst (λ (ps : List Pair). IsLastOf lent limit ps last) two is)

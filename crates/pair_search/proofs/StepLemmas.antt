@@ -22,7 +22,7 @@ use Rattle.pair_domains.specs.declared.entry.Reason.TheVariants as reason
 use Rattle.pair_domains.specs.Numbers.{pairs_of_ports}
 use Rattle.pair_domains.specs.Trails.{AreEntries, Domained, IsOpen, IsPairOf, held_in, ports_of}
 use Rattle.ban_book.specs.Covering.{Covers}
-use Rattle.pair_search.specs.Conflicts.{FitPorts, HasNoChoice, IsChoiceAt}
+use Rattle.pair_search.specs.ConflictSets.{FitPorts, HasNoChoice, IsChoiceAt}
 use Rattle.pair_search.specs.Grounded.{AreGrounded, IsGrounded, StayGrounded}
 use Rattle.pair_search.specs.Justified.{AreJustified, IsJustified}
 use Rattle.pair_search.proofs.GroundedLemmas.{grounded_front, stay_front, stay_none, stay_push, stay_twice}
@@ -59,7 +59,7 @@ propagates_two bans one two three first second = record {
   less = omega (arith, first.less, second.less);
 }
 
--- a held pair stays held
+-- an assigned pair stays assigned
 pub stays_held : (bans : List Ban) (before after : Domained) (p : Pair) → Propagates bans before after → Contains (held_in before.entries) p → Contains (held_in after.entries) p
 stays_held bans before after p goes there =
     subst (λ (l : List Pair). Contains l p) (sym (ap held_in goes.more ∙ held_append before.entries goes.added)) (Contains-append_left (held_in before.entries) (held_in goes.added) p there)
@@ -111,7 +111,7 @@ one_more_of before after e is = record {
   entries = ap (λ (d : Domained). d.entries) is;
 }
 
--- a pair that is open where another one of its kind is held, and that shares a port with it, clashes with it
+-- a pair that is open where another one of its kind is assigned, and that shares a port with it, clashes with it
 pub clash_of : (es : List Entry) (held way : Pair) → Contains (held_in es) held → IsOpen es way → held.kind ≡ way.kind → (held.from ≡ way.from) ⊎ (held.to ≡ way.to) → Clash held way
 clash_of es held way there is kind share = record {
   same_kind = kind;
@@ -156,7 +156,7 @@ front_grounded before after place is = record {
   stay = λ graphs facts are. subst (λ (d : Domained). AreGrounded graphs facts d.entries) (sym is) (grounded_front graphs facts before.entries place are);
 }
 
--- what is held and deleted stays as it is
+-- what is assigned and deleted stays as it is
 pub stays_none : (bans : List Ban) (d : Domained) → AreJustified d.inputs d.outputs bans d.entries → StaysJustified bans d d
 stays_none bans d are = record {
   inputs = refl;

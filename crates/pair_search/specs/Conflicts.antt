@@ -1,54 +1,33 @@
--- Conflicts of assigned pairs, and where to go back to (conflict clauses and the first unique implication point: Marques-Silva and Sakallah, GRASP, 1999).
-use Rattle.std.specs.Prelude.{◌≡◌, ◌≢◌, ℕ, ◌<◌, ◌≤◌, List, [], ◌∷◌, length, take, Contains, slice_index_or}
-use Rattle.circuits.specs.declared.port.Pair.{Pair}
-use Rattle.net_core.specs.Sides.{Graphs}
+-- Conflicts: why the search can't go on.
+use Rattle.std.specs.Prelude.{List, All, Option, Result, IfOk, IfSome, OnOk}
 use Rattle.account_core.specs.declared.step.Ban.{Ban}
-use Rattle.account_core.specs.Ports.{HaveAsMany}
 use Rattle.ban_book.specs.Covering.{Covers}
-use Rattle.account_core.specs.Held.{IsPart}
-use Rattle.pair_domains.specs.declared.entry.Entry.{Entry}
-use Rattle.pair_domains.specs.declared.entry.Fate.TheVariants.{Held}
-use Rattle.pair_domains.specs.declared.entry.Cause.TheVariants.{Choice}
-use Rattle.pair_domains.specs.Trails.{Domained, IsOpen, IsPairOf, held_in}
+use Rattle.ban_book.specs.declared.block.Block.{Block}
+use Rattle.ban_book.specs.Ways.{ways_in, IsBlock}
+use Rattle.pair_domains.specs.Trails.{Domained, IsDeleted, held_in, ports_of}
+use Rattle.pair_search.specs.declared.port.Port.{Port}
+use Rattle.pair_search.specs.Named.{EachWay, IsPortOf}
+use Rattle.pair_search.specs.Progress.{Propagates}
 use Rattle.pair_search.specs.declared.conflict.Conflict.{Conflict}
-use Rattle.pair_search.specs.declared.learned.Back.{Back}
-use Rattle.pair_search.specs.declared.learned.LearnedBan.{LearnedBan}
-use Rattle.pair_search.specs.declared.learned.LearnedBan.TheVariants as learned
+use Rattle.pair_search.specs.declared.conflict.Conflict.TheVariants as conflict
 
--- Both circuits have this many inputs and outputs.
-pub record FitPorts (graphs : Graphs) (inputs outputs : ℕ) : Type 0 where
-  pub many : HaveAsMany graphs.first graphs.second
-  pub inputs_are : graphs.first.inputs ≡ inputs
-  pub outputs_are : length graphs.first.outputs ≡ outputs
+-- All ways of a port are deleted.
+pub record HasNoWay (domains : Domained) (port : Port) : Type 0 where
+  pub there : IsPortOf domains port
+  pub each : EachWay port (ports_of domains.inputs domains.outputs port.kind) (IsDeleted domains.entries)
 
--- Some of the assigned pairs, in order, and a ban that has no other pairs.
-pub record IsConflict (bans : List Ban) (held : List Pair) (conflict : Conflict) : Type 0 where
-  pub part : IsPart held conflict.pairs.items
-  pub covers : Covers bans conflict.pairs.items conflict.ban
+-- All ways of a block are deleted.
+pub record HasNoWays (domains : Domained) (block : Block) : Type 0 where
+  pub is_block : IsBlock (ports_of domains.inputs domains.outputs block.kind) block
+  pub each : All (IsDeleted domains.entries) (ways_in block)
 
--- The last of the first assigned pairs that is one of some.
-pub record IsLastOf (held : List Pair) (limit : ℕ) (pairs : List Pair) (place : ℕ) : Type 0 where
-  pub within : place < limit
-  pub is : (d : Pair) → Contains pairs (slice_index_or held place d)
-  pub later : (k : ℕ) (d : Pair) → place < k → k < limit → Contains pairs (slice_index_or held k d) → ⊥
+-- all pairs of a ban are assigned, or all ways of a port or of a block are deleted
+abbrev pub IsConflict : List Ban → Domained → Conflict → Type 0
+IsConflict bans domains (conflict.Ban number) = Covers bans (held_in domains.entries) number
+IsConflict bans domains (conflict.Port port) = HasNoWay domains port
+IsConflict bans domains (conflict.Block block) = HasNoWays domains block
 
--- The entry at a place is of a pair that was chosen.
-pub record IsChoiceAt (entries : List Entry) (place : ℕ) : Type 0 where
-  pub within : place < length entries
-  pub chosen : (d : Entry) → (slice_index_or entries place d).fate ≡ Held Choice
-
--- No entry from one place on, and before another, is of a pair that was chosen.
-pub record HasNoChoice (entries : List Entry) (from to : ℕ) : Type 0 where
-  pub none : (k : ℕ) (d : Entry) → from ≤ k → k < to → (slice_index_or entries k d).fate ≢ Held Choice
-
--- Before a choice a pair is open, and a ban has no other pairs than it and those that are assigned there.
-pub record IsBack (bans : List Ban) (domains : Domained) (back : Back) : Type 0 where
-  pub choice : IsChoiceAt domains.entries back.place
-  pub known : IsPairOf domains.inputs domains.outputs back.pair
-  pub open' : IsOpen (take back.place domains.entries) back.pair
-  pub covers : Covers bans (back.pair ∷ held_in (take back.place domains.entries)) back.ban
-
--- what a conflict comes to: a ban without pairs, or where to go back to
-abbrev pub IsLearned : List Ban → Domained → LearnedBan → Type 0
-IsLearned bans domains (learned.Refusal number) = Covers bans [] number
-IsLearned bans domains (learned.Back back) = IsBack bans domains back
+-- What propagating does: pairs were assigned and deleted as it follows, and what is answered is a conflict.
+pub record Follows {E : Type 0} (bans : List Ban) (before after : Domained) (result : Result (Option Conflict) E) : Type 0 where
+  pub propagates : OnOk result (Propagates bans before after)
+  pub conflict : IfOk result (λ found. IfSome found (IsConflict bans after))

@@ -13,7 +13,7 @@ use Rattle.pair_domains.specs.declared.entry.Fate.{Fate}
 use Rattle.pair_domains.specs.declared.entry.Fate.TheVariants.{Held, Deleted}
 use Rattle.pair_domains.specs.Trails.{Domained, IsDeleted, held_in, ports_of}
 use Rattle.pair_search.specs.declared.port.Port.{Port}
-use Rattle.pair_search.specs.Conflicts.{FitPorts}
+use Rattle.pair_search.specs.ConflictSets.{FitPorts}
 use Rattle.pair_search.specs.Named.{AreNamed, EachWay, IsLeftOutOr}
 
 -- a pair's port of a circuit

@@ -1,9 +1,9 @@
 pub mod Progress
-pub mod Impasses
+pub mod Conflicts
 pub use Rattle.pair_domains.specs.Trails
 pub mod Named
 pub mod Resolutions
-pub mod Conflicts
+pub mod ConflictSets
 pub mod Justified
 pub mod Grounded
 pub mod Deletions

@@ -7,7 +7,7 @@ use Rattle.pair_domains.specs.declared.entry.Cause.TheVariants.{LastWay}
 use Rattle.pair_domains.specs.Trails.{IsOpen, held_in}
 use Rattle.pair_search.specs.declared.resolution.Pivot.{Pivot}
 use Rattle.pair_search.specs.declared.resolution.Pivot.TheVariants as pivot
-use Rattle.pair_search.specs.Conflicts.{IsChoiceAt}
+use Rattle.pair_search.specs.ConflictSets.{IsChoiceAt}
 
 -- Before a choice one pair is open, and all others are assigned.
 pub record IsSplit (entries : List Entry) (pairs : List Pair) (pair : Pair) (place : ℕ) : Type 0 where

@@ -5,13 +5,13 @@ ghost use Rattle.account_core.specs.declared.step.Ban.{Ban as AnyBan};
 ghost use Rattle.account_core.specs.Shown.{IsEmptyBan};
 ghost use Rattle.ban_book.specs.Covering.{Covers};
 ghost use Rattle.pair_domains.specs.Trails.{IsOpen, IsPairOf, held_in};
-ghost use Rattle.pair_search.specs.Conflicts.{IsChoiceAt, IsLearned};
+ghost use Rattle.pair_search.specs.ConflictSets.{IsChoiceAt, IsLearned};
 ghost use Rattle.pair_search.specs.Grounded.{LearnsMore, StayGrounded};
 ghost use Rattle.pair_search.specs.Justified.{IsJustifiedTrail};
-ghost use Rattle.pair_search.specs.Impasses.{IsImpasse};
+ghost use Rattle.pair_search.specs.Conflicts.{IsConflict};
 ghost use Rattle.pair_search.specs.Progress.{IsTrail, StaysJustified, left, level_zero};
 
-use crate::impasse::{Impasse, conflict_of};
+use crate::conflict::{Conflict, conflict_set_of};
 use crate::queue::Queue;
 use crate::{Back, LearnedBan, Mismatches, choice_between, resolve};
 use account_core::PairableGraphs;
@@ -19,7 +19,7 @@ use ban_book::BanBook;
 use pair_domains::{Domains, Reason};
 use std::alloc::{AllocError, Global};
 
-/// Goes back from an impasse: resolves the conflict to a ban, and deletes its latest pair at the last choice before
+/// Goes back from a conflict: resolves it to a ban, and deletes the ban's latest pair at the last choice before
 /// which all others are assigned. It answers a ban without pairs where there is no such choice. Less is left than
 /// before.
 pub fn turn_back(
@@ -27,11 +27,11 @@ pub fn turn_back(
     graphs: &PairableGraphs<'_>,
     domains: &mut Domains,
     queue: &mut Queue,
-    impasse: Impasse,
+    conflict: Conflict,
     book: &mut BanBook,
 ) -> Result<Option<u64>, AllocError>
     requires trail { IsTrail graphs.now book.old domains.old }
-    requires impasse { IsImpasse book.old domains.old impasse }
+    requires conflict { IsConflict book.old domains.old conflict }
     ensures more { LearnsMore graphs.now domains.old.entries book.old book.new }
     ensures trail { OnOk result (IsTrail graphs.now book.new domains.new) }
     ensures grounded { OnOk result (StayGrounded domains.old.entries domains.new.entries) }
@@ -39,7 +39,7 @@ pub fn turn_back(
     ensures refusal { IfOk result (λ refusal. IfSome refusal (IsEmptyBan book.new)) }
 {
     queue.add_new(domains, book.bans())?;
-    match learn(alloc, graphs, domains, impasse, &mut queue.made, book)? {
+    match learn(alloc, graphs, domains, conflict, &mut queue.made, book)? {
         LearnedBan::Refusal(ban) => Ok(Some(ban)),
         LearnedBan::Back(back) => {
             queue.add_learned(domains, book.bans(), back.ban)?;
@@ -64,23 +64,23 @@ pub fn start_over(domains: &mut Domains, queue: &mut Queue)
     }
 }
 
-// What the conflict of an impasse is resolved to.
+// What a conflict is resolved to.
 fn learn(
     alloc: Global,
     graphs: &PairableGraphs<'_>,
     domains: &Domains,
-    impasse: Impasse,
+    conflict: Conflict,
     made: &mut Mismatches,
     book: &mut BanBook,
 ) -> Result<LearnedBan, AllocError>
     requires trail { IsTrail graphs.now book.old domains.now }
-    requires impasse { IsImpasse book.old domains.now impasse }
+    requires conflict { IsConflict book.old domains.now conflict }
     ensures more { LearnsMore graphs.now domains.now.entries book.old book.new }
     ensures trail { IsTrail graphs.now book.new domains.now }
     ensures learned { IfOk result (IsLearned book.new domains.now) }
 {
-    let conflict = conflict_of(alloc, graphs, domains, impasse, made, book)?;
-    let learned = resolve(alloc, graphs, domains, conflict, made, book)?;
+    let set = conflict_set_of(alloc, graphs, domains, conflict, made, book)?;
+    let learned = resolve(alloc, graphs, domains, set, made, book)?;
     Ok(learned)
 }
 

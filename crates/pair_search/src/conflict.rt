@@ -1,127 +1,71 @@
-//! Assigned pairs that no match has all of, and covers that say so.
-
-ghost use Rattle.std.specs.Prelude.{◌≡◌, All, AllPairs, Contains, IfOk, OnOk};
-ghost use Rattle.ban_book.specs.Covering.{Covers};
-ghost use Rattle.account_core.specs.Held.{AreApart, AreHeld, IsPart};
-ghost use Rattle.ban_book.specs.Ways.{IsBlock, ways_in};
-ghost use Rattle.pair_domains.specs.Trails.{ports_of};
-ghost use Rattle.pair_search.specs.Conflicts.{FitPorts, IsConflict};
+ghost use Rattle.std.specs.Prelude.{◌≡◌, IfOk};
+ghost use Rattle.pair_domains.specs.Trails.{held_in};
+ghost use Rattle.pair_search.specs.ConflictSets.{IsConflictSet};
 ghost use Rattle.pair_search.specs.Grounded.{LearnsMore};
-ghost use Rattle.pair_search.specs.Named.{AreAllNamed, AreWaysNamed, IsPortOf};
-ghost use Rattle.pair_search.specs.Resolutions.{LeadsIntoBan, left_out};
+ghost use Rattle.pair_search.specs.Justified.{IsTrail};
+ghost use Rattle.pair_search.specs.Conflicts.{IsConflict};
 
-use crate::gather::gather;
-use crate::mismatch::Mismatches;
-use crate::port::{Port, Resolved};
-use crate::refer::{NotedWays, refer};
+use crate::conflict_set::{cover_block, cover_port};
 use crate::view::TrailView;
-use account_core::Ban;
+use crate::{ConflictSet, Mismatches, Port, conflict_set_of_ban};
+use account_core::PairableGraphs;
 use ban_book::BanBook;
-use ban_book::block::{Block, block_of, ways_in};
-use ban_book::cover::{add_one, hold_cover};
-use circuits::Pair;
+use ban_book::block::Block;
+use pair_domains::Domains;
 use std::alloc::{AllocError, Global};
 
-/// Assigned pairs, in the order that bans have, and the number of a ban that has no other pairs.
-#[derive(Debug, Drop)]
-pub struct Conflict {
-    pub pairs: Vec<Pair>,
-    pub ban: u64,
+/// Why the search can't go on. Its pairs, with the ban that says so, are a `ConflictSet`.
+#[derive(Debug, Drop, PartialEq, Eq)]
+pub enum Conflict {
+    /// All pairs of the ban of this number are assigned.
+    Ban(u64),
+    /// All ways of the port are deleted.
+    Port(Port),
+    /// All ways between ports of both circuits are deleted, of which one has to be assigned.
+    Block(Block),
 }
 
-/// Adds to pairs those that a port's ways need to be excluded, makes the ban that says so, and answers both. Each way
-/// of the port was deleted for a reason that names assigned pairs alone; or it is the one that is resolved on, which
-/// leads into a ban beside the given pairs.
-pub(crate) fn cover_port(
-    view: &TrailView<'_>,
-    port: Port,
-    resolved: Option<Resolved>,
-    pairs: Vec<Pair>,
-    made: &mut Mismatches,
-    book: &mut BanBook,
-) -> Result<Conflict, AllocError>
-    requires fit { FitPorts view.now.graphs.now view.now.domains.now.inputs view.now.domains.now.outputs }
-    requires there { IsPortOf view.now.domains.now port }
-    requires held { AreHeld view.now.graphs.now view.now.held.now }
-    requires named { AreWaysNamed book.old view.now.domains.now port (left_out resolved) view.now.held.now }
-    requires part { IsPart view.now.held.now pairs.items }
-    requires resolved { LeadsIntoBan book.old pairs.items resolved }
-    ensures more { LearnsMore view.now.graphs.now view.now.domains.now.entries book.old book.new }
-    ensures conflict { IfOk result (IsConflict book.new view.now.held.now) }
-{
-    let count = view.domains.ports(port.kind);
-    let block = block_of(view.alloc, port.side, port.kind, port.number, count)?;
-    cover_block(view, block, resolved, pairs, made, book)
-}
-
-/// The same for a block: ports of both circuits that are together more than either circuit has.
-pub(crate) fn cover_block(
-    view: &TrailView<'_>,
-    block: Block,
-    resolved: Option<Resolved>,
-    pairs: Vec<Pair>,
-    made: &mut Mismatches,
-    book: &mut BanBook,
-) -> Result<Conflict, AllocError>
-    requires fit { FitPorts view.now.graphs.now view.now.domains.now.inputs view.now.domains.now.outputs }
-    requires block { IsBlock (ports_of view.now.domains.now.inputs view.now.domains.now.outputs block.kind) block }
-    requires held { AreHeld view.now.graphs.now view.now.held.now }
-    requires named { AreAllNamed book.old view.now.domains.now.entries (ways_in block) (left_out resolved)
-        view.now.held.now }
-    requires part { IsPart view.now.held.now pairs.items }
-    requires resolved { LeadsIntoBan book.old pairs.items resolved }
-    ensures more { LearnsMore view.now.graphs.now view.now.domains.now.entries book.old book.new }
-    ensures conflict { IfOk result (IsConflict book.new view.now.held.now) }
-{
-    let ways = ways_in(view.alloc, &block)?;
-    let mut pairs = pairs;
-    let skipped = way_of(resolved);
-    let bans = gather(view, book.bans(), &ways, skipped, made, &mut pairs)?;
-    let noted = NotedWays {
-        ways: &ways,
-        bans: &bans,
-    };
-    let refs = refer(view, &noted, &pairs, resolved, made, book)?;
-    let ban = hold_cover(view.alloc, view.graphs, &pairs, block, refs, book)?;
-    Ok(Conflict { pairs, ban })
-}
-
-/// The conflict of a ban all of whose pairs are assigned.
-pub fn conflict_of_ban(
-    alloc: Global,
-    held: &[Pair],
-    bans: &[Ban],
-    number: u64,
-) -> Result<Conflict, AllocError>
-    requires apart { AllPairs AreApart held.now }
-    requires covers { Covers bans.now held.now number }
-    ensures { IfOk result (IsConflict bans.now held.now) }
-{
-    let mut pairs = Vec::new(alloc);
-    add_all(&mut pairs, held, &bans[number as usize].pairs)?;
-    Ok(Conflict { pairs, ban: number })
-}
-
-// Adds assigned pairs to some of them.
-fn add_all(needed: &mut Vec<Pair>, held: &[Pair], pairs: &[Pair]) -> Result<(), AllocError>
-    requires part { IsPart held.now needed.old.items }
-    requires apart { AllPairs AreApart held.now }
-    requires among { All (Contains held.now) pairs.now }
-    ensures part { OnOk result (IsPart held.now needed.new.items) }
-    ensures among { OnOk result (All (Contains needed.new.items) pairs.now) }
-{
-    for pair in pairs.iter() {
-        add_one(needed, held, *pair)?;
+impl Conflict {
+    /// The number of the ban that it is, if it is one.
+    pub fn ban(&self) -> Option<u64> {
+        match self {
+            Conflict::Ban(number) => Some(*number),
+            _ => None,
+        }
     }
-    Ok(())
 }
 
-// The way that is resolved on.
-fn way_of(resolved: Option<Resolved>) -> Option<Pair>
-    ensures { result ≡ left_out resolved }
+/// The assigned pairs of a conflict, which no match has all of, with the ban that says so.
+///
+/// # Errors
+///
+/// When out of memory.
+pub fn conflict_set_of(
+    alloc: Global,
+    graphs: &PairableGraphs<'_>,
+    domains: &Domains,
+    conflict: Conflict,
+    made: &mut Mismatches,
+    book: &mut BanBook,
+) -> Result<ConflictSet, AllocError>
+    requires trail { IsTrail graphs.now book.old domains.now }
+    requires conflict { IsConflict book.old domains.now conflict }
+    ensures more { LearnsMore graphs.now domains.now.entries book.old book.new }
+    ensures conflict { IfOk result (IsConflictSet book.new (held_in domains.now.entries)) }
 {
-    match resolved {
-        Some(resolved) => Some(resolved.way),
-        None => None,
+    // the assigned pairs are of ports that exist, and share none
+    let _lawful = domains.entries();
+    let held = domains.pairs();
+    let view = TrailView {
+        alloc,
+        graphs,
+        domains,
+        held,
+    };
+    let none = Vec::new(alloc);
+    match conflict {
+        Conflict::Ban(number) => conflict_set_of_ban(alloc, held, book.bans(), number),
+        Conflict::Port(port) => cover_port(&view, port, None, none, made, book),
+        Conflict::Block(block) => cover_block(&view, block, None, none, made, book),
     }
 }

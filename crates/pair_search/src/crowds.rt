@@ -3,7 +3,7 @@
 ghost use Rattle.std.specs.Prelude.{All, IfOk, IfSome, IsTrue};
 ghost use Rattle.ban_book.specs.Ways.{IsBlock};
 ghost use Rattle.pair_domains.specs.Trails.{IsDeleted, IsPairOf, ports_of};
-ghost use Rattle.pair_search.specs.Impasses.{HasNoWays};
+ghost use Rattle.pair_search.specs.Conflicts.{HasNoWays};
 
 use crate::partners::Partners;
 use ban_book::block::{Block, marked, ways_in};

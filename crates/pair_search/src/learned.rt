@@ -1,5 +1,3 @@
-//! What a conflict is resolved to.
-
 use circuits::Pair;
 
 /// Where to go back to: before the choice whose entry stands at this place. There the pair is open, and the ban has no

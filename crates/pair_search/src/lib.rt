@@ -4,10 +4,10 @@
 mod back;
 mod clashes;
 mod conflict;
+mod conflict_set;
 mod crowds;
 mod deletion;
 mod gather;
-mod impasse;
 mod learned;
 mod mismatch;
 mod partners;
@@ -21,9 +21,9 @@ mod units;
 mod view;
 
 pub use back::{start_over, turn_back};
-pub use conflict::{Conflict, conflict_of_ban};
+pub use conflict::{Conflict, conflict_set_of};
+pub use conflict_set::{ConflictSet, conflict_set_of_ban};
 pub use deletion::{Deletion, deletion_of};
-pub use impasse::{Impasse, conflict_of};
 pub use learned::{Back, LearnedBan};
 pub use mismatch::Mismatches;
 pub use port::{Port, Resolved};

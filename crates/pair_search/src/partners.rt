@@ -25,8 +25,7 @@ pub(crate) struct Partners {
     before: Vec<u32>,
 }
 
-// By hand, and so one call wherever a value ends: a derived drop is expanded there, field by field, and makes proofs
-// long.
+// By hand, so that each exit of a function has one call for it (docs/IDIOMS.md).
 impl Drop for Partners {
     fn drop(self) {
         let Partners {
@@ -85,7 +84,7 @@ impl Partners {
         Ok(marks)
     }
 
-    // Parts the ports that have no way to each other any more.
+    // Takes partners apart that have no way to each other any more.
     fn part(&mut self, domains: &Domains) {
         for port in 0..self.count {
             let partner = at(&self.first, port);

@@ -8,11 +8,11 @@ ghost use Rattle.account_core.specs.Tallies.{port_on};
 ghost use Rattle.pair_domains.specs.Trails.{IsDeleted, IsFreePort, IsOpen, IsPairOf, held_in, ports_of};
 ghost use Rattle.pair_search.specs.Justified.{IsJustifiedTrail};
 ghost use Rattle.pair_search.specs.Named.{IsPortOf};
-ghost use Rattle.pair_search.specs.Impasses.{HasNoWay, IsImpasse};
+ghost use Rattle.pair_search.specs.Conflicts.{HasNoWay, IsConflict};
 ghost use Rattle.pair_search.specs.Progress.{Propagates, StaysJustified, left};
 
 use crate::Port;
-use crate::impasse::Impasse;
+use crate::conflict::Conflict;
 use account_core::Ban;
 use ban_book::ways::nth_way;
 use circuits::Pair;
@@ -50,24 +50,24 @@ pub(crate) fn apply_port(
 }
 
 /// Decides a port of which no pair is assigned: assigns the first of its ways that isn't deleted; or deletes it, if it
-/// shares its other port with an assigned pair. It answers an impasse where all are deleted.
-pub fn branch(domains: &mut Domains, port: Port) -> Result<Option<Impasse>, AllocError>
+/// shares its other port with an assigned pair. It answers a conflict where all are deleted.
+pub fn branch(domains: &mut Domains, port: Port) -> Result<Option<Conflict>, AllocError>
     requires there { IsPortOf domains.old port }
     requires free { IsFreePort domains.old.entries port.side port.kind port.number }
     ensures stays { (bans : List AnyBan)
         → IsJustifiedTrail bans domains.old
         → OnOk result (StaysJustified bans domains.old domains.new) }
     ensures less { IfOk result (λ found. IfNone found (left domains.new < left domains.old)) }
-    ensures stuck { IfOk result (λ found. IfSome found (λ impasse. domains.new ≡ domains.old)) }
-    ensures impasse { IfOk result (λ found. IfSome found (λ impasse.
-        (bans : List AnyBan) → IsImpasse bans domains.new impasse)) }
+    ensures stuck { IfOk result (λ found. IfSome found (λ conflict. domains.new ≡ domains.old)) }
+    ensures conflict { IfOk result (λ found. IfSome found (λ conflict.
+        (bans : List AnyBan) → IsConflict bans domains.new conflict)) }
 {
     // no pair has two entries
     let _lawful = domains.entries();
     // No way is preferred to the first one: what tells ways apart was tried by guesses before, and where there is no
     // match each way has to be excluded, in any order. No other order was measured.
     let Some(number) = remaining(domains, port, 0) else {
-        return Ok(Some(Impasse::Port(port)));
+        return Ok(Some(Conflict::Port(port)));
     };
     let way = way_of(domains, port, number);
     match holder(domains, way) {

@@ -3,12 +3,12 @@
 ghost use Rattle.std.specs.Prelude.{◌≡◌, ◌<◌};
 ghost use Rattle.pair_domains.specs.Trails.{ports_of};
 ghost use Rattle.pair_search.specs.Justified.{IsJustifiedTrail};
-ghost use Rattle.pair_search.specs.Impasses.{Follows};
+ghost use Rattle.pair_search.specs.Conflicts.{Follows};
 
 use crate::Port;
 use crate::clashes::delete_ways;
+use crate::conflict::Conflict;
 use crate::crowds::crowd;
-use crate::impasse::Impasse;
 use crate::ports::apply_port;
 use crate::queue::Queue;
 use crate::units::{apply, is_held, is_known};
@@ -19,7 +19,7 @@ use pair_domains::{Domains, Entry, Fate};
 use std::alloc::{AllocError, Global};
 
 /// The conflict, if one was found.
-type Followed = Result<Option<Impasse>, AllocError>;
+type Followed = Result<Option<Conflict>, AllocError>;
 
 /// Assigns and deletes what follows, until nothing follows or there is a conflict. Pairs that share a port with an
 /// assigned one are deleted, and so is the last pair of a ban whose other pairs are assigned; the last way of a port is
@@ -29,15 +29,15 @@ pub fn propagate(
     domains: &mut Domains,
     queue: &mut Queue,
     bans: &[Ban],
-) -> Result<Option<Impasse>, AllocError>
+) -> Result<Option<Conflict>, AllocError>
     requires justified { IsJustifiedTrail bans.now domains.old }
     ensures { Follows bans.now domains.old domains.new result }
 {
-    if let Some(impasse) = follow_all(domains, queue, bans)? {
-        return Ok(Some(impasse));
+    if let Some(conflict) = follow_all(domains, queue, bans)? {
+        return Ok(Some(conflict));
     }
     match crowd(alloc, domains, &mut queue.partners)? {
-        Some(block) => Ok(Some(Impasse::Block(block))),
+        Some(block) => Ok(Some(Conflict::Block(block))),
         None => Ok(None),
     }
 }
@@ -47,16 +47,16 @@ fn follow_all(domains: &mut Domains, queue: &mut Queue, bans: &[Ban]) -> Followe
     requires justified { IsJustifiedTrail bans.now domains.old }
     ensures { Follows bans.now domains.old domains.new result }
 {
-    if let Some(impasse) = apply_new(domains, queue, bans)? {
-        return Ok(Some(impasse));
+    if let Some(conflict) = apply_new(domains, queue, bans)? {
+        return Ok(Some(conflict));
     }
     while queue.head < domains.entries().len() {
         let place = queue.head;
         let entry = domains.entries()[place];
         let found = follow(domains, queue, bans, entry)?;
         queue.head = place + 1;
-        if let Some(impasse) = found {
-            return Ok(Some(impasse));
+        if let Some(conflict) = found {
+            return Ok(Some(conflict));
         }
     }
     Ok(None)
@@ -70,8 +70,8 @@ fn apply_new(domains: &mut Domains, queue: &mut Queue, bans: &[Ban]) -> Followed
     for number in queue.seen..bans.len() {
         queue.add(domains, &bans[number], number as u64)?;
         queue.seen = number + 1;
-        if let Some(impasse) = apply_ban(domains, bans, number as u64)? {
-            return Ok(Some(impasse));
+        if let Some(conflict) = apply_ban(domains, bans, number as u64)? {
+            return Ok(Some(conflict));
         }
     }
     Ok(None)
@@ -86,7 +86,7 @@ fn apply_ban(domains: &mut Domains, bans: &[Ban], number: u64) -> Followed
         return Ok(None);
     }
     if apply(domains, bans, number)? {
-        return Ok(Some(Impasse::Ban(number)));
+        return Ok(Some(Conflict::Ban(number)));
     }
     Ok(None)
 }
@@ -97,13 +97,13 @@ fn follow(domains: &mut Domains, queue: &mut Queue, bans: &[Ban], entry: Entry) 
     ensures { Follows bans.now domains.old domains.new result }
 {
     match entry.fate {
-        Fate::Held(_) => follow_held(domains, queue, bans, entry.pair),
+        Fate::Held(_) => follow_assigned(domains, queue, bans, entry.pair),
         Fate::Deleted(_) => follow_deleted(domains, bans, entry.pair),
     }
 }
 
 // What follows of a pair that is assigned.
-fn follow_held(domains: &mut Domains, queue: &mut Queue, bans: &[Ban], pair: Pair) -> Followed
+fn follow_assigned(domains: &mut Domains, queue: &mut Queue, bans: &[Ban], pair: Pair) -> Followed
     requires justified { IsJustifiedTrail bans.now domains.old }
     ensures { Follows bans.now domains.old domains.new result }
 {
@@ -126,9 +126,9 @@ fn apply_bans(domains: &mut Domains, queue: &mut Queue, bans: &[Ban], pair: Pair
         let Some(watcher) = queue.watcher_at(place) else {
             return Ok(None);
         };
-        if let Some(impasse) = apply_watcher(domains, queue, bans, pair, place)? {
+        if let Some(conflict) = apply_watcher(domains, queue, bans, pair, place)? {
             keep_all(queue, pair, watcher.before);
-            return Ok(Some(impasse));
+            return Ok(Some(conflict));
         }
         place = watcher.before;
     }
@@ -212,8 +212,8 @@ fn follow_deleted(domains: &mut Domains, bans: &[Ban], pair: Pair) -> Followed
     requires justified { IsJustifiedTrail bans.now domains.old }
     ensures { Follows bans.now domains.old domains.new result }
 {
-    if let Some(impasse) = follow_port(domains, bans, pair, Side::First)? {
-        return Ok(Some(impasse));
+    if let Some(conflict) = follow_port(domains, bans, pair, Side::First)? {
+        return Ok(Some(conflict));
     }
     let found = follow_port(domains, bans, pair, Side::Second)?;
     Ok(found)
@@ -236,7 +236,7 @@ fn follow_port(domains: &mut Domains, bans: &[Ban], pair: Pair, side: Side) -> F
         return Ok(None);
     }
     if apply_port(domains, bans, port)? {
-        return Ok(Some(Impasse::Port(port)));
+        return Ok(Some(Conflict::Port(port)));
     }
     Ok(None)
 }

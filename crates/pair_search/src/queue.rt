@@ -41,8 +41,7 @@ pub struct Queue {
     pub(crate) partners: Partners,
 }
 
-// By hand, and so one call wherever a value ends: a derived drop is expanded there, field by field, and makes proofs
-// long.
+// By hand, so that each exit of a function has one call for it (docs/IDIOMS.md).
 impl Drop for Queue {
     fn drop(self) {
         let Queue {

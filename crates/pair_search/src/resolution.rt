@@ -7,13 +7,13 @@ ghost use Rattle.pair_domains.specs.declared.entry.Entry.{Entry as AnyEntry};
 ghost use Rattle.pair_domains.specs.declared.entry.Cause.TheVariants.{Choice, LastWay};
 ghost use Rattle.pair_domains.specs.declared.entry.Fate.TheVariants.{Held};
 ghost use Rattle.pair_domains.specs.Trails.{IsPairOf, held_in, is_held};
-ghost use Rattle.pair_search.specs.Conflicts.{HasNoChoice, IsChoiceAt, IsConflict, IsLastOf, IsLearned};
+ghost use Rattle.pair_search.specs.ConflictSets.{HasNoChoice, IsChoiceAt, IsConflictSet, IsLastOf, IsLearned};
 ghost use Rattle.pair_search.specs.Grounded.{LearnsMore};
 ghost use Rattle.pair_search.specs.Justified.{IsTrail};
 ghost use Rattle.pair_search.specs.declared.learned.LearnedBan.TheVariants as learned;
 ghost use Rattle.pair_search.specs.Pivots.{IsPivot};
 
-use crate::conflict::{Conflict, cover_port};
+use crate::conflict_set::{ConflictSet, cover_port};
 use crate::learned::{Back, LearnedBan};
 use crate::mismatch::Mismatches;
 use crate::port::{Port, Resolved};
@@ -40,7 +40,7 @@ struct ForcedPair {
     place: usize,
     /// The circuit whose port forced it.
     side: Side,
-    conflict: Conflict,
+    conflict: ConflictSet,
 }
 
 /// Resolves a conflict on its latest pair, again and again, until a choice stands between that pair and the others: the
@@ -49,12 +49,12 @@ pub fn resolve(
     alloc: Global,
     graphs: &PairableGraphs<'_>,
     domains: &Domains,
-    conflict: Conflict,
+    conflict: ConflictSet,
     made: &mut Mismatches,
     book: &mut BanBook,
 ) -> Result<LearnedBan, AllocError>
     requires trail { IsTrail graphs.now book.old domains.now }
-    requires conflict { IsConflict book.old (held_in domains.now.entries) conflict }
+    requires conflict { IsConflictSet book.old (held_in domains.now.entries) conflict }
     ensures more { LearnsMore graphs.now domains.now.entries book.old book.new }
     ensures learned { IfOk result (IsLearned book.new domains.now) }
 {
@@ -236,7 +236,7 @@ fn resolve_on(
     forced: ForcedPair,
     made: &mut Mismatches,
     book: &mut BanBook,
-) -> Result<Conflict, AllocError>
+) -> Result<ConflictSet, AllocError>
     requires trail { IsTrail graphs.now book.old domains.now }
     requires within { forced.place < length (held_in domains.now.entries) }
     requires forced { (d : AnyPair) → Contains domains.now.entries
@@ -244,9 +244,9 @@ fn resolve_on(
           pair = slice_index_or (held_in domains.now.entries) forced.place d;
           fate = Held (LastWay forced.side);
         }) }
-    requires conflict { IsConflict book.old (take (forced.place + 1) (held_in domains.now.entries)) forced.conflict }
+    requires conflict { IsConflictSet book.old (take (forced.place + 1) (held_in domains.now.entries)) forced.conflict }
     ensures more { LearnsMore graphs.now domains.now.entries book.old book.new }
-    ensures conflict { IfOk result (IsConflict book.new (take forced.place (held_in domains.now.entries))) }
+    ensures conflict { IfOk result (IsConflictSet book.new (take forced.place (held_in domains.now.entries))) }
 {
     // the assigned pairs are of ports that exist, and share none
     let _lawful = domains.entries();
@@ -261,7 +261,7 @@ fn resolve_on(
         kind: way.kind,
         number: port_on(side, way),
     };
-    let Conflict { pairs, ban } = conflict;
+    let ConflictSet { pairs, ban } = conflict;
     let pairs = without(pairs, way);
     let view = TrailView {
         alloc,

@@ -26,7 +26,7 @@ pub(crate) fn apply(domains: &mut Domains, bans: &[Ban], number: u64) -> Result<
     let Some(way) = unheld(domains, pairs) else {
         return Ok(true);
     };
-    if is_open(domains, way) & are_others_held(domains, pairs, way) {
+    if is_open(domains, way) & are_others_assigned(domains, pairs, way) {
         domains.delete(way, Reason::Ban(number))?;
     }
     Ok(false)
@@ -45,18 +45,18 @@ fn unheld(domains: &Domains, pairs: &[Pair]) -> Option<Pair>
 }
 
 // Whether all of some pairs but one are assigned.
-fn are_others_held(domains: &Domains, pairs: &[Pair], way: Pair) -> bool
+fn are_others_assigned(domains: &Domains, pairs: &[Pair], way: Pair) -> bool
     ensures { IsTrue result → All (Contains (way ∷ held_in domains.now.entries)) pairs.now }
 {
     for pair in pairs.iter() {
-        if !is_held_or(domains, *pair, way) {
+        if !is_assigned_or(domains, *pair, way) {
             return false;
         }
     }
     true
 }
 
-fn is_held_or(domains: &Domains, pair: Pair, way: Pair) -> bool
+fn is_assigned_or(domains: &Domains, pair: Pair, way: Pair) -> bool
     ensures { IsTrue result → Contains (way ∷ held_in domains.now.entries) pair }
 {
     if pair == way {

@@ -1,5 +1,3 @@
-//! The trail as a conflict is resolved on it.
-
 use account_core::PairableGraphs;
 use circuits::Pair;
 use pair_domains::Domains;

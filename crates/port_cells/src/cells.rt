@@ -21,8 +21,7 @@ pub struct Cells {
     count: usize,
 }
 
-// By hand, and so one call wherever a value ends: a derived drop is expanded there, field by field, and makes proofs
-// long.
+// By hand, so that each exit of a function has one call for it (docs/IDIOMS.md).
 impl Drop for Cells {
     fn drop(self) {
         let Cells {
@@ -73,10 +72,6 @@ impl Ranked {
 
 impl Cells {
     /// One cell for all literals of n ports.
-    ///
-    /// # Errors
-    ///
-    /// Only when out of memory.
     pub fn new(alloc: Global, ports: u32) -> Result<Cells, AllocError> {
         let first = vec![in alloc; 0usize; 2 * ports as usize]?;
         let second = vec![in alloc; 0usize; 2 * ports as usize]?;
@@ -122,10 +117,6 @@ impl Cells {
     }
 
     /// How many literals of the first circuit each cell has.
-    ///
-    /// # Errors
-    ///
-    /// Only when out of memory.
     pub fn sizes(&self, alloc: Global) -> Result<Vec<usize>, AllocError> {
         let mut sizes = vec![in alloc; 0usize; self.count]?;
         for cell in self.first.iter() {
@@ -137,10 +128,6 @@ impl Cells {
     }
 
     /// The literals of a circuit in each cell, ascending.
-    ///
-    /// # Errors
-    ///
-    /// Only when out of memory.
     pub fn members(&self, alloc: Global, side: Side) -> Result<Items<Items<usize>>, AllocError> {
         let mut members = empty_lists(alloc, self.count)?;
         for (literal, cell) in self.of(side).iter().enumerate() {
@@ -150,10 +137,6 @@ impl Cells {
     }
 
     /// An equal list of cells.
-    ///
-    /// # Errors
-    ///
-    /// Only when out of memory.
     pub fn copy(&self) -> Result<Cells, AllocError> {
         let first = self.first.clone()?;
         let second = self.second.clone()?;
@@ -166,10 +149,6 @@ impl Cells {
 
     /// The cells, each split by keys that literals have which may correspond. None where a cell's keys aren't those of
     /// as many literals on both sides. A literal without a key has the key 0.
-    ///
-    /// # Errors
-    ///
-    /// Only when out of memory.
     pub fn refine(
         &self,
         alloc: Global,

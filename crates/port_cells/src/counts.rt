@@ -1,7 +1,7 @@
 //! How outputs depend on inputs, counted on vectors.
 
 use crate::cells::{empty_lists, port_at};
-use crate::{FlipSim, Lanes, ones_in};
+use crate::{FlipSim, Lanes, VECTORS, ones_in};
 use items::Items;
 use std::alloc::{AllocError, Global};
 
@@ -52,8 +52,7 @@ pub struct Counts {
     pub of_outputs: Items<Items<Influence>>,
 }
 
-// By hand, and so one call wherever a value ends: a derived drop is expanded there, field by field, and makes proofs
-// long.
+// By hand, so that each exit of a function has one call for it (docs/IDIOMS.md).
 impl Drop for Counts {
     fn drop(self) {
         let Counts {
@@ -72,8 +71,7 @@ pub struct Tally {
     of_inputs: Vec<Vec<Influence>>,
 }
 
-// By hand, and so one call wherever a value ends: a derived drop is expanded there, field by field, and makes proofs
-// long.
+// By hand, so that each exit of a function has one call for it (docs/IDIOMS.md).
 impl Drop for Tally {
     fn drop(self) {
         let Tally {
@@ -86,10 +84,6 @@ impl Drop for Tally {
 
 impl Tally {
     /// Nothing is counted yet of a circuit.
-    ///
-    /// # Errors
-    ///
-    /// Only when out of memory.
     pub fn new(alloc: Global, simulator: &FlipSim<'_>) -> Result<Tally, AllocError> {
         let graph = simulator.graph();
         let ones = vec![in alloc; 0u32; graph.outputs().len()]?;
@@ -113,16 +107,12 @@ impl Tally {
 
     /// Counts the vectors that a simulator was run on.
     pub fn add(&mut self, simulator: &mut FlipSim<'_>) {
-        self.vectors = self.vectors.saturating_add(256);
+        self.vectors = self.vectors.saturating_add(VECTORS as u32);
         add_ones(simulator, self.ones.as_mut_slice());
         add_influences(simulator, self.of_inputs.as_mut_slice());
     }
 
     /// What was counted, without the outputs that no vector changes.
-    ///
-    /// # Errors
-    ///
-    /// Only when out of memory.
     pub fn counts(&self, alloc: Global) -> Result<Counts, AllocError> {
         let kept = changing(alloc, &self.of_inputs)?;
         let of_outputs = turned(alloc, &kept, self.ones.len())?;
@@ -136,10 +126,6 @@ impl Tally {
 
     /// In which directions outputs were seen to change with inputs: each count is 0 or 1, whatever the vectors were
     /// drawn by. How often outputs are true isn't told.
-    ///
-    /// # Errors
-    ///
-    /// Only when out of memory.
     pub fn signs(&self, alloc: Global) -> Result<Counts, AllocError> {
         let mut of_inputs = Items::new(alloc);
         for influences in self.of_inputs.iter() {

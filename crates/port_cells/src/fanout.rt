@@ -1,5 +1,3 @@
-//! What an input reaches.
-
 ghost use Rattle.std.specs.Prelude.{◌≡◌, ◌+◌, ◌^◌, ◌<◌, All, OnOk, length};
 ghost use Rattle.circuits.specs.Literals.{signal_of};
 ghost use Rattle.net_core.specs.Graph.{AreInOrder};
@@ -9,7 +7,7 @@ use items::Items;
 use net_core::{Gate, Graph, Lit};
 use std::alloc::{AllocError, Global};
 
-/// As many gates as take about as long as comparing an output: each is two literals' lanes read and joined, and of an
+/// How many gates take about as long as comparing an output. Of a gate two literals' lanes are read and joined; of an
 /// output that is compared the bits are counted besides.
 const GATES_OF_OUTPUT: u64 = 4;
 
@@ -24,8 +22,7 @@ pub(crate) struct Fanout {
     pub(crate) outputs: Items<u32>,
 }
 
-// By hand, and so one call wherever a value ends: a derived drop is expanded there, field by field, and makes proofs
-// long.
+// By hand, so that each exit of a function has one call for it (docs/IDIOMS.md).
 impl Drop for Fanout {
     fn drop(self) {
         let Fanout {

@@ -3,8 +3,11 @@
 use std::simd::u64x4;
 use word_sim::alternating;
 
-/// A bit of each of 256 vectors.
+/// A bit of each vector of a block.
 pub type Lanes = u64x4;
+
+/// How many vectors a block has.
+pub const VECTORS: usize = 256;
 
 /// How many words of 64 vectors these are.
 pub(crate) const WORDS: u64 = 4;

@@ -1,4 +1,4 @@
-//! Cells of ports that may correspond, and what splits them.
+//! Cells of ports that may correspond, and what splits them. An error comes only when out of memory.
 #![tactic(auto)]
 
 mod cells;
@@ -15,7 +15,7 @@ pub use cells::{Cells, literal_of, port_at};
 pub use counts::{Counts, Influence, Tally};
 pub use draws::Draws;
 pub use lanes::{
-    Lanes, all_lanes, bit_of, blocks_of_all, ones_in, replicated, with_bit, word_of_all,
+    Lanes, VECTORS, all_lanes, bit_of, blocks_of_all, ones_in, replicated, with_bit, word_of_all,
 };
 pub use links::{cell_at, input_keys, output_keys};
 pub use mixing::mix_lanes;

@@ -7,10 +7,6 @@ use std::alloc::{AllocError, Global};
 use word_sim::mix;
 
 /// The keys of the inputs' literals, by the cells of the outputs' literals.
-///
-/// # Errors
-///
-/// Only when out of memory.
 pub fn input_keys(
     alloc: Global,
     counts: &Counts,
@@ -25,10 +21,6 @@ pub fn input_keys(
 }
 
 /// The keys of the outputs' literals, by how often they are true and by the cells of the inputs' literals.
-///
-/// # Errors
-///
-/// Only when out of memory.
 pub fn output_keys(
     alloc: Global,
     counts: &Counts,

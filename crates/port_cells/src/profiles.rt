@@ -92,10 +92,6 @@ impl Entry {
 }
 
 /// The profiles of the inputs' literals, by the cells of the outputs' literals.
-///
-/// # Errors
-///
-/// Only when out of memory.
 pub fn input_profiles(
     alloc: Global,
     counts: &Counts,
@@ -109,10 +105,6 @@ pub fn input_profiles(
 }
 
 /// The profiles of the outputs' literals, by the cells of the inputs' literals.
-///
-/// # Errors
-///
-/// Only when out of memory.
 pub fn output_profiles(
     alloc: Global,
     counts: &Counts,
@@ -191,10 +183,6 @@ fn cell_after(cells: &[usize], literal: usize) -> usize {
 /// those that are near to one of these, and so on. Within a cell all are compared with all that they aren't joined with
 /// yet: near profiles needn't stand near each other in any order, a comparison ends at the first counts that are apart,
 /// and cells soon get small.
-///
-/// # Errors
-///
-/// Only when out of memory.
 pub fn near_keys(
     alloc: Global,
     cells: &Cells,
@@ -228,8 +216,7 @@ struct Classes {
     right: Vec<u64>,
 }
 
-// By hand, and so one call wherever a value ends: a derived drop is expanded there, field by field, and makes proofs
-// long.
+// By hand, so that each exit of a function has one call for it (docs/IDIOMS.md).
 impl Drop for Classes {
     fn drop(self) {
         let Classes {
@@ -270,7 +257,7 @@ impl Classes {
         slack: Slack,
     ) {
         for (other, literal) in its.iter().enumerate() {
-            let near = !self.are_joined(place, other)
+            let near = self.left.get(place) != self.right.get(other)
                 && match second.get(*literal) {
                     Some(another) => profile.is_near(another, slack),
                     None => false,
@@ -279,10 +266,6 @@ impl Classes {
                 self.join(place, other);
             }
         }
-    }
-
-    fn are_joined(&self, place: usize, other: usize) -> bool {
-        self.left.get(place) == self.right.get(other)
     }
 
     fn join(&mut self, place: usize, other: usize) {

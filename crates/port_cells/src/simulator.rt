@@ -1,5 +1,3 @@
-//! A circuit on 256 vectors at once.
-
 ghost use Rattle.std.specs.Prelude.{◌≡◌, ◌+◌, ◌<◌, length, vec_len};
 ghost use Rattle.circuits.specs.Netlists.{signals_of};
 ghost use Rattle.net_core.specs.Graph.{AreInOrder};
@@ -37,8 +35,7 @@ impl<'a> Model for FlipSim<'a> {
         × (vec_len a.flipped ≡ signals_of a.graph.now) };
 }
 
-// By hand, and so one call wherever a value ends: a derived drop is expanded there, field by field, and makes proofs
-// long.
+// By hand, so that each exit of a function has one call for it (docs/IDIOMS.md).
 impl Drop for FlipSim<'_> {
     fn drop(self) {
         let FlipSim {
@@ -54,10 +51,6 @@ impl Drop for FlipSim<'_> {
 
 impl<'a> FlipSim<'a> {
     /// The circuit on vectors that are all 0 where its inputs are; `run` computes what the gates have.
-    ///
-    /// # Errors
-    ///
-    /// Only when out of memory.
     pub fn new(alloc: Global, graph: &'a Graph) -> Result<FlipSim<'a>, AllocError> {
         let signals = graph.signals();
         let fanouts = fanouts(alloc, graph)?;

@@ -1,7 +1,7 @@
 //! Ports that have too few partners, in words.
 
 use crate::netlists::{Count, Netlists};
-use crate::shown::Shown;
+use crate::terminal_text::TerminalText;
 use circuits::PortKind;
 use std::fmt;
 
@@ -17,8 +17,8 @@ pub(crate) struct Cover<'a> {
 /// A way to pair two ports that an account excludes, and the number of the ban that does.
 #[derive(Clone, Copy)]
 pub(crate) struct Way<'a> {
-    from: Shown<'a>,
-    to: Shown<'a>,
+    from: TerminalText<'a>,
+    to: TerminalText<'a>,
     flip: bool,
     pub(crate) ban: u64,
 }
@@ -78,22 +78,22 @@ impl fmt::Display for Cover<'_> {
                 "{} has no partner: {} of {} can't be it, plain or inverted",
                 first.port(kind, *port),
                 self.count(to.len()),
-                Shown::name(second.file)
+                TerminalText::name(second.file)
             ),
             (_, [port]) => write!(
                 f,
                 "{} is no port's partner: {} of {} can't go there, plain or inverted",
                 second.port(kind, *port),
                 self.count(from.len()),
-                Shown::name(first.file)
+                TerminalText::name(first.file)
             ),
             _ => write!(
                 f,
                 "{} of {} have too few partners: none of them goes to any of {} of {}",
                 self.count(from.len()),
-                Shown::name(first.file),
+                TerminalText::name(first.file),
                 self.count(to.len()),
-                Shown::name(second.file)
+                TerminalText::name(second.file)
             ),
         }
     }

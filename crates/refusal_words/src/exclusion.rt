@@ -140,25 +140,21 @@ impl fmt::Display for Exclusion<'_> {
     fn fmt<W: fmt::Write>(&self, f: &mut fmt::Formatter<W>) -> fmt::Result {
         match self {
             Exclusion::Tally {
-                kind: Tallied::Support,
+                kind,
                 having,
                 have,
                 lacking,
                 most,
-            } => write!(
-                f,
-                "{having} depends on {have} inputs or more, {lacking} on {most} at most"
-            ),
-            Exclusion::Tally {
-                kind: Tallied::Binate,
-                having,
-                have,
-                lacking,
-                most,
-            } => write!(
-                f,
-                "{having} is binate in {have} inputs or more, {lacking} in {most} at most"
-            ),
+            } => {
+                let (verb, preposition) = match kind {
+                    Tallied::Support => ("depends on", "on"),
+                    Tallied::Binate => ("is binate in", "in"),
+                };
+                write!(
+                    f,
+                    "{having} {verb} {have} inputs or more, {lacking} {preposition} {most} at most"
+                )
+            }
             Exclusion::Mismatch { falls, never } => write!(
                 f,
                 "{} falls on some vector as {}, {} on none as {}",

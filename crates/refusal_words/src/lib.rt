@@ -7,8 +7,8 @@ mod exclusion;
 mod netlists;
 mod pieces;
 mod refusal;
-mod shown;
+mod terminal_text;
 
 pub use pieces::{Seek, Wanted, seek_in};
 pub use refusal::{netlist_again, put_refusal};
-pub use shown::Shown;
+pub use terminal_text::TerminalText;

@@ -1,6 +1,6 @@
 //! The two netlists of a run, and their ports by name.
 
-use crate::shown::Shown;
+use crate::terminal_text::TerminalText;
 use circuits::PortKind;
 use net_core::Side;
 use net_file::{Name, Named};
@@ -70,8 +70,8 @@ pub(crate) struct Port<'a> {
 }
 
 impl<'a> Port<'a> {
-    pub(crate) fn name(&self) -> Shown<'a> {
-        Shown(self.name)
+    pub(crate) fn name(&self) -> TerminalText<'a> {
+        TerminalText(self.name)
     }
 }
 
@@ -80,7 +80,12 @@ impl fmt::Display for Port<'_> {
     fn fmt<W: fmt::Write>(&self, f: &mut fmt::Formatter<W>) -> fmt::Result {
         let Port { file, kind, name } = *self;
         let kind = Kind(kind);
-        write!(f, "{kind} {} of {}", Shown(name), Shown::name(file))
+        write!(
+            f,
+            "{kind} {} of {}",
+            TerminalText(name),
+            TerminalText::name(file)
+        )
     }
 }
 

@@ -1,6 +1,7 @@
 //! Files that are gone over in pieces, and are never whole in memory.
 
-ghost use Rattle.std.specs.Prelude.{ℕ, ◌≡◌, List, OnOk};
+ghost use Rattle.std.specs.Prelude.{◌≡◌, OnOk};
+ghost use Rattle.refusal_words.specs.Files.{SameFiles};
 ghost use Rattle.shelf_core.specs.State.{Closed, Reading};
 
 use check_steps::{PIECE, ReadStop, zeros};
@@ -29,7 +30,7 @@ pub fn seek_in<S: Shelf, K: Seek>(
     seeker: &mut K,
 ) -> Result<(), ReadStop>
     requires { (S.state shelf.old).mode ≡ Closed }
-    ensures files { (n : List ℕ) → (S.state shelf.new).held n ≡ (S.state shelf.old).held n }
+    ensures files { SameFiles (S.state shelf.old) (S.state shelf.new) }
     ensures closed { OnOk result ((S.state shelf.new).mode ≡ Closed) }
 {
     if shelf.open(name)?.is_none() {
@@ -46,7 +47,7 @@ fn seek_in_open<S: Shelf, K: Seek>(
     seeker: &mut K,
 ) -> Result<(), ReadStop>
     requires { (S.state shelf.old).mode ≡ Reading }
-    ensures files { (n : List ℕ) → (S.state shelf.new).held n ≡ (S.state shelf.old).held n }
+    ensures files { SameFiles (S.state shelf.old) (S.state shelf.new) }
     ensures reading { OnOk result ((S.state shelf.new).mode ≡ Reading) }
 {
     let mut piece = zeros(alloc, PIECE)?;
@@ -66,7 +67,7 @@ fn seek_in_next<S: Shelf, K: Seek>(
     seeker: &mut K,
 ) -> Result<Wanted, ReadStop>
     requires { (S.state shelf.old).mode ≡ Reading }
-    ensures files { (n : List ℕ) → (S.state shelf.new).held n ≡ (S.state shelf.old).held n }
+    ensures files { SameFiles (S.state shelf.old) (S.state shelf.new) }
     ensures reading { (S.state shelf.new).mode ≡ Reading }
 {
     let count = shelf.read(piece)?;

@@ -1,6 +1,7 @@
 //! Why there is no match.
 
-ghost use Rattle.std.specs.Prelude.{ℕ, ◌≡◌, List, OnOk};
+ghost use Rattle.std.specs.Prelude.{◌≡◌, OnOk};
+ghost use Rattle.refusal_words.specs.Files.{SameFiles};
 ghost use Rattle.shelf_core.specs.State.{Closed};
 
 use crate::account_search::{BanSearch, ClaimSearch, ConclusionSearch, Records};
@@ -8,7 +9,7 @@ use crate::cover::{Cover, Way};
 use crate::exclusion::Exclusion;
 use crate::netlists::{Count, Netlists, Source};
 use crate::pieces::seek_in;
-use crate::shown::Shown;
+use crate::terminal_text::TerminalText;
 use account_core::{Ban, Step};
 use check_steps::{Match, ReadStop, Which, read_netlist};
 use circuits::PortKind;
@@ -27,7 +28,7 @@ pub fn put_refusal<S: Shelf>(
     text: &mut String,
 ) -> Result<(), ReadStop>
     requires { (S.state shelf.old).mode ≡ Closed }
-    ensures { (n : List ℕ) → (S.state shelf.new).held n ≡ (S.state shelf.old).held n }
+    ensures { SameFiles (S.state shelf.old) (S.state shelf.new) }
 {
     let first = source_again(alloc, shelf, Which::First, asked.first)?;
     let second = source_again(alloc, shelf, Which::Second, asked.second)?;
@@ -45,7 +46,7 @@ fn source_again<'a, S: Shelf>(
     file: &'a str,
 ) -> Result<Source<'a>, ReadStop>
     requires { (S.state shelf.old).mode ≡ Closed }
-    ensures files { (n : List ℕ) → (S.state shelf.new).held n ≡ (S.state shelf.old).held n }
+    ensures files { SameFiles (S.state shelf.old) (S.state shelf.new) }
     ensures closed { OnOk result ((S.state shelf.new).mode ≡ Closed) }
 {
     let named = netlist_again(alloc, shelf, which, file)?;
@@ -60,7 +61,7 @@ pub fn netlist_again<S: Shelf>(
     file: &str,
 ) -> Result<Named, ReadStop>
     requires { (S.state shelf.old).mode ≡ Closed }
-    ensures files { (n : List ℕ) → (S.state shelf.new).held n ≡ (S.state shelf.old).held n }
+    ensures files { SameFiles (S.state shelf.old) (S.state shelf.new) }
     ensures closed { OnOk result ((S.state shelf.new).mode ≡ Closed) }
 {
     match read_netlist(alloc, shelf, which, file, &Silent) {
@@ -90,7 +91,11 @@ impl fmt::Display for Ports<'_> {
         let Ports(source) = self;
         let inputs = count(source, PortKind::Input);
         let outputs = count(source, PortKind::Output);
-        write!(f, "{} has {inputs} and {outputs}", Shown::name(source.file))
+        write!(
+            f,
+            "{} has {inputs} and {outputs}",
+            TerminalText::name(source.file)
+        )
     }
 }
 
@@ -110,7 +115,7 @@ fn put_last_exclusion<S: Shelf>(
     text: &mut String,
 ) -> Result<(), ReadStop>
     requires { (S.state shelf.old).mode ≡ Closed }
-    ensures { (n : List ℕ) → (S.state shelf.new).held n ≡ (S.state shelf.old).held n }
+    ensures { SameFiles (S.state shelf.old) (S.state shelf.new) }
 {
     let mut records = Records::new(alloc, ConclusionSearch::new());
     seek_in(alloc, shelf, account, &mut records)?;
@@ -130,7 +135,7 @@ fn put_step<S: Shelf>(
     text: &mut String,
 ) -> Result<(), ReadStop>
     requires { (S.state shelf.old).mode ≡ Closed }
-    ensures { (n : List ℕ) → (S.state shelf.new).held n ≡ (S.state shelf.old).held n }
+    ensures { SameFiles (S.state shelf.old) (S.state shelf.new) }
 {
     let Step::Cover {
         kind,
@@ -165,7 +170,7 @@ fn put_way<S: Shelf>(
     text: &mut String,
 ) -> Result<(), ReadStop>
     requires { (S.state shelf.old).mode ≡ Closed }
-    ensures { (n : List ℕ) → (S.state shelf.new).held n ≡ (S.state shelf.old).held n }
+    ensures { SameFiles (S.state shelf.old) (S.state shelf.new) }
 {
     let mut records = Records::new(alloc, BanSearch::new(way.ban));
     seek_in(alloc, shelf, account, &mut records)?;
@@ -187,7 +192,7 @@ fn exclusion_of<'a, S: Shelf>(
     shelf: &mut S,
 ) -> Result<Option<Exclusion<'a>>, ReadStop>
     requires { (S.state shelf.old).mode ≡ Closed }
-    ensures { (n : List ℕ) → (S.state shelf.new).held n ≡ (S.state shelf.old).held n }
+    ensures { SameFiles (S.state shelf.old) (S.state shelf.new) }
 {
     match &ban.step {
         Step::Vector { output, .. } => {
@@ -219,7 +224,7 @@ fn claims_of<S: Shelf>(
     shelf: &mut S,
 ) -> Result<Option<(Claim, Claim)>, ReadStop>
     requires { (S.state shelf.old).mode ≡ Closed }
-    ensures { (n : List ℕ) → (S.state shelf.new).held n ≡ (S.state shelf.old).held n }
+    ensures { SameFiles (S.state shelf.old) (S.state shelf.new) }
 {
     let mut records = Records::new(alloc, ClaimSearch::new(facts));
     seek_in(alloc, shelf, account, &mut records)?;

@@ -41,6 +41,7 @@ fn pair_of(alloc: Global, number: u64) -> Result<GenPair, AllocError>
 {
     let pair = make(alloc, number)?;
     let graphs = Graphs::new(&pair.first.graph, &pair.second.graph);
+    // the gates of a graph are in order, and its ports fewer than 2^32
     let _first = graphs.first();
     let _second = graphs.second();
     Ok(pair)

@@ -5,7 +5,9 @@ ghost use Rattle.shelf_core.specs.State.{Closed};
 
 use crate::files::{A, AND, B, C17, C17_MOVED, EMPTY, THREE, TWO, XOR};
 use crate::runs::{CHECK, MATCH, files_of, words_of};
-use explain::{FileFault, FolderFault, Notice, Told, Warning, explain, fault_of_words, folder_of};
+use explain::{
+    EndedRun, FileFault, FolderFault, Notice, Warning, explain, fault_of_words, folder_of,
+};
 use npnp::outcome::Outcome;
 use npnp::run::run;
 use shelf_core::{MemShelf, SafeShelf, SafeSink, Shelf};
@@ -27,7 +29,7 @@ fn told_over<S: Shelf>(
     requires { (S.state shelf.old).mode ≡ Closed }
 {
     let words = words_of(alloc, words)?;
-    let told = Told {
+    let told = EndedRun {
         words: words.as_slice(),
         outcome,
         fault,

@@ -12,28 +12,28 @@ use watch_core::{Stage, Watch};
 
 /// How often a sink was told of three stages, and whether they came one after the other.
 #[derive(Clone, Copy, Debug, PartialEq, Eq)]
-struct Told {
+struct StageCounts {
     reading: u32,
     guessing: u32,
     proving: u32,
     in_order: bool,
 }
 
-impl Told {
+impl StageCounts {
     /// The same, with one stage more.
-    fn with(self, stage: Stage) -> Told {
+    fn with(self, stage: Stage) -> StageCounts {
         match stage {
-            Stage::Reading { .. } => Told {
+            Stage::Reading { .. } => StageCounts {
                 reading: self.reading.saturating_add(1),
                 in_order: self.in_order & (self.guessing == 0),
                 ..self
             },
-            Stage::Guessing { .. } => Told {
+            Stage::Guessing { .. } => StageCounts {
                 guessing: self.guessing.saturating_add(1),
                 in_order: self.in_order & (self.reading == 2) & (self.proving == 0),
                 ..self
             },
-            Stage::Proving { .. } => Told {
+            Stage::Proving { .. } => StageCounts {
                 proving: self.proving.saturating_add(1),
                 in_order: self.in_order & (self.guessing == 1),
                 ..self
@@ -47,14 +47,14 @@ impl Told {
 #[derive(Drop)]
 struct Counting {
     sink: SafeSink,
-    told: Cell<Told>,
+    told: Cell<StageCounts>,
 }
 
 impl Counting {
     fn new(alloc: Global) -> Counting {
         Counting {
             sink: SafeSink::new(alloc),
-            told: Cell::new(Told {
+            told: Cell::new(StageCounts {
                 reading: 0,
                 guessing: 0,
                 proving: 0,
@@ -81,7 +81,7 @@ impl Sink for Counting {
 }
 
 /// Seeks the match of two netlists, and counts what is told.
-fn match_counted(alloc: Global, netlists: [&[u8]; 2]) -> Result<(Ended, Told), AllocError> {
+fn match_counted(alloc: Global, netlists: [&[u8]; 2]) -> Result<(Ended, StageCounts), AllocError> {
     let mut shelf = SafeShelf::new(alloc, files_of(alloc, netlists, None)?, 65_536)?;
     let mut sink = Counting::new(alloc);
     let status = status_of(alloc, MATCH, &mut shelf, &mut sink)?;
@@ -104,7 +104,7 @@ fn tells_what_a_match_is_at(rt: HostRuntime) -> Result<(), Fail> {
     let (ended, told) = match_counted(alloc, [C17, C17_MOVED])?;
     assert_eq!(rt;
         told,
-        Told {
+        StageCounts {
             reading: 2,
             guessing: 1,
             proving: 2,

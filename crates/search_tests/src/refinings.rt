@@ -17,7 +17,7 @@ use ban_book::BanBook;
 use circuits::{Pair, PortKind};
 use class_refine::{Deletion, Mismatches, Refined, deletion_of, refine};
 use cnf_core::Stop;
-use fact_bans::{Asker, Seen};
+use fact_bans::{Asker, BrokenClaims};
 use net_core::{Graphs, Side};
 use oracle_core::Oracle;
 use pair_domains::{Cause, Domains};
@@ -134,7 +134,7 @@ fn refined_by<O: Oracle>(
 {
     // the facts of an oracle are of its circuits
     let _facts = oracle.facts();
-    let mut seen = Seen::new(alloc, graphs, 1)?;
+    let mut seen = BrokenClaims::new(alloc, graphs, 1)?;
     let mut book = BanBook::new(alloc);
     let mut ledger = Ledger::new(alloc, 1_000_000);
     let mut asker = Asker {

@@ -1,5 +1,3 @@
-//! The lemmas of a question.
-
 ghost use Rattle.std.specs.Prelude.{◌≡◌, IfOk, OnOk, length};
 ghost use Rattle.claim_core.specs.Formulas.{formula_of, query_clauses};
 ghost use Rattle.shared_lemmas.specs.Parts.{ArePlaced, AreWritten, MayGoOn};

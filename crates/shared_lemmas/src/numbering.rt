@@ -31,8 +31,7 @@ fn renumbered_hints(
     numbers: &[Option<u64>],
     hints: &[u64],
 ) -> Result<Option<Items<u64>>, AllocError>
-    ensures { IfOk result (λ found. IfSome found (λ own.
-        map (number_in common numbers.now) hints.now ≡ map Some own)) }
+    ensures { IfOk result (λ found. IfSome found (λ own. map (number_in common numbers.now) hints.now ≡ map Some own)) }
 {
     let mut own = Items::with_capacity(alloc, hints.len())?;
     for hint in hints.iter() {

@@ -12,8 +12,8 @@ pub(crate) enum Change {
     Inverted(u32),
 }
 
-/// Two changes of one vector that make vectors which differ at the shape's inputs alone: for one input that it is inverted
-/// or not, and for two that either of them is. So vectors with one input inverted decide the claims about two.
+/// Two changes of one vector that make vectors which differ at the shape's inputs alone: for one input that it is
+/// inverted or not, and for two that either of them is. So vectors with one input inverted decide the claims about two.
 pub(crate) fn ends_of(shape: Shape) -> (Change, Change)
     ensures { result ≡ the_ends shape }
 {

@@ -10,9 +10,9 @@ use net_core::Graph;
 use std::alloc::{AllocError, Global};
 use std::simd::prelude::*;
 
-/// A column for the vectors as they are, and one for each input inverted: in each a block for each of `count` outputs from
-/// the output `first` on. One pass over the gates serves all of these outputs, and for an inverted input only the gates are
-/// evaluated again that it reaches.
+/// A column for the vectors as they are, and one for each input inverted: in each a block for each of `count` outputs
+/// from the output `first` on. One pass over the gates serves all of these outputs, and for an inverted input only the
+/// gates are evaluated again that it reaches.
 ///
 /// # Errors
 ///
@@ -57,8 +57,12 @@ fn add_inverted(
     requires inputs { inputs ≡ simulation.old.net.inputs }
     requires there { first + count ≤ length simulation.old.net.outputs }
     requires few { first + count < 2 ^ 32 }
-    requires columns { AreColumns (record { net = simulation.old.net; first = first; count = count; blocks = simulation.old.blocks })
-        0 columns.old.items }
+    requires columns { AreColumns (record {
+      net = simulation.old.net;
+      first = first;
+      count = count;
+      blocks = simulation.old.blocks;
+    }) 0 columns.old.items }
     ensures { OnOk result
         (AreColumns (record { net = simulation.old.net; first = first; count = count; blocks = simulation.old.blocks })
         inputs columns.new.items) }

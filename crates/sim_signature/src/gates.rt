@@ -22,8 +22,8 @@ pub(crate) fn evaluate(graph: &Graph, inputs: &[u64x8], blocks: &mut [u64x8])
     run_gate_blocks(gates, inputs.len() + 1, blocks);
 }
 
-/// Gives each signal that an inverted input reaches another block in `after`, and marks these signals alone; no other gate is
-/// evaluated. `before` has what each signal has before.
+/// Gives each signal that an inverted input reaches another block in `after`, and marks these signals alone; no other
+/// gate is evaluated. `before` has what each signal has before.
 pub(crate) fn evaluate_inverted(
     graph: &Graph,
     inputs: &[u64x8],
@@ -144,7 +144,8 @@ fn gate_after(gate: Gate, before: &[u64x8], after: &[u64x8], marks: &[bool]) -> 
     requires after { length after.now ≡ length before.now }
     requires marks { length marks.now ≡ length before.now }
     ensures { (w v : ℕ) → w < 8 → v < 64
-        → block_bit w v result ≡ bit_of_gate (λ s. block_bit w v (the_block_after before.now after.now marks.now s)) gate }
+        → block_bit w v result
+        ≡ bit_of_gate (λ s. block_bit w v (the_block_after before.now after.now marks.now s)) gate }
 {
     and_lanes(
         block_after(before, after, marks, gate.a.signal() as usize),

@@ -21,8 +21,8 @@ use std::marker::Model;
 use std::simd::prelude::*;
 use word_sim::first_bit;
 
-/// What some outputs of a circuit are on 512 vectors, and on these with each input inverted in turn: their signatures, by
-/// which claims about them are seen broken.
+/// What some outputs of a circuit are on 512 vectors, and on these with each input inverted in turn: their signatures,
+/// by which claims about them are seen broken.
 #[derive(Drop)]
 pub struct Signatures<'a> {
     graph: &'a Graph,
@@ -42,13 +42,17 @@ impl<'a> Model for Signatures<'a> {
 
     ghost view = { λ a. record { net = a.graph.now; first = a.first; count = a.count; blocks = a.inputs.items } };
 
-    ghost invariant = { λ a. AreSigned (record { net = a.graph.now; first = a.first; count = a.count; blocks = a.inputs.items })
-        a.columns.items };
+    ghost invariant = { λ a. AreSigned (record {
+      net = a.graph.now;
+      first = a.first;
+      count = a.count;
+      blocks = a.inputs.items;
+    }) a.columns.items };
 }
 
 impl<'a> Signatures<'a> {
-    /// The signatures of `count` outputs from the output `first` on: on all vectors of at most six inputs, else on 512 vectors
-    /// that are drawn from the number `seed`.
+    /// The signatures of `count` outputs from the output `first` on: on all vectors of at most six inputs, else on 512
+    /// vectors that are drawn from the number `seed`.
     ///
     /// # Errors
     ///
@@ -89,9 +93,9 @@ impl<'a> Signatures<'a> {
         Signatures::on(alloc, graph, first, count, inputs)
     }
 
-    /// The signatures of `count` outputs from the output `first` on, on 512 vectors near one, that are drawn from the number
-    /// `seed`. Near a vector that breaks a claim of an output there are others that break other claims of it and of outputs
-    /// that share gates with it, also where few vectors do.
+    /// The signatures of `count` outputs from the output `first` on, on 512 vectors near one, that are drawn from the
+    /// number `seed`. Near a vector that breaks a claim of an output there are others that break other claims of it and
+    /// of outputs that share gates with it, also where few vectors do.
     ///
     /// # Errors
     ///
@@ -146,8 +150,8 @@ impl<'a> Signatures<'a> {
         output - self.first < self.count
     }
 
-    /// A vector that breaks the claim of a shape at an output, where one does that is tried: any of the 512 with one of the
-    /// shape's inputs inverted, and for a claim about one input also as it is.
+    /// A vector that breaks the claim of a shape at an output, where one does that is tried: any of the 512 with one of
+    /// the shape's inputs inverted, and for a claim about one input also as it is.
     ///
     /// # Errors
     ///
@@ -172,8 +176,8 @@ impl<'a> Signatures<'a> {
         }
     }
 
-    /// A vector that breaks the claim among the changed vectors. With the other change it is the one to whose values the
-    /// shape's inputs go.
+    /// A vector that breaks the claim among the changed vectors. With the other change it is the one to whose values
+    /// the shape's inputs go.
     fn fall(
         &self,
         alloc: Global,

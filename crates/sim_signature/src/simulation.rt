@@ -53,7 +53,11 @@ impl<'a> Simulation<'a> {
         inputs: &'a [u64x8],
     ) -> Result<Simulation<'a>, AllocError>
         requires { length inputs.now ≡ graph.now.inputs }
-        ensures { IfOk result (λ simulation. simulation ≡ record { net = graph.now; blocks = inputs.now; change = nothing }) }
+        ensures { IfOk result (λ simulation. simulation ≡ record {
+          net = graph.now;
+          blocks = inputs.now;
+          change = nothing;
+        }) }
     {
         let mut before = vec![in alloc; u64x8::splat(0); graph.signals()]?;
         let after = vec![in alloc; u64x8::splat(0); graph.signals()]?;
@@ -89,7 +93,8 @@ impl<'a> Simulation<'a> {
     pub(crate) fn output_block(&self, output: u32) -> u64x8
         requires { output < length self.now.net.outputs }
         ensures { (w v : ℕ) → w < 8 → v < 64
-            → block_bit w v result ≡ output_bit self.now.net output (changed self.now.change (pattern self.now.blocks w v)) }
+            → block_bit w v result
+            ≡ output_bit self.now.net output (changed self.now.change (pattern self.now.blocks w v)) }
     {
         output_after(self.graph, &self.before, &self.after, &self.marks, output)
     }
@@ -121,7 +126,8 @@ fn literal_after(before: &[u64x8], after: &[u64x8], marks: &[bool], literal: Lit
     requires after { length after.now ≡ length before.now }
     requires marks { length marks.now ≡ length before.now }
     ensures { (w v : ℕ) → w < 8 → v < 64
-        → block_bit w v result ≡ bit_of_literal (λ s. block_bit w v (the_block_after before.now after.now marks.now s)) literal }
+        → block_bit w v result
+        ≡ bit_of_literal (λ s. block_bit w v (the_block_after before.now after.now marks.now s)) literal }
 {
     let block = block_after(before, after, marks, literal.signal() as usize);
     signed_lanes(block, literal.is_negated())

@@ -91,6 +91,7 @@ fn is_marked(blocks: &[Items<u64>], output: u32, input: u32) -> bool
 fn blocks_of(alloc: Global, graph: &Graph) -> Result<Vec<Items<u64>>, AllocError>
     ensures { IfOk result (λ blocks. AreBlocks graph.now blocks.items) }
 {
+    // the gates of a graph are in order, and its ports fewer than 2^32
     let _outputs = graph.outputs();
     let count = graph.inputs().div_ceil(INPUTS);
     let mut blocks = Vec::new(alloc);
@@ -156,7 +157,8 @@ fn push_gates(gates: &[Gate], words: &mut Vec<u64>) -> Result<(), AllocError>
 /// The words of literals' signals.
 fn words_of(alloc: Global, literals: &[Lit], words: &[u64]) -> Result<Items<u64>, AllocError>
     requires { All (λ literal. signal_of literal < length words.now) literals.now }
-    ensures { IfOk result (λ list. list ≡ map (λ literal. slice_index_or words.now (signal_of literal) 0) literals.now) }
+    ensures { IfOk result
+        (λ list. list ≡ map (λ literal. slice_index_or words.now (signal_of literal) 0) literals.now) }
 {
     let mut list = Items::new(alloc);
     for literal in literals.iter() {

@@ -1,5 +1,3 @@
-//! 512 vectors, a block of eight words for each input.
-
 ghost use Rattle.std.specs.Prelude.{◌≡◌, ◌<◌, ◌≤◌, ℕ, length, IfOk};
 ghost use Rattle.circuits.specs.Literals.{vector_of};
 ghost use Rattle.word_sim.specs.Columns.{word_of};
@@ -15,7 +13,8 @@ use word_sim::alternating;
 /// How many inputs a circuit has at most whose vectors are all tried: a word holds as many.
 pub(crate) const FEW: u32 = 6;
 
-/// 512 vectors, a block of eight words for each input: all vectors of at most six inputs, else some that a generator draws.
+/// 512 vectors, a block of eight words for each input: all vectors of at most six inputs, else some that a generator
+/// draws.
 ///
 /// # Errors
 ///
@@ -38,7 +37,8 @@ pub(crate) fn vectors(
 /// All vectors of at most six inputs: bit v of each word stands for the vector with the number v.
 fn all_vectors(alloc: Global, inputs: u32) -> Result<Vec<u64x8>, AllocError>
     requires { inputs ≤ 6 }
-    ensures vectors { IfOk result (λ blocks. (w v : ℕ) → w < 8 → v < 64 → pattern blocks.items w v ≡ vector_of inputs v) }
+    ensures vectors { IfOk result
+        (λ blocks. (w v : ℕ) → w < 8 → v < 64 → pattern blocks.items w v ≡ vector_of inputs v) }
     ensures inputs { IfOk result (λ blocks. length blocks.items ≡ inputs) }
 {
     let mut blocks = Vec::with_capacity(alloc, inputs as usize)?;
@@ -83,9 +83,10 @@ fn drawn_block(generator: &mut Pcg32) -> u64x8 {
     ])
 }
 
-/// 512 vectors near one, a block of eight words for each input, drawn by a generator: of the first 128 each input is inverted
-/// on one of 16, of the others on one of 32, of 64 and of 128. So circuits of a hundred inputs, where few vectors are near
-/// with fewer inverted, and those of few inputs, where one of 128 mostly leaves the vector as it is, both get many.
+/// 512 vectors near one, a block of eight words for each input, drawn by a generator: of the first 128 each input is
+/// inverted on one of 16, of the others on one of 32, of 64 and of 128. So circuits of a hundred inputs, where few
+/// vectors are near with fewer inverted, and those of few inputs, where one of 128 mostly leaves the vector as it is,
+/// both get many.
 ///
 /// # Errors
 ///

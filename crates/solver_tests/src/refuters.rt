@@ -19,8 +19,10 @@ impl Base for AndOr {
       variables = 5;
       clauses =
           (record { 0 = 0 } ∷ [])
-          ∷ (record { 0 = 7 } ∷ record { 0 = 2 } ∷ []) ∷ (record { 0 = 7 } ∷ record { 0 = 4 } ∷ []) ∷ (record { 0 = 6 } ∷ record { 0 = 3 } ∷ record { 0 = 5 } ∷ [])
-          ∷ (record { 0 = 9 } ∷ record { 0 = 2 } ∷ []) ∷ (record { 0 = 9 } ∷ record { 0 = 4 } ∷ []) ∷ (record { 0 = 8 } ∷ record { 0 = 3 } ∷ record { 0 = 5 } ∷ [])
+          ∷ (record { 0 = 7 } ∷ record { 0 = 2 } ∷ []) ∷ (record { 0 = 7 } ∷ record { 0 = 4 } ∷ [])
+          ∷ (record { 0 = 6 } ∷ record { 0 = 3 } ∷ record { 0 = 5 } ∷ [])
+          ∷ (record { 0 = 9 } ∷ record { 0 = 2 } ∷ []) ∷ (record { 0 = 9 } ∷ record { 0 = 4 } ∷ [])
+          ∷ (record { 0 = 8 } ∷ record { 0 = 3 } ∷ record { 0 = 5 } ∷ [])
           ∷ (record { 0 = 6 } ∷ []) ∷ (record { 0 = 9 } ∷ []) ∷ [];
     } };
 

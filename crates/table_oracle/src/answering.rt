@@ -19,7 +19,8 @@ use std::alloc::Global;
 use std::marker::Model;
 use watch_core::Stage;
 
-/// Two circuits with as many ports, of at most 12 inputs, of which all vectors are tried. Contracts see it as the circuits.
+/// Two circuits with as many ports, of at most 12 inputs, of which all vectors are tried. Contracts see it as the
+/// circuits.
 #[derive(Drop)]
 pub struct AllVectors<'a> {
     graphs: &'a Graphs<'a>,

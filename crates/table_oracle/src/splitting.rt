@@ -37,6 +37,7 @@ pub(crate) fn refute(
     ensures { Decides (λ log. IsRefutation (formula_of graphs.now query.now) log.lines)
         graphs.now query.now ledger.old ledger.new result }
 {
+    // the gates of a graph are in order, and its ports fewer than 2^32
     let _first = graphs.first();
     let _second = graphs.second();
     let splitting = Splitting {
@@ -236,12 +237,10 @@ impl<'a> Splitting<'a> {
         Some(self.base.count() + place)
     }
 
-    /// The number of a clause of the query that has literals of this one alone.
+    /// The number of a clause of the query all of whose literals are in this one.
     fn covering_own(&self, clause: &[SatLit]) -> Option<u64>
-        ensures found { IfSome result
-            (IsCovering (query_clauses self.now.base.graphs self.now.base.query) clause.now) }
-        ensures none { IfNone result
-            (IsNew (query_clauses self.now.base.graphs self.now.base.query) clause.now) }
+        ensures found { IfSome result (IsCovering (query_clauses self.now.base.graphs self.now.base.query) clause.now) }
+        ensures none { IfNone result (IsNew (query_clauses self.now.base.graphs self.now.base.query) clause.now) }
     {
         for id in 0..self.base.count() {
             if has_all(clause, self.base.clause(id).literals()) {
@@ -252,7 +251,7 @@ impl<'a> Splitting<'a> {
     }
 }
 
-/// The place of a line that has literals of this clause alone.
+/// The place of a line all of whose literals are in this clause.
 fn covering_line(lines: &[LogLine], clause: &[SatLit]) -> Option<u64>
     ensures found { IfSome result (IsCovering (map (λ line. line.clause) lines.now) clause.now) }
     ensures none { IfNone result (IsNew (map (λ line. line.clause) lines.now) clause.now) }
@@ -270,10 +269,8 @@ fn charge_last(lines: &[LogLine], ledger: &mut Ledger) -> Result<(), Stop>
     requires some { 0 < length lines.now }
     requires opened { (charging_of ledger.old).opened ≡ true }
     requires not_spent { ledger.old.spent ≡ false }
-    ensures charged { OnOk result
-        (IsCharged (charging_of ledger.old) (last_line lines.now) (charging_of ledger.new)) }
-    ensures refused { IfErr result
-        (IsRefused (charging_of ledger.old) (last_line lines.now) (charging_of ledger.new)) }
+    ensures charged { OnOk result (IsCharged (charging_of ledger.old) (last_line lines.now) (charging_of ledger.new)) }
+    ensures refused { IfErr result (IsRefused (charging_of ledger.old) (last_line lines.now) (charging_of ledger.new)) }
 {
     let line = &lines[lines.len() - 1];
     Charge::charge(ledger, line)

@@ -11,8 +11,8 @@ use std::alloc::{AllocError, Global};
 use std::marker::Model;
 
 /// The literals that were assigned, in order, with their levels and reasons (the implication graph of Marques-Silva and
-/// Sakallah, GRASP, 1999, kept as a list by Eén and Sörensson, MiniSat, 2003). The level is the number of decisions. The
-/// first `walked` literals are those whose consequences were looked for. No variable is assigned twice. Only
+/// Sakallah, GRASP, 1999, kept as a list by Eén and Sörensson, MiniSat, 2003). The level is the number of decisions.
+/// The first `walked` literals are those whose consequences were looked for. No variable is assigned twice. Only
 /// `with_variables` takes memory.
 #[derive(Debug)]
 pub struct Trail {
@@ -23,7 +23,7 @@ pub struct Trail {
     walked: usize,
 }
 
-// By hand, and so one call wherever a value ends: a derived drop is expanded there, field by field, and makes proofs long.
+// By hand, so that each exit of a function has one call for it (docs/IDIOMS.md).
 impl Drop for Trail {
     fn drop(self) {
         let Trail {
@@ -42,7 +42,12 @@ impl Model for Trail {
 
     ghost Value = { Trailing };
 
-    ghost view = { λ a. record { variables = length a.places.items; entries = a.entries.items; level = a.level; walked = a.walked } };
+    ghost view = { λ a. record {
+      variables = length a.places.items;
+      entries = a.entries.items;
+      level = a.level;
+      walked = a.walked;
+    } };
 
     ghost invariant = { λ a. IsKept a.entries a.places.items a.level a.walked };
 }
@@ -89,7 +94,8 @@ impl Trail {
         });
     }
 
-    // Adds a literal at the end, of a variable that is free. Its level is the present one, or for a decision the next one.
+    // Adds a literal at the end, of a variable that is free. Its level is the present one, or for a decision the next
+    // one.
     fn push(&mut self, entry: Assigned)
         requires free { IsFree self.old entry.literal }
         requires level { entry.level ≡ self.old.level + (if is_none entry.reason then 1 else 0) }

@@ -1,4 +1,4 @@
--- A vector on which a held output's partner is wrong.
+-- A vector on which an assigned output's partner is wrong.
 use Rattle.std.proofs.Common.{◌≡◌, ◌⊎◌, Bool, List, [], ◌∷◌, ◌++◌, length, map, get_or, All, refl, sym, subst, ◌∙◌, inl, inr, arith}
 use Rattle.std.specs.Prelude.{Contains}
 use Rattle.std.proofs.lemmas.List.{length-map}
@@ -19,7 +19,7 @@ use Rattle.vector_bans.proofs.ResortLemmas.{first_there}
 use Rattle.vector_bans.proofs.ShownLemmas.{input_output}
 use Rattle.word_sim.specs.ThreeValues.{of_bit}
 
--- held pairs of inputs, and one of an output that a vector shows to be wrong
+-- assigned pairs of inputs, and one of an output that a vector shows to be wrong
 pub shown_held : (graphs : Graphs) (held pairs : List Pair) (pair : Pair) (x : List Bool) (values : List Tri) → AreHeld graphs held → IsGraph graphs.first → IsPart held pairs → Contains held pair → HasOneOutput pairs pair → length x ≡ graphs.first.inputs → values ≡ map of_bit x → IsWrong graphs pairs pair values → IsShown graphs pairs pair values pairs
 shown_held graphs held pairs pair x values are first part there output size values_are wrong =
     subst (λ v. IsShown graphs pairs pair v pairs) (sym values_are) (record {

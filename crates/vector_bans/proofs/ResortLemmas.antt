@@ -13,7 +13,7 @@ use Rattle.account_core.specs.Given.{Decided, decided_by, given_of}
 use Rattle.account_core.specs.Ports.{ports_in, IsKnown}
 use Rattle.oracle_core.specs.Oracles.{Grows, Known}
 use Rattle.ban_book.specs.Vectors.{AreEndsDecided}
-use Rattle.ban_book.specs.declared.told.InputTold.{InputTold}
+use Rattle.ban_book.specs.declared.input_claims.InputClaims.{InputClaims}
 use Rattle.ban_book.specs.Rows.{AreRows, HasOneOutput, IsRow}
 use Rattle.ban_book.specs.Shown.{HaveNothing, IsShownBan, IsShownByRows}
 use Rattle.ban_book.proofs.VectorLemmas.{facts_decided}
@@ -36,14 +36,14 @@ second_there graphs pairs pair known output =
     subst (λ k. pair.to < ports_in graphs.second k) output.of_output (known_output graphs pairs pair known output).to
 
 -- the rows of both outputs, the second asked after the first
-pub both_rows : (mid new : Known) (pair : Pair) (one other : List InputTold) → Grows mid new → IsRow (map decided_by mid.facts) First pair.from one → IsRow (map decided_by new.facts) Second pair.to other → AreRows (map decided_by new.facts) pair one other
+pub both_rows : (mid new : Known) (pair : Pair) (one other : List InputClaims) → Grows mid new → IsRow (map decided_by mid.facts) First pair.from one → IsRow (map decided_by new.facts) Second pair.to other → AreRows (map decided_by new.facts) pair one other
 both_rows mid new pair one other grows first second = record { first = row_grows mid new First pair.from one grows first; second = second }
 
-pub shown_by_rows : (graphs : Graphs) (facts : List Decided) (pairs : List Pair) (pair : Pair) (one other : List InputTold) (found : Option Ban) → AreRows facts pair one other → IfSome found (IsShownByRows graphs pairs pair one other) → IfSome found (IsShownBan graphs facts pairs)
+pub shown_by_rows : (graphs : Graphs) (facts : List Decided) (pairs : List Pair) (pair : Pair) (one other : List InputClaims) (found : Option Ban) → AreRows facts pair one other → IfSome found (IsShownByRows graphs pairs pair one other) → IfSome found (IsShownBan graphs facts pairs)
 shown_by_rows graphs facts pairs pair one other None rows is = is
 shown_by_rows graphs facts pairs pair one other (Some ban) rows is = is.each facts rows
 
-pub nothing_by_rows : (graphs : Graphs) (known : Known) (pairs : List Pair) (pair : Pair) (one other : List InputTold) (found : Option Ban) → AreFacts graphs known.facts → length one ≡ graphs.first.inputs → length other ≡ graphs.second.inputs → AreRows (map decided_by known.facts) pair one other → IfNone found (HaveNothing graphs pairs pair one other) → IfNone found (ShowNothing graphs (map decided_by known.facts) pair pairs)
+pub nothing_by_rows : (graphs : Graphs) (known : Known) (pairs : List Pair) (pair : Pair) (one other : List InputClaims) (found : Option Ban) → AreFacts graphs known.facts → length one ≡ graphs.first.inputs → length other ≡ graphs.second.inputs → AreRows (map decided_by known.facts) pair one other → IfNone found (HaveNothing graphs pairs pair one other) → IfNone found (ShowNothing graphs (map decided_by known.facts) pair pairs)
 nothing_by_rows graphs known pairs pair one other None lawful first second rows is = record {
   decided = ends_decided graphs (map decided_by known.facts) pair one other first second rows;
   no_facts = is.each (map decided_by known.facts) rows (facts_decided graphs known.facts lawful);

@@ -15,7 +15,7 @@ use Rattle.account_core.specs.Held.{IsPart}
 use Rattle.ban_book.specs.Rows.{HasOneOutput}
 use Rattle.oracle_core.specs.Oracles.{IsDifference}
 use Rattle.vector_bans.specs.declared.difference.Difference.{Difference}
-use Rattle.vector_bans.specs.declared.difference.Shown.{Shown}
+use Rattle.vector_bans.specs.declared.difference.Counterexample.{Counterexample}
 
 -- the pair of a port whose entries are these
 abbrev pub pair_from : PortKind → List (ℕ × Bool) → ℕ → Pair
@@ -48,7 +48,7 @@ pub record IsShown (graphs : Graphs) (whole : List Pair) (pair : Pair) (values :
   pub wrong : IsWrong graphs pairs pair values
 
 -- these pairs are shown by these values
-abbrev pub AreShown : Graphs → List Pair → Shown → Type 0
+abbrev pub AreShown : Graphs → List Pair → Counterexample → Type 0
 AreShown graphs whole shown = IsShown graphs whole shown.pair shown.values shown.pairs
 
 -- Some of the assigned pairs, in order, all of inputs.

@@ -28,7 +28,7 @@ use word_sim::{Tri, tri_output};
 
 /// Pairs on which values of the first circuit's inputs show that an output differs from its partner.
 #[derive(Debug, Drop)]
-pub(crate) struct Shown {
+pub(crate) struct Counterexample {
     /// The output's pair, which is one of them.
     pub(crate) pair: Pair,
     pub(crate) pairs: Items<Pair>,
@@ -86,7 +86,7 @@ fn shown_by(
     graphs: &PairableGraphs<'_>,
     matching: &Matching,
     difference: &Difference,
-) -> Result<Shown, AllocError>
+) -> Result<Counterexample, AllocError>
     requires ports { HavePorts graphs.now.first graphs.now.second matching.now.inputs matching.now.outputs }
     requires differs { Differs graphs.now matching.now difference.now }
     ensures shown { IfOk result (λ shown. AreShown graphs.now shown.pairs shown) }
@@ -104,7 +104,7 @@ fn shown_by(
     let whole = inputs_and(alloc, matching, pair)?;
     let pairs = leave_out(alloc, graphs, &order, whole, pair, &values)?;
     let pairs = Items::from_vec(pairs);
-    Ok(Shown {
+    Ok(Counterexample {
         pair,
         pairs,
         values,

@@ -11,7 +11,7 @@ ghost use Rattle.match_guess.specs.Trials.{AreTrials, IsSuspect};
 ghost use Rattle.ban_book.specs.Rows.{HasOneOutput};
 ghost use Rattle.vector_bans.specs.Differences.{AreHeldInputs, AreShown};
 
-use crate::difference::{Shown, Tried, definite, is_wrong, leave_out};
+use crate::difference::{Counterexample, Tried, definite, is_wrong, leave_out};
 use crate::last_resort::hold_shown;
 use account_core::PairableGraphs;
 use ban_book::BanBook;
@@ -60,7 +60,7 @@ fn suspected(
     graphs: &PairableGraphs<'_>,
     held: &[Pair],
     trials: &Trials,
-) -> Result<Option<Shown>, AllocError>
+) -> Result<Option<Counterexample>, AllocError>
     requires held { AreHeld graphs.now held.now }
     requires trials { AreTrials graphs.now.first trials.now }
     ensures { IfOk result (λ found. IfSome found (AreShown graphs.now held.now)) }
@@ -78,7 +78,7 @@ fn wrong_pairs(
     graphs: &PairableGraphs<'_>,
     held: &[Pair],
     suspect: &Suspect,
-) -> Result<Option<Shown>, AllocError>
+) -> Result<Option<Counterexample>, AllocError>
     requires held { AreHeld graphs.now held.now }
     requires suspect { IsSuspect graphs.now held.now suspect.now }
     ensures { IfOk result (λ found. IfSome found (AreShown graphs.now held.now)) }
@@ -99,7 +99,7 @@ fn wrong_pairs(
     }
     let pairs = leave_out(alloc, graphs, held, pairs, pair, &values)?;
     let pairs = Items::from_vec(pairs);
-    Ok(Some(Shown {
+    Ok(Some(Counterexample {
         pair,
         pairs,
         values,

@@ -12,7 +12,7 @@ ghost use Rattle.fact_bans.specs.Asking.{AreSame, HoldsBy, MayAskBy, MayHoldBy, 
 ghost use Rattle.vector_bans.specs.Differences.{AreShown};
 ghost use Rattle.vector_bans.specs.Resorts.{IsBanWithin, ShowNothing};
 
-use crate::difference::Shown;
+use crate::difference::Counterexample;
 use account_core::{Ban, PairableGraphs, Step};
 use ban_book::{BanBook, ban_by_facts};
 use circuits::Pair;
@@ -34,7 +34,7 @@ use word_sim::Tri;
 pub(crate) fn hold_shown<O: Oracle>(
     graphs: &PairableGraphs<'_>,
     asker: &mut Asker<'_, O>,
-    shown: Shown,
+    shown: Counterexample,
     book: &mut BanBook,
 ) -> Result<u64, Stop>
     requires may { MayHoldBy graphs.now (loans O.known asker.old) book.old }
@@ -52,7 +52,7 @@ pub(crate) fn hold_shown<O: Oracle>(
 fn ban_of<O: Oracle>(
     graphs: &PairableGraphs<'_>,
     asker: &mut Asker<'_, O>,
-    shown: Shown,
+    shown: Counterexample,
 ) -> Result<Ban, Stop>
     requires may { MayAskBy graphs.now (loans O.known asker.old) }
     requires shown { AreShown graphs.now shown.pairs shown }
@@ -63,7 +63,7 @@ fn ban_of<O: Oracle>(
 {
     // the facts of an oracle are of its circuits
     let _facts = asker.oracle.facts();
-    let Shown {
+    let Counterexample {
         pair,
         pairs,
         values,

@@ -12,8 +12,8 @@ use std::marker::Model;
 #[derive(Drop)]
 pub(crate) struct Arena {
     store: ClauseStore,
-    /// Whether each clause has two literals. A byte for each clause lies close together, where it would make a watch half as
-    /// large again.
+    /// Whether each clause has two literals. A byte for each clause lies close together, where it would make a watch
+    /// half as large again.
     binary: Vec<bool>,
 }
 

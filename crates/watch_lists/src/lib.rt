@@ -1,4 +1,5 @@
-//! Propagation by two watched literals of each clause (Moskewicz and others, Chaff, 2001; Eén and Sörensson, MiniSat, 2003).
+//! Propagation by two watched literals of each clause (Moskewicz and others, Chaff, 2001; Eén and Sörensson, MiniSat,
+//! 2003).
 #![tactic(auto)]
 
 mod arena;

@@ -13,7 +13,7 @@ use crate::arena::Arena;
 use cnf_core::SatLit;
 use trail_core::Trail;
 
-/// What a clause does where a watched literal of it became false, by the other watched one.
+/// What becomes of a clause of which a watched literal became false, by its other watched literal.
 #[derive(Clone, Copy)]
 pub(crate) enum Look {
     /// The other one is true.
@@ -38,8 +38,10 @@ pub(crate) fn target(
     requires there { id < length clauses.now.clauses }
     requires known { AreKnown trail.old.variables (clause_at clauses.now.clauses id) }
     requires half { IsHalfFalse (literals trail.old.entries) (clause_at clauses.now.clauses id) other }
-    ensures target { IfSome result (IsTarget trail.old trail.new (clause_at clauses.now.clauses id) id other falsified) }
-    ensures conflict { IfNone result (effect_of (literals trail.old.entries) (clause_at clauses.now.clauses id) ≡ AllFalse) }
+    ensures target { IfSome result
+        (IsTarget trail.old trail.new (clause_at clauses.now.clauses id) id other falsified) }
+    ensures conflict { IfNone result
+        (effect_of (literals trail.old.entries) (clause_at clauses.now.clauses id) ≡ AllFalse) }
     ensures same { IfNone result (trail.new ≡ trail.old) }
 {
     match look_at(trail, clauses, id, other) {
@@ -53,7 +55,7 @@ pub(crate) fn target(
     }
 }
 
-// What a clause does, by one of its watched literals, where the other one is false.
+// The same, read off the trail.
 fn look_at(trail: &Trail, clauses: &Arena, id: u64, other: SatLit) -> Look
     requires there { id < length clauses.now.clauses }
     requires known { AreKnown trail.now.variables (clause_at clauses.now.clauses id) }
@@ -73,8 +75,8 @@ fn look_at(trail: &Trail, clauses: &Arena, id: u64, other: SatLit) -> Look
     }
 }
 
-// A literal of a clause that isn't false, beside a watched one, where the other watched one is false. A binary clause has
-// none.
+// A literal to watch in place of the watched one that is false: it isn't false, and isn't `other`, which is watched
+// too. A binary clause has none.
 fn third(trail: &Trail, clauses: &Arena, id: u64, other: SatLit) -> Option<SatLit>
     requires there { id < length clauses.now.clauses }
     requires half { IsHalfFalse (literals trail.now.entries) (clause_at clauses.now.clauses id) other }
@@ -87,8 +89,8 @@ fn third(trail: &Trail, clauses: &Arena, id: u64, other: SatLit) -> Option<SatLi
     beside(trail, clauses.get(id), other)
 }
 
-/// A literal of a clause that isn't false, beside another one. The first is as good as any: the literals that became false
-/// are at no certain places.
+/// The first literal of a clause that isn't false and isn't `other`. Any would do: the literals that became false are
+/// at no certain places.
 pub(crate) fn beside(trail: &Trail, clause: &[SatLit], other: SatLit) -> Option<SatLit>
     ensures found { IfSome result (IsBeside (literals trail.now.entries) clause.now other) }
     ensures none { IfNone result (All (IsOut (literals trail.now.entries) other) clause.now) }
@@ -101,7 +103,7 @@ pub(crate) fn beside(trail: &Trail, clause: &[SatLit], other: SatLit) -> Option<
     None
 }
 
-// Whether a literal is false, or is another one.
+// Whether a literal can't be watched beside `other`: it is false, or is that one.
 fn is_out(trail: &Trail, literal: SatLit, other: SatLit) -> bool
     ensures yes { result ≡ true → IsOut (literals trail.now.entries) other literal }
     ensures no { result ≡ false → IsIn (literals trail.now.entries) other literal }

@@ -6,8 +6,8 @@ ghost use Rattle.watch_lists.specs.Threads.{AreAlike, ArePut, AreThreaded, IsAtt
 use cnf_core::SatLit;
 use std::alloc::{AllocError, Global};
 
-/// One of the two watches of a clause: the literal that it watches, and the next watch in the list of that literal. The
-/// last one's next is of no use.
+/// One of the two watches of a clause: the literal that it watches, and the next watch in the list of that literal,
+/// which means nothing where this is the last one.
 #[derive(Clone, Copy)]
 pub(crate) struct ThreadedWatch {
     pub(crate) literal: SatLit,
@@ -71,7 +71,10 @@ impl Threads {
         requires there { rest.old.at < length self.now.watches.items }
         requires left { 0 < rest.old.left }
         ensures watch { result ≡ rest.old.at }
-        ensures rest { rest.new ≡ record { at = (watch_at self.now.watches.items rest.old.at).next; left = rest.old.left - 1 } }
+        ensures rest { rest.new ≡ record {
+          at = (watch_at self.now.watches.items rest.old.at).next;
+          left = rest.old.left - 1;
+        } }
     {
         let watch = rest.at;
         rest.at = self.watches[watch].next;
@@ -106,7 +109,10 @@ impl Threads {
         requires left { 0 < rest.old.left }
         requires known { literal.0 < length self.old.heads.items }
         requires few { (head_at self.old.heads.items literal.0).count + 1 < 2 ^ 64 }
-        ensures rest { rest.new ≡ record { at = (watch_at self.old.watches.items rest.old.at).next; left = rest.old.left - 1 } }
+        ensures rest { rest.new ≡ record {
+          at = (watch_at self.old.watches.items rest.old.at).next;
+          left = rest.old.left - 1;
+        } }
         ensures watches { self.new.watches.items ≡ slice_set self.old.watches.items rest.old.at
             (record { literal = literal; next = (head_at self.old.heads.items literal.0).first }) }
         ensures heads { self.new.heads.items ≡ slice_set self.old.heads.items literal.0

@@ -17,16 +17,16 @@ use std::alloc::{AllocError, Global};
 use std::marker::Model;
 use trail_core::Trail;
 
-/// Clauses, of which each that is attached is in the lists of two of its literals, the watched ones. While one of these isn't
-/// false, or the other one is true, the clause leaves nothing to be assigned, so it is looked at only when a watched
-/// literal becomes false. Only `new` and `add` take memory.
+/// Clauses, of which each that is attached is in the lists of two of its literals, the watched ones. While one of these
+/// isn't false, or the other one is true, the clause leaves nothing to be assigned, so it is looked at only when a
+/// watched literal becomes false. Only `new` and `add` take memory.
 pub struct Watches {
     variables: u64,
     clauses: Arena,
     threads: Threads,
 }
 
-// By hand, and so one call wherever a value ends: a derived drop is expanded there, field by field, and makes proofs long.
+// By hand, so that each exit of a function has one call for it (docs/IDIOMS.md).
 impl Drop for Watches {
     fn drop(self) {
         let Watches {
@@ -42,7 +42,11 @@ impl Model for Watches {
 
     ghost Value = { Watching };
 
-    ghost view = { λ a. record { variables = a.variables; clauses = a.clauses.clauses; watches = a.threads.watches.items } };
+    ghost view = { λ a. record {
+      variables = a.variables;
+      clauses = a.clauses.clauses;
+      watches = a.threads.watches.items;
+    } };
 
     ghost invariant = { λ a. AreKept a.variables a.clauses.clauses a.threads.watches.items a.threads.heads.items };
 }
@@ -135,9 +139,9 @@ impl Watches {
         }
     }
 
-    /// Walks all literals of a trail that aren't walked, and assigns what is the only literal left of an attached clause.
-    /// None: all are walked, and each attached clause has a true literal or two unassigned ones. Some: the number of an
-    /// attached clause all of whose literals are false. It takes no memory.
+    /// Walks all literals of a trail that aren't walked, and assigns what is the only literal left of an attached
+    /// clause. None: all are walked, and each attached clause has a true literal or two unassigned ones. Some: the
+    /// number of an attached clause all of whose literals are false. It takes no memory.
     pub fn propagate(&mut self, trail: &mut Trail) -> Option<u64>
         requires fits { Fits self.old trail.old }
         requires present { IsPresent trail.old }

@@ -14,8 +14,8 @@ use refute_check::Refuter;
 use std::alloc::{AllocError, AllocFailed, Global};
 
 /// Asks whether an output of the first netlist can have the value where that of the second has not, with n learned
-/// lines at most, and prints the answer: `vector` with a bit for each input, `refuted` with the number of the log's lines
-/// where each of them was derived again, or `spent` with the number of learned lines.
+/// lines at most, and prints the answer: `vector` with a bit for each input, `refuted` with the number of the log's
+/// lines where each of them was derived again, or `spent` with the number of learned lines.
 pub(crate) fn run<R: Print + AllocGlobal>(
     rt: &R,
     graphs: &Graphs<'_>,

@@ -13,7 +13,7 @@ const SEED: u64 = 1;
 
 /// How many shapes of each kind were seen broken.
 #[derive(Clone, Copy, Debug)]
-struct Seen {
+struct BrokenCounts {
     up: usize,
     down: usize,
     swap: usize,
@@ -32,7 +32,12 @@ pub(crate) fn run<R: Print + AllocGlobal>(rt: &R, graph: &Graph, rounds: u32) ->
 }
 
 /// How many shapes of an output are seen broken.
-fn seen_of(alloc: Global, graph: &Graph, output: u32, rounds: u32) -> Result<Seen, AllocError>
+fn seen_of(
+    alloc: Global,
+    graph: &Graph,
+    output: u32,
+    rounds: u32,
+) -> Result<BrokenCounts, AllocError>
     requires { output < length graph.now.outputs }
 {
     let mut shapes = Vec::new(alloc);
@@ -41,7 +46,7 @@ fn seen_of(alloc: Global, graph: &Graph, output: u32, rounds: u32) -> Result<See
     }
     shapes.sort_unstable();
     shapes.dedup();
-    Ok(Seen {
+    Ok(BrokenCounts {
         up: shapes
             .iter()
             .filter(|shape| matches!(shape, Shape::Up(_)))

@@ -6,19 +6,19 @@ use Rattle.class_refine.specs.Stable.{HaveNoBan, HaveNoSwapMismatch}
 use Rattle.class_refine.proofs.TrailLemmas.{refines_bans, refines_then}
 use Rattle.class_refine.proofs.refining.exclude.Goals as goal
 
-pub exclude_held-requires-clause-held : goal.exclude_held-requires-clause-held
-exclude_held-requires-clause-held c =
+pub exclude_assigned-requires-clause-held : goal.exclude_assigned-requires-clause-held
+exclude_assigned-requires-clause-held c =
     let graphs = c.args.grounds.now.graphs.now in
     let d = c.args.domains.now in
     subst (AreHeld graphs) (sym c.pairs.ensures.value) (held_known graphs d.inputs d.outputs d.entries c.requires.trail.fit c.entries-lawful.ensures.lawful)
 
 pub returns-in_err-ban-clause-refines : goal.returns-in_err-ban-clause-refines
-returns-in_err-ban-clause-refines c = refines_bans _ _ c.args.book.now c.exclude_held.new.book c.args.domains.now c.in_err-ban.ensures.adds
+returns-in_err-ban-clause-refines c = refines_bans _ _ c.args.book.now c.exclude_assigned.new.book c.args.domains.now c.in_err-ban.ensures.adds
 
 pub exclude_beside-requires-clause-may : goal.exclude_beside-requires-clause-may
 exclude_beside-requires-clause-may c =
     let g = c.args.grounds.now in
-    let more = c.exclude_held.new.book in
+    let more = c.exclude_assigned.new.book in
     record {
       are = c.requires.grounds;
       inputs_are = c.requires.inputs;
@@ -29,10 +29,10 @@ exclude_beside-requires-clause-may c =
     }
 
 pub returns-in-Some-clause-refines : goal.returns-in-Some-clause-refines
-returns-in-Some-clause-refines c = refines_bans _ _ c.args.book.now c.exclude_held.new.book c.args.domains.now c.in_ok-ban.ensures.adds
+returns-in-Some-clause-refines c = refines_bans _ _ c.args.book.now c.exclude_assigned.new.book c.args.domains.now c.in_ok-ban.ensures.adds
 
 pub returns-in-None-clause-refines : goal.returns-in-None-clause-refines
 returns-in-None-clause-refines c =
     let g = c.args.grounds.now in
     let d = c.args.domains.now in
-    refines_then g.graphs.now (decided g) c.args.book.now c.exclude_held.new.book c.exclude_beside.new.book d d c.exclude_beside.new.domains (refines_bans g.graphs.now (decided g) c.args.book.now c.exclude_held.new.book d c.in_ok-ban.ensures.adds) c.exclude_beside.ensures.refines
+    refines_then g.graphs.now (decided g) c.args.book.now c.exclude_assigned.new.book c.exclude_beside.new.book d d c.exclude_beside.new.domains (refines_bans g.graphs.now (decided g) c.args.book.now c.exclude_assigned.new.book d c.in_ok-ban.ensures.adds) c.exclude_beside.ensures.refines

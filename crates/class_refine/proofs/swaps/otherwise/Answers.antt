@@ -3,7 +3,7 @@ use Rattle.std.specs.Prelude.{IfNone}
 use Rattle.std.proofs.lemmas.List.{length-map}
 use Rattle.account_core.specs.Given.{decided_by}
 use Rattle.claim_core.specs.declared.claims.Claim.{Claim}
-use Rattle.ban_book.specs.declared.told.Told.{Told}
+use Rattle.ban_book.specs.declared.input_claims.DecidedClaim.{DecidedClaim}
 use Rattle.ban_book.specs.Told.{IsToldAs}
 use Rattle.class_refine.specs.Swaps.{SaysOf}
 use Rattle.class_refine.proofs.SwapIndexLemmas.{found_in, says_none, says_one}
@@ -13,7 +13,7 @@ pub returns-in_err-number-clause-none : goal.returns-in_err-number-clause-none
 returns-in_err-number-clause-none c =
     let facts = map decided_by c.args.facts.now in
     let none = says_none facts c.args.swaps.now.entries c.args.claim c.args.holds c.requires.index c.requires.two (sym c.number_of.ensures ∙ c.in_err-number.was) in
-    subst (λ (r : Option Told). IfNone r ((k : ℕ) → k < length c.args.facts.now → SaysOf facts c.args.claim c.args.holds k)) (sym c.from_residual.ensures) (λ k below. none k (omega (arith, below, length-map c.args.facts.now decided_by)))
+    subst (λ (r : Option DecidedClaim). IfNone r ((k : ℕ) → k < length c.args.facts.now → SaysOf facts c.args.claim c.args.holds k)) (sym c.from_residual.ensures) (λ k below. none k (omega (arith, below, length-map c.args.facts.now decided_by)))
 
 pub told_at-told-requires : goal.told_at-told-requires
 told_at-told-requires c =

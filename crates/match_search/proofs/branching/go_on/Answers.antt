@@ -3,8 +3,8 @@ use Rattle.pair_search.specs.Progress.{left}
 use Rattle.match_search.proofs.StepLemmas.{steps_ok, steps_stop, way_start, way_stays}
 use Rattle.match_search.proofs.branching.go_on.Goals as goal
 
-pub compare_held-requires-clause-whole : goal.compare_held-requires-clause-whole
-compare_held-requires-clause-whole g c = (rw c.in_default.is at c.in_ok-port.ensures.none) c.args.graphs.now c.requires.may.trail.trail.fit
+pub compare_assigned-requires-clause-whole : goal.compare_assigned-requires-clause-whole
+compare_assigned-requires-clause-whole g c = (rw c.in_default.is at c.in_ok-port.ensures.none) c.args.graphs.now c.requires.may.trail.trail.fit
 
 pub returns-in_err-port-clause-steps : goal.returns-in_err-port-clause-steps
 returns-in_err-port-clause-steps g c = steps_stop c.from_residual.ensures.1 (way_start c.requires.may)
@@ -20,6 +20,6 @@ returns-in-Some-2-clause-steps g c = steps_ok (way_stays refl (way_start c.requi
 
 pub returns-in-Some-2-clause-ahead : goal.returns-in-Some-2-clause-ahead
 returns-in-Some-2-clause-ahead g c = record {
-  impasse_is = (rw c.in-Some-2.is at c.in_ok-branch.ensures.impasse) c.args.session.now.book.now;
+  conflict_is = (rw c.in-Some-2.is at c.in_ok-branch.ensures.conflict) c.args.session.now.book.now;
   less = omega (arith, ap left (rw c.in-Some-2.is at c.in_ok-branch.ensures.stuck));
 }

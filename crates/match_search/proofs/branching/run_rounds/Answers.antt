@@ -1,4 +1,4 @@
--- One round after the other, with the bans that are held.
+-- One round after the other, with the bans that are kept.
 use Rattle.std.proofs.Common.{refl}
 use Rattle.match_search.proofs.StepLemmas.{may_go_on, steps_err, steps_ok, way_more, way_start, way_stays}
 use Rattle.match_search.proofs.branching.run_rounds.Goals as goal

@@ -14,8 +14,8 @@ returns-in-Deeper-clause-less g c = rw c.in-Deeper.is at c.in_ok-ahead.ensures.a
 pub returns-in-Match-clause-steps : goal.returns-in-Match-clause-steps
 returns-in-Match-clause-steps g c = steps_ok (way_one c.in_ok-ahead.ensures.steps)
 
-pub turn_back-requires-clause-impasse : goal.turn_back-requires-clause-impasse
-turn_back-requires-clause-impasse g c = (rw c.in-Impasse.is at c.in_ok-ahead.ensures.ahead).impasse_is
+pub turn_back-requires-clause-conflict : goal.turn_back-requires-clause-conflict
+turn_back-requires-clause-conflict g c = (rw c.in-Conflict.is at c.in_ok-ahead.ensures.ahead).conflict_is
 
 pub turn_back-requires-clause-trail : goal.turn_back-requires-clause-trail
 turn_back-requires-clause-trail g c = c.in_ok-ahead.ensures.steps.trail.trail
@@ -29,7 +29,7 @@ returns-in-None-clause-steps g c =
 
 pub returns-in-None-clause-less : goal.returns-in-None-clause-less
 returns-in-None-clause-less g c =
-    omega (arith, (rw c.in-Impasse.is at c.in_ok-ahead.ensures.ahead).less, rw c.in-None.is at c.in_ok-refusal.ensures.less)
+    omega (arith, (rw c.in-Conflict.is at c.in_ok-ahead.ensures.ahead).less, rw c.in-None.is at c.in_ok-refusal.ensures.less)
 
 pub returns-in-Some-clause-steps : goal.returns-in-Some-clause-steps
 returns-in-Some-clause-steps g c =

@@ -28,20 +28,20 @@ returns-in_err-seen g c =
     let held = held_asked (held_same _ _ _ _ (may_start c.requires.may c.facts-facts.ensures.lawful)) c.in_ok-matching.ensures.serves in
     record { searches = searches_stop c.from_residual-in_err-seen.ensures.1 held.served held.valid }
 
-pub returns-in_err-aids : goal.returns-in_err-aids
-returns-in_err-aids g c =
+pub returns-in_err-heuristics : goal.returns-in_err-heuristics
+returns-in_err-heuristics g c =
     let held = held_asked (held_same _ _ _ _ (may_start c.requires.may c.facts-facts.ensures.lawful)) c.in_ok-matching.ensures.serves in
-    record { searches = searches_stop c.from_residual-in_err-aids.ensures.1 held.served held.valid }
+    record { searches = searches_stop c.from_residual-in_err-heuristics.ensures.1 held.served held.valid }
 
 pub refuse_or_find-requires : goal.refuse_or_find-requires
 refuse_or_find-requires g c =
     let may = may_start c.requires.may c.facts-facts.ensures.lawful in
-    record { may = record { may = may_later _ _ _ _ _ _ _ may (held_asked (held_same _ _ _ _ may) c.in_ok-matching.ensures.serves); trials = c.in_ok-aids.ensures } }
+    record { may = record { may = may_later _ _ _ _ _ _ _ may (held_asked (held_same _ _ _ _ may) c.in_ok-matching.ensures.serves); trials = c.in_ok-heuristics.ensures } }
 
 pub refuse_or_explore-requires : goal.refuse_or_explore-requires
 refuse_or_explore-requires g c =
     let may = may_start c.requires.may c.facts-facts.ensures.lawful in
-    record { may = record { may = may_later _ _ _ _ _ _ _ may (held_asked (held_same _ _ _ _ may) c.in_ok-matching.ensures.serves); trials = c.in_ok-aids.ensures } }
+    record { may = record { may = may_later _ _ _ _ _ _ _ may (held_asked (held_same _ _ _ _ may) c.in_ok-matching.ensures.serves); trials = c.in_ok-heuristics.ensures } }
 
 pub returns-in-Little : goal.returns-in-Little
 returns-in-Little g c =

@@ -1,4 +1,4 @@
--- Counts refuse a match, or some rounds come to something, or a matching is a match, or the search goes on with the bans that are held.
+-- Counts refuse a match, or some rounds come to something, or a matching is a match, or the search goes on with the bans that are kept.
 use Rattle.match_search.proofs.SearchLemmas.{may_ask, may_search_on, search_ended, search_failed, search_found, search_last, searching_asked, searching_more, searching_start}
 use Rattle.match_search.proofs.deciding.refuse_or_find.Goals as goal
 

@@ -1,29 +1,29 @@
 use Rattle.match_search.proofs.StepLemmas.{may_go_on, on_any, steps_err, steps_last, steps_ok, way_more, way_one, way_start}
 use Rattle.match_search.proofs.following.follow.Goals as goal
 
-pub returns-in_err-impasse-clause-steps : goal.returns-in_err-impasse-clause-steps
-returns-in_err-impasse-clause-steps g c = steps_err c.from_residual.ensures.1 (way_start c.requires.may) c.in_err-impasse.ensures.steps
+pub returns-in_err-conflict-clause-steps : goal.returns-in_err-conflict-clause-steps
+returns-in_err-conflict-clause-steps g c = steps_err c.from_residual.ensures.1 (way_start c.requires.may) c.in_err-conflict.ensures.steps
 
 pub returns-in-Some-clause-steps : goal.returns-in-Some-clause-steps
-returns-in-Some-clause-steps g c = steps_ok (way_one c.in_ok-impasse.ensures.steps)
+returns-in-Some-clause-steps g c = steps_ok (way_one c.in_ok-conflict.ensures.steps)
 
 pub returns-then-has_had_its_share-clause-steps : goal.returns-then-has_had_its_share-clause-steps
-returns-then-has_had_its_share-clause-steps g c = steps_ok (way_one c.in_ok-impasse.ensures.steps)
+returns-then-has_had_its_share-clause-steps g c = steps_ok (way_one c.in_ok-conflict.ensures.steps)
 
-pub exchange_held-requires : goal.exchange_held-requires
-exchange_held-requires g c = record { may = may_go_on c.requires.may.may (way_one c.in_ok-impasse.ensures.steps) }
+pub exchange_assigned-requires : goal.exchange_assigned-requires
+exchange_assigned-requires g c = record { may = may_go_on c.requires.may.may (way_one c.in_ok-conflict.ensures.steps) }
 
 pub returns-in_err-exchanged-clause-steps : goal.returns-in_err-exchanged-clause-steps
-returns-in_err-exchanged-clause-steps g c = steps_err c.from_residual-in_err-exchanged.ensures.1 (way_one c.in_ok-impasse.ensures.steps) c.in_err-exchanged.ensures.steps
+returns-in_err-exchanged-clause-steps g c = steps_err c.from_residual-in_err-exchanged.ensures.1 (way_one c.in_ok-conflict.ensures.steps) c.in_err-exchanged.ensures.steps
 
 pub returns-in-Some-2-clause-steps : goal.returns-in-Some-2-clause-steps
-returns-in-Some-2-clause-steps g c = steps_ok (way_more (way_one c.in_ok-impasse.ensures.steps) c.in_ok-exchanged.ensures.steps)
+returns-in-Some-2-clause-steps g c = steps_ok (way_more (way_one c.in_ok-conflict.ensures.steps) c.in_ok-exchanged.ensures.steps)
 
-pub try_held-requires : goal.try_held-requires
-try_held-requires g c = record { may = may_go_on c.requires.may.may (way_more (way_one c.in_ok-impasse.ensures.steps) c.in_ok-exchanged.ensures.steps) }
+pub try_assigned-requires : goal.try_assigned-requires
+try_assigned-requires g c = record { may = may_go_on c.requires.may.may (way_more (way_one c.in_ok-conflict.ensures.steps) c.in_ok-exchanged.ensures.steps) }
 
 pub returns-clause-steps : goal.returns-clause-steps
-returns-clause-steps g c = steps_last (way_more (way_one c.in_ok-impasse.ensures.steps) c.in_ok-exchanged.ensures.steps) c.try_held.ensures.steps
+returns-clause-steps g c = steps_last (way_more (way_one c.in_ok-conflict.ensures.steps) c.in_ok-exchanged.ensures.steps) c.try_assigned.ensures.steps
 
 pub returns-clause-less : goal.returns-clause-less
-returns-clause-less g c = on_any _ c.try_held.result c.in_ok-impasse.ensures.less
+returns-clause-less g c = on_any _ c.try_assigned.result c.in_ok-conflict.ensures.less

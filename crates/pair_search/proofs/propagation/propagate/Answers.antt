@@ -2,4 +2,4 @@ use Rattle.std.proofs.Common.{rules}
 use Rattle.pair_search.proofs.propagation.propagate.Goals as goal
 
 pub returns-in-Some-2 : goal.returns-in-Some-2
-returns-in-Some-2 c = record { propagates = c.in_ok-impasse.ensures.propagates; impasse = search rules }
+returns-in-Some-2 c = record { propagates = c.in_ok-conflict.ensures.propagates; conflict = search rules }

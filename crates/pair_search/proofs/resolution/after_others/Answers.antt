@@ -4,7 +4,7 @@ use Rattle.pair_domains.specs.declared.entry.Entry.{Entry}
 use Rattle.pair_domains.specs.declared.entry.Fate.TheVariants.{Held}
 use Rattle.pair_domains.specs.declared.entry.Cause.TheVariants.{Choice}
 use Rattle.pair_domains.specs.Trails.{held_in}
-use Rattle.pair_search.specs.Conflicts.{IsLastOf}
+use Rattle.pair_search.specs.ConflictSets.{IsLastOf}
 use Rattle.pair_search.proofs.PivotLemmas.{front_more, others_before, others_none}
 use Rattle.pair_search.proofs.resolution.after_others.Goals as goal
 

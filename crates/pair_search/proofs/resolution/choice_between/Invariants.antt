@@ -1,4 +1,4 @@
-use Rattle.pair_search.specs.Conflicts.{HasNoChoice}
+use Rattle.pair_search.specs.ConflictSets.{HasNoChoice}
 use Rattle.pair_search.proofs.resolution.choice_between.Given as goal
 
 abbrev pub invariant-loop-place : goal.invariant-loop-place

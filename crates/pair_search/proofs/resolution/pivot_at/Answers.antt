@@ -1,7 +1,7 @@
 use Rattle.std.proofs.Common.{List, get_or, subst}
 use Rattle.pair_domains.specs.declared.entry.Entry.{Entry}
 use Rattle.pair_domains.specs.Trails.{held_in}
-use Rattle.pair_search.specs.Conflicts.{IsChoiceAt}
+use Rattle.pair_search.specs.ConflictSets.{IsChoiceAt}
 use Rattle.pair_search.proofs.PivotLemmas.{chosen_at, forced_at, split_at, split_own}
 use Rattle.pair_search.proofs.resolution.pivot_at.Goals as goal
 use Rattle.std.proofs.lemmas.List.{get_or_default}

@@ -17,5 +17,5 @@ returns-in_ok-delete-clause-propagates c =
     let d = c.args.domains.now in
     let way = c.in-Some.way in
     let e : Entry = record { pair = way; fate = Deleted (reason.Ban c.args.number) } in
-    let both = and_parts c.is_open.result c.are_others_held.result c.if-is_open-are_others_held.true in
-    propagates_one c.args.bans.now d c.delete.new.self e (one_more_of d c.delete.new.self e c.in_ok-delete.ensures.deleted) c.entries-lawful.ensures.lawful (c.is_open.ensures.known both.0) (c.is_open.ensures.is both.0) refl c.requires.justified (covers_lent c.args.bans.now (way ∷ held_in d.entries) c.deref-2.result.now c.args.number c.index-bans-number.result c.requires.there c.deref-2.ensures (c.are_others_held.ensures both.1)) (λ graphs facts. tt)
+    let both = and_parts c.is_open.result c.are_others_assigned.result c.if-is_open-are_others_assigned.true in
+    propagates_one c.args.bans.now d c.delete.new.self e (one_more_of d c.delete.new.self e c.in_ok-delete.ensures.deleted) c.entries-lawful.ensures.lawful (c.is_open.ensures.known both.0) (c.is_open.ensures.is both.0) refl c.requires.justified (covers_lent c.args.bans.now (way ∷ held_in d.entries) c.deref-2.result.now c.args.number c.index-bans-number.result c.requires.there c.deref-2.ensures (c.are_others_assigned.ensures both.1)) (λ graphs facts. tt)

@@ -1,4 +1,4 @@
--- What is left of the held pairs shows the difference.
+-- What is left of the assigned pairs shows the difference.
 use Rattle.std.proofs.Common.{◌∙◌, List, ap, length, sym, subst}
 use Rattle.circuits.specs.declared.port.Pair.{Pair}
 use Rattle.std.proofs.lemmas.List.{length-map}

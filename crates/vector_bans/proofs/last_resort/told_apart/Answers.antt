@@ -4,7 +4,7 @@ use Rattle.net_core.specs.declared.graphs.Side.TheVariants.{First, Second}
 use Rattle.account_core.specs.Facts.{AreFacts}
 use Rattle.account_core.specs.Given.{decided_by}
 use Rattle.ban_book.specs.Rows.{IsRow}
-use Rattle.ban_book.specs.declared.told.InputTold.{InputTold}
+use Rattle.ban_book.specs.declared.input_claims.InputClaims.{InputClaims}
 use Rattle.fact_bans.proofs.AskingLemmas.{same_then}
 use Rattle.fact_bans.proofs.ServeLemmas.{ask_later, served_one, served_then, serves_err, serves_memory, serves_ok}
 use Rattle.vector_bans.proofs.ResortLemmas.{both_rows, first_there, nothing_by_rows, second_there, shown_by_rows}
@@ -37,8 +37,8 @@ pub returns : goal.returns
 returns g c =
     let mid = g.O.Oracle.known c.claims_of.new.asker.oracle.now in
     let new = g.O.Oracle.known c.claims_of-2.new.asker.oracle.now in
-    let one = subst (λ (row : List InputTold). IsRow (map decided_by mid.facts) First c.args.pair.from row) (sym c.deref.ensures.value) c.in_ok-first.ensures.row in
-    let other = subst (λ (row : List InputTold). IsRow (map decided_by new.facts) Second c.args.pair.to row) (sym c.deref-2.ensures.value) c.in_ok-second.ensures.row in
+    let one = subst (λ (row : List InputClaims). IsRow (map decided_by mid.facts) First c.args.pair.from row) (sym c.deref.ensures.value) c.in_ok-first.ensures.row in
+    let other = subst (λ (row : List InputClaims). IsRow (map decided_by new.facts) Second c.args.pair.to row) (sym c.deref-2.ensures.value) c.in_ok-second.ensures.row in
     let rows = both_rows mid new c.args.pair c.deref.result.now c.deref-2.result.now c.in_ok-second.ensures.serves.grows one other in
     let first = ap length c.deref.ensures.value ∙ c.in_ok-first.ensures.whole in
     let second = ap length c.deref-2.ensures.value ∙ c.in_ok-second.ensures.whole in

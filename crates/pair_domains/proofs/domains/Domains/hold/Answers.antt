@@ -1,4 +1,4 @@
--- What is kept with one held pair more.
+-- What is kept with one assigned pair more.
 use Rattle.std.proofs.Common.{◌≡◌, List, [], ◌∷◌, ◌++◌, length, Option, Some, slice_set, refl, sym, ap, subst, ◌∙◌, arith}
 use Rattle.net_core.specs.declared.graphs.Side.TheVariants.{First, Second}
 use Rattle.circuits.specs.declared.port.Pair.{Pair}

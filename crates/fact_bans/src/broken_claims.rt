@@ -1,0 +1,251 @@
+use crate::sampling::{Flips, sampled};
+use crate::swaps::{Swaps, blocks_for_swaps, swaps_seen};
+use account_core::{PairableGraphs, Tallied};
+use net_core::Side;
+use query_core::{Claim, Shape};
+use std::alloc::{AllocError, Global};
+
+/// No number was noted.
+const NOT_NOTED: u32 = u32::MAX;
+
+/// The claims about two circuits that vectors were seen to break: those of one input, and once they are looked for
+/// those of two. Nothing rests on it: it says which claims are worth deciding.
+#[derive(Debug)]
+pub struct BrokenClaims {
+    first: Vec<Vec<Flips>>,
+    second: Vec<Vec<Flips>>,
+    swaps: Option<TwoSwaps>,
+    seed: u64,
+    /// The numbers of the facts of claims of one input, by circuit, output, input and value: an array, since the same
+    /// two are compared again and again.
+    numbers: Vec<u32>,
+    inputs: usize,
+    outputs: usize,
+}
+
+// By hand, so that each exit of a function has one call for it (docs/IDIOMS.md).
+impl Drop for BrokenClaims {
+    fn drop(self) {
+        let BrokenClaims {
+            first: _first,
+            second: _second,
+            swaps: _swaps,
+            seed: _seed,
+            numbers: _numbers,
+            inputs: _inputs,
+            outputs: _outputs,
+        } = self;
+    }
+}
+
+/// What vectors showed of claims of two inputs.
+#[derive(Debug)]
+struct TwoSwaps {
+    first: Swaps,
+    second: Swaps,
+}
+
+// By hand, so that each exit of a function has one call for it (docs/IDIOMS.md).
+impl Drop for TwoSwaps {
+    fn drop(self) {
+        let TwoSwaps {
+            first: _first,
+            second: _second,
+        } = self;
+    }
+}
+
+impl BrokenClaims {
+    /// What vectors show of claims of one input, drawn by the seed, or all where these are few.
+    ///
+    /// # Errors
+    ///
+    /// Only when out of memory.
+    pub fn new(
+        alloc: Global,
+        graphs: &PairableGraphs<'_>,
+        seed: u64,
+    ) -> Result<BrokenClaims, AllocError> {
+        let inputs = graphs.first().inputs() as usize;
+        let outputs = graphs.first().outputs().len();
+        let claims = inputs.saturating_mul(outputs).saturating_mul(4);
+        Ok(BrokenClaims {
+            first: sampled(alloc, graphs.first(), seed)?,
+            second: sampled(alloc, graphs.second(), seed)?,
+            swaps: None,
+            seed,
+            numbers: vec![in alloc; NOT_NOTED; claims]?,
+            inputs,
+            outputs,
+        })
+    }
+
+    /// Looks for claims of two inputs that vectors break, unless that was done. Of large circuits nothing is seen.
+    pub(crate) fn look_at_swaps(
+        &mut self,
+        alloc: Global,
+        graphs: &PairableGraphs<'_>,
+    ) -> Result<(), AllocError> {
+        if self.swaps.is_none() {
+            self.swaps = Some(two_swaps(alloc, graphs, self.seed)?);
+        }
+        Ok(())
+    }
+
+    /// What vectors show of each input at an output of a circuit.
+    pub(crate) fn row(&self, side: Side, output: u32) -> &[Flips] {
+        let rows = match side {
+            Side::First => &self.first,
+            Side::Second => &self.second,
+        };
+        match rows.get(output as usize) {
+            Some(row) => row.as_slice(),
+            None => &[],
+        }
+    }
+
+    /// What vectors show of an input and an output of a circuit: bit 0 says that one breaks the claim that the output
+    /// never falls where the input goes up, bit 1 that one breaks the claim of the input going down.
+    pub fn broken(&self, side: Side, output: u32, input: u32) -> u8 {
+        match self.row(side, output).get(input as usize) {
+            Some(flips) => flips.broken(),
+            None => 0,
+        }
+    }
+
+    /// Whether a vector breaks the claim of an input with a value.
+    pub(crate) fn is_broken(&self, side: Side, output: u32, input: u32, value: bool) -> bool {
+        match self.row(side, output).get(input as usize) {
+            Some(flips) => flips.is_broken(value),
+            None => false,
+        }
+    }
+
+    /// Whether a vector breaks a claim of two inputs. It is None where nothing is known of these.
+    pub(crate) fn is_swap_broken(&self, claim: Claim) -> Option<bool> {
+        let swaps = self.swaps.as_ref()?;
+        let side = match claim.side {
+            Side::First => &swaps.first,
+            Side::Second => &swaps.second,
+        };
+        side.is_broken(claim.output, claim.shape)
+    }
+
+    /// Whether a claim of two inputs holds by unateness, as far as vectors show: the output falls neither where the one
+    /// input changes nor where the other one does.
+    pub(crate) fn is_by_unateness(&self, claim: Claim) -> bool {
+        let Shape::Swap { i, j, a, b } = claim.shape else {
+            return false;
+        };
+        !self.is_broken(claim.side, claim.output, i, a)
+            & !self.is_broken(claim.side, claim.output, j, b)
+    }
+
+    /// In how many inputs an output is of a kind.
+    pub(crate) fn count(&self, side: Side, output: u32, kind: Tallied) -> u32 {
+        let mut count = 0u32;
+        for flips in self.row(side, output).iter() {
+            if flips.is_of(kind) {
+                count = count.saturating_add(1);
+            }
+        }
+        count
+    }
+
+    /// The number that was noted of a claim's fact.
+    pub(crate) fn number(&self, claim: Claim) -> Option<u64> {
+        let number = *self.numbers.get(self.place(claim)?)?;
+        if number == NOT_NOTED {
+            return None;
+        }
+        Some(number as u64)
+    }
+
+    // The place of a claim of one input among the numbers.
+    fn place(&self, claim: Claim) -> Option<usize> {
+        let (input, value) = input_of(claim.shape)?;
+        let side = match claim.side {
+            Side::First => 0,
+            Side::Second => self.outputs,
+        };
+        let row = side.saturating_add(claim.output as usize);
+        let claim = row
+            .saturating_mul(self.inputs)
+            .saturating_add(input as usize);
+        let falls = if value { 1 } else { 0 };
+        Some(claim.saturating_mul(2).saturating_add(falls))
+    }
+
+    /// Notes what was decided of a claim, by the number of its fact: vectors break it where it fails.
+    pub(crate) fn note(&mut self, claim: Claim, number: u64, holds: bool) {
+        if self.number(claim) == Some(number) {
+            return;
+        }
+        if let Some(place) = self.place(claim) {
+            if (place < self.numbers.len()) & (number < NOT_NOTED as u64) {
+                self.numbers[place] = number as u32;
+            }
+        }
+        if holds {
+            return;
+        }
+        if let Some(swaps) = &mut self.swaps {
+            note_swap(swaps, claim);
+        }
+        let rows = match claim.side {
+            Side::First => &mut self.first,
+            Side::Second => &mut self.second,
+        };
+        if (claim.output as usize) < rows.len() {
+            note_in(&mut rows[claim.output as usize], claim.shape);
+        }
+    }
+}
+
+// The input of a shape that has one, and its value.
+fn input_of(shape: Shape) -> Option<(u32, bool)> {
+    match shape {
+        Shape::Up(input) => Some((input, false)),
+        Shape::Down(input) => Some((input, true)),
+        Shape::Swap { .. } => None,
+    }
+}
+
+// Notes that the claim of a shape fails.
+fn note_in(row: &mut [Flips], shape: Shape) {
+    let Some((input, value)) = input_of(shape) else {
+        return;
+    };
+    if (input as usize) < row.len() {
+        row[input as usize].break_claim(value);
+    }
+}
+
+fn note_swap(swaps: &mut TwoSwaps, claim: Claim) {
+    match claim.side {
+        Side::First => swaps.first.note(claim.output, claim.shape),
+        Side::Second => swaps.second.note(claim.output, claim.shape),
+    }
+}
+
+// What vectors show of claims of two inputs, on as many vectors of each circuit, since claims are compared. Nothing
+// where a circuit is too large.
+fn two_swaps(
+    alloc: Global,
+    graphs: &PairableGraphs<'_>,
+    seed: u64,
+) -> Result<TwoSwaps, AllocError> {
+    let first = blocks_for_swaps(alloc, graphs.first())?;
+    let second = blocks_for_swaps(alloc, graphs.second())?;
+    let blocks = first.min(second);
+    if blocks == 0 {
+        return Ok(TwoSwaps {
+            first: Swaps::none(alloc),
+            second: Swaps::none(alloc),
+        });
+    }
+    Ok(TwoSwaps {
+        first: swaps_seen(alloc, graphs.first(), blocks, seed)?,
+        second: swaps_seen(alloc, graphs.second(), blocks, seed)?,
+    })
+}

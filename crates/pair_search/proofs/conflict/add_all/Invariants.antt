@@ -1,6 +1,0 @@
-use Rattle.std.proofs.Common.{take}
-use Rattle.pair_search.proofs.ConflictLemmas.{IsAdding}
-use Rattle.pair_search.proofs.conflict.add_all.Given as goal
-
-abbrev pub invariant-loop-pair : goal.invariant-loop-pair
-invariant-loop-pair l = IsAdding l.held l.needed.items (take l.pair-index l.pairs)
