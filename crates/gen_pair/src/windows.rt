@@ -8,8 +8,8 @@ ghost use Rattle.gen_pair.specs.Growing.{IsThere, Grows};
 ghost use Rattle.gen_pair.specs.Mixing.{with_and, with_multiplexer, mixing, mixed_once, mixed, joining, joined, window_of, making, with_output, made};
 
 use crate::drawing::{draw, draw_bit};
-use crate::moving::signed;
 use net_core::{Gate, Lit};
+use port_moves::signed;
 use rand_pcg::Lcg64Xsh32;
 use std::alloc::{AllocError, Global};
 

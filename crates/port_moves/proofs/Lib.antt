@@ -1,0 +1,4 @@
+pub mod Inverted
+pub mod MovedLiterals
+pub mod MovedMatch
+pub mod Orders
