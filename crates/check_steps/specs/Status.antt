@@ -1,7 +1,7 @@
 -- The exit status of each outcome.
 use Rattle.std.specs.Prelude.{ℕ}
 use Rattle.check_steps.specs.declared.outcome.Outcome.{Outcome}
-use Rattle.check_steps.specs.declared.outcome.Outcome.TheVariants.{AcceptedMatch, AcceptedRefusal, Rejected, Matched, NoMatching, Spent, Usage, Absent, TooLarge, Malformed, Informed, Made, Tried, ReadFault, WriteFault, Memory}
+use Rattle.check_steps.specs.declared.outcome.Outcome.TheVariants.{AcceptedMatch, AcceptedRefusal, Rejected, Matched, NoMatching, Spent, Usage, Absent, TooLarge, Malformed, Informed, Made, Restored, Tried, ReadFault, WriteFault, Memory}
 
 abbrev pub status_of : Outcome → ℕ
 status_of (AcceptedMatch matching) = 0
@@ -11,6 +11,7 @@ status_of (Matched matching) = 0
 status_of NoMatching = 1
 status_of Informed = 0
 status_of Made = 0
+status_of (Restored gates) = 0
 status_of (Tried number account) = 0
 status_of (Spent ledger) = 3
 status_of Usage = 4

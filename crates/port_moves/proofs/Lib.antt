@@ -1,3 +1,4 @@
+pub mod EqualCircuits
 pub mod Inverted
 pub mod MovedLiterals
 pub mod MovedMatch

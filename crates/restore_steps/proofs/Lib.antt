@@ -1,0 +1,3 @@
+mod NameLemmas
+mod RestoreLemmas
+mod WrittenLemmas
