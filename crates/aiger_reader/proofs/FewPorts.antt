@@ -1,12 +1,10 @@
--- A file's netlist has few ports, each with a name, few gates, all signals that it names, and no cycle.
+-- A file's netlist has few ports, each with a name, all signals that it names, and no cycle.
 use Rattle.std.proofs.Common.{◌≡◌, ℕ, ◌≤◌, List, length, sym, ◌∙◌, arith}
 use Rattle.circuits.specs.Circuits.{Circuit, IsClosed}
-use Rattle.circuits.specs.Expansion.{gates_in}
 use Rattle.circuits.specs.Levels.{IsAcyclic}
 use Rattle.aiger_reader.specs.Aiger.{IsAiger}
 use Rattle.aiger_reader.proofs.LimitLemmas.{accepted_limits}
 use Rattle.aiger_reader.proofs.NetlistLemmas.{net_sizes, net_closed}
-use Rattle.aiger_reader.proofs.WholeLemmas.{gates_of_form}
 
 pub few_inputs : (bytes : List ℕ) (circuit : Circuit) (i o : List (List ℕ)) → IsAiger bytes circuit i o → circuit.inputs ≤ 1024
 few_inputs bytes circuit i o is =
@@ -15,10 +13,6 @@ few_inputs bytes circuit i o is =
 pub few_outputs : (bytes : List ℕ) (circuit : Circuit) (i o : List (List ℕ)) → IsAiger bytes circuit i o → length circuit.outputs ≤ 1024
 few_outputs bytes circuit i o is =
     omega (arith, (accepted_limits is.h is.netlist.begins.accepted).outputs, (net_sizes bytes is.h circuit is.rest is.netlist).outputs)
-
-pub few_gates : (bytes : List ℕ) (circuit : Circuit) (i o : List (List ℕ)) → IsAiger bytes circuit i o → gates_in circuit ≤ 1000000
-few_gates bytes circuit i o is =
-    omega (arith, (accepted_limits is.h is.netlist.begins.accepted).gates, (net_sizes bytes is.h circuit is.rest is.netlist).defs, gates_of_form is.h.binary bytes is.h is.netlist.rows circuit is.rest is.netlist.form)
 
 pub names_of_ports : (bytes : List ℕ) (circuit : Circuit) (i o : List (List ℕ)) → IsAiger bytes circuit i o → (length i ≡ circuit.inputs) × (length o ≡ length circuit.outputs)
 names_of_ports bytes circuit i o is =

@@ -1,16 +1,13 @@
 -- A file is one circuit at most, or has one first fault, and never both.
-use Rattle.std.proofs.Common.{◌≡◌, ◌⊎◌, ℕ, ◌≤◌, inl, inr, List, length, Result, Ok, Err, IfOk, arith}
+use Rattle.std.proofs.Common.{◌≡◌, ◌⊎◌, ℕ, ◌≤◌, inl, inr, List, length, Result, Ok, Err, IfOk}
 use Rattle.circuits.specs.Circuits.{Circuit}
-use Rattle.circuits.specs.Netlists.{Net}
-use Rattle.circuits.proofs.GateCounts.{gates_in_order}
-use Rattle.circuits.specs.Levels.{IsAcyclic, IsOrderOf}
+use Rattle.circuits.specs.Levels.{IsAcyclic}
 use Rattle.net_file.specs.declared.fault.NetKind.{NetKind}
 use Rattle.net_file.specs.declared.fault.NetStop.{NetStop}
 use Rattle.net_file.specs.declared.named.Named.{Named}
 use Rattle.aiger_reader.proofs.OneAiger.{one_netlist, netlist_or_fault, one_fault}
-use Rattle.aiger_reader.proofs.FewPorts.{few_outputs as few_in_aiger, few_inputs as few_inputs_in_aiger, few_gates as few_gates_in_aiger, names_of_ports, aiger_closed, aiger_acyclic}
+use Rattle.aiger_reader.proofs.FewPorts.{few_outputs as few_in_aiger, few_inputs as few_inputs_in_aiger, names_of_ports, aiger_acyclic}
 use Rattle.blif_reader.proofs.OneBlif.{one_netlist as one_blif, netlist_or_fault as blif_or_fault, one_fault as one_blif_fault}
-use Rattle.blif_reader.proofs.BlifLemmas.{closed_blif}
 use Rattle.blif_reader.proofs.FewPorts.{few_outputs as few_in_blif, few_inputs as few_inputs_in_blif, named_ports}
 use Rattle.blif_reader.specs.Blif.{ReadAs as BlifReadAs}
 use Rattle.check_steps.specs.Circuits.{BeginsAsAiger, IsCircuit, IsCircuitFault}
@@ -43,14 +40,6 @@ few_ports bytes circuit i o is =
 pub ports_named : (bytes : List ℕ) (circuit : Circuit) (i o : List (List ℕ)) → IsCircuit bytes circuit i o → (length i ≡ circuit.inputs) × (length o ≡ length circuit.outputs)
 ports_named bytes circuit i o is =
     elim is [ inl (begins, aiger) ↦ names_of_ports bytes circuit i o aiger | inr (not, blif) ↦ named_ports bytes circuit i o blif ]
-
--- the graph by which accounts number a file's gates has few of them
-pub few_gates : (bytes : List ℕ) (circuit : Circuit) (net : Net) (i o : List (List ℕ)) → IsCircuit bytes circuit i o → IsOrderOf circuit net → length net.gates ≤ 1000000
-few_gates bytes circuit net i o is order =
-    elim is [
-      | inl (begins, aiger) ↦ omega (arith, few_gates_in_aiger bytes circuit i o aiger, gates_in_order circuit net (aiger_closed bytes circuit i o aiger) order)
-      | inr (not, blif) ↦ omega (arith, blif.few_gates, gates_in_order circuit net (closed_blif bytes circuit i o blif) order)
-    ]
 
 pub circuit_acyclic : (bytes : List ℕ) (circuit : Circuit) (i o : List (List ℕ)) → IsCircuit bytes circuit i o → IsAcyclic circuit
 circuit_acyclic bytes circuit i o is = elim is [ inl (begins, aiger) ↦ aiger_acyclic bytes circuit i o aiger | inr (not, blif) ↦ blif.acyclic ]

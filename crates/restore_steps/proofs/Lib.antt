@@ -1,3 +1,4 @@
+mod GateLemmas
 mod NameLemmas
 mod RestoreLemmas
 mod WrittenLemmas

@@ -101,105 +101,107 @@ module _ (tells : Bool) (asked : RestoreWords) (old now : ShelfState) (answer : 
   pub verdict_matches : (matching : Matching) → answer.outcome ≡ AcceptedMatch matching → IsMatchOfFunctions answer.first.graph answer.second.graph matching.inputs matching.outputs
   verdict_matches matching is = judges.matches matching (inl is)
 
+-- the account proves that a matching is a match
+module _ (tells : Bool) (asked : RestoreWords) (old now : ShelfState) (answer : Judgement) (judges : JudgesFiles tells (check_by asked) old now (Ok answer))
+    (matching : Matching) (is_match : answer.outcome ≡ AcceptedMatch matching) where
   first_netlist : IsTrue tells → HoldsGraph (old.held asked.first.now) answer.first.graph
   first_netlist t = record { netlist = netlist_of judges.first.circuit answer.first; holds = judges.first.held t; numbered = judges.first.numbered }
 
   second_netlist : IsTrue tells → HoldsGraph (old.held asked.second.now) answer.second.graph
   second_netlist t = record { netlist = netlist_of judges.second.circuit answer.second; holds = judges.second.held t; numbered = judges.second.numbered }
 
-  module _ (matching : Matching) (is_match : answer.outcome ≡ AcceptedMatch matching) where
-    -- a check by the first three names accepts the account
-    restorable : IsTrue tells → (words : List (List ℕ)) → AsksRestore words (wished_by asked) → (gates : ℕ) → gates ≡ length answer.second.graph.gates → IsRestorable old.held words gates
-    restorable t words asks gates same =
-        let verdict = subst (IsVerdict (graphs_of answer.first answer.second) (old.held asked.account.now)) is_match (judges.verdict t) in
-        record {
+  -- a check by the first three names accepts the account
+  restorable : IsTrue tells → (words : List (List ℕ)) → AsksRestore words (wished_by asked) → (gates : ℕ) → gates ≡ length answer.second.graph.gates → IsRestorable old.held words gates
+  restorable t words asks gates same =
+      let verdict = subst (IsVerdict (graphs_of answer.first answer.second) (old.held asked.account.now)) is_match (judges.verdict t) in
+      record {
+        wished = wished_by asked;
+        asks = asks;
+        matching = matching;
+        accepted = record {
+          graphs = graphs_of answer.first answer.second;
+          account = verdict.0;
+          has = record {
+            first_name = asked.first.now;
+            second_name = asked.second.now;
+            account_name = asked.account.now;
+            asks = check_of_restore words (wished_by asked) asks;
+            first_held = first_netlist t;
+            second_held = second_netlist t;
+            there = verdict.1;
+          };
+          accepted = verdict.2;
+        };
+        gates_are = same;
+      }
+
+  -- the new file has the netlist, or the first bytes of it
+
+  left_whole : (restored : Named) (new : ShelfState) → IsBehindPorts answer.first answer.second restored → new.held asked.restored.now ≡ Some (aig_text restored) → IsTrue tells → (words : List (List ℕ)) → AsksRestore words (wished_by asked) → HoldsRestored old.held new.held words (length restored.graph.gates)
+  left_whole restored new behind there t words asks = record {
+    wished = wished_by asked;
+    asks = asks;
+    first = netlist_of judges.first.circuit answer.first;
+    second = answer.second.graph;
+    first_held = judges.first.held t;
+    second_held = second_netlist t;
+    bytes = aig_text restored;
+    there = there;
+    restored = is_restored (old.held asked.first.now) (old.held asked.second.now) judges.first.circuit answer.first answer.second restored (judges.first.held t) judges.first.computes (second_netlist t) behind;
+  }
+
+  cut : (new : ShelfState) (o : Outcome) → Restores tells answer.first answer.second asked.restored.now now new (Err o) → IsTrue tells → (words : List (List ℕ)) → AsksRestore words (wished_by asked) → MayBeCut old.held new.held words
+  cut new o restores t words asks =
+      let name = asked.restored.now in
+      elim (restores.part t) [
+        | inl same ↦ inl (λ n. everywhere old.held new.held name (λ m other. restores.others t m other ∙ judges.files m) (same ∙ judges.files name) n (bytes_eq n name) refl)
+        | inr (restored, behind, count, part) ↦ inr (inr (inr (record {
           wished = wished_by asked;
           asks = asks;
-          matching = matching;
-          accepted = record {
-            graphs = graphs_of answer.first answer.second;
-            account = verdict.0;
-            has = record {
-              first_name = asked.first.now;
-              second_name = asked.second.now;
-              account_name = asked.account.now;
-              asks = check_of_restore words (wished_by asked) asks;
-              first_held = first_netlist t;
-              second_held = second_netlist t;
-              there = verdict.1;
-            };
-            accepted = verdict.2;
-          };
-          gates_are = same;
-        }
+          first = netlist_of judges.first.circuit answer.first;
+          second = answer.second.graph;
+          first_held = judges.first.held t;
+          second_held = second_netlist t;
+          gates = length restored.graph.gates;
+          bytes = aig_text restored;
+          restored = is_restored (old.held asked.first.now) (old.held asked.second.now) judges.first.circuit answer.first answer.second restored (judges.first.held t) judges.first.computes (second_netlist t) behind;
+          count = count;
+          part = part;
+        })))
+      ]
 
-    -- the new file has the netlist, or the first bytes of it
-
-    left_whole : (restored : Named) (new : ShelfState) → IsBehindPorts answer.first answer.second restored → new.held asked.restored.now ≡ Some (aig_text restored) → IsTrue tells → (words : List (List ℕ)) → AsksRestore words (wished_by asked) → HoldsRestored old.held new.held words (length restored.graph.gates)
-    left_whole restored new behind there t words asks = record {
-      wished = wished_by asked;
-      asks = asks;
-      first = netlist_of judges.first.circuit answer.first;
-      second = answer.second.graph;
-      first_held = judges.first.held t;
-      second_held = second_netlist t;
-      bytes = aig_text restored;
-      there = there;
-      restored = is_restored (old.held asked.first.now) (old.held asked.second.now) judges.first.circuit answer.first answer.second restored (judges.first.held t) judges.first.computes (second_netlist t) behind;
-    }
-
-    cut : (new : ShelfState) (o : Outcome) → Restores tells answer.first answer.second asked.restored.now now new (Err o) → IsTrue tells → (words : List (List ℕ)) → AsksRestore words (wished_by asked) → MayBeCut old.held new.held words
-    cut new o restores t words asks =
-        let name = asked.restored.now in
-        elim (restores.part t) [
-          | inl same ↦ inl (λ n. everywhere old.held new.held name (λ m other. restores.others t m other ∙ judges.files m) (same ∙ judges.files name) n (bytes_eq n name) refl)
-          | inr (restored, behind, count, part) ↦ inr (inr (inr (record {
-            wished = wished_by asked;
-            asks = asks;
-            first = netlist_of judges.first.circuit answer.first;
-            second = answer.second.graph;
-            first_held = judges.first.held t;
-            second_held = second_netlist t;
-            gates = length restored.graph.gates;
-            bytes = aig_text restored;
-            restored = is_restored (old.held asked.first.now) (old.held asked.second.now) judges.first.circuit answer.first answer.second restored (judges.first.held t) judges.first.computes (second_netlist t) behind;
-            count = count;
-            part = part;
-          })))
-        ]
-
-    pub restores_decides : (new : ShelfState) (result : Result Ending Outcome) → Restores tells answer.first answer.second asked.restored.now now new result → Decides tells (asked_restore asked) old new result
-    restores_decides new (Ok ending) restores =
-        let restored = restores.answer.0 in
-        let behind = restores.answer.1 in
-        let gates = length restored.graph.gates in
-        let is : ending.outcome ≡ Restored gates = restores.answer.2 in
-        record {
-          files = λ t n other. restores.others t n other ∙ judges.files n;
-          left = λ t words asks. subst (Leaves old.held new.held words) (sym is) (left_whole restored new behind (restores.answer.4 t) t words asks);
-          right = λ t words asks. subst (IsRight old.held words) (sym is) (restorable t words asks gates behind.gates);
-          by_words = λ words asks. subst (FollowsWords words) (sym is) (follows_files words (Restored gates) (reads asked words asks) (λ e. cc) (λ number text e. cc));
-          sound = λ t words asks. subst (IsSoundAnswer old.held words) (sym is) (record { matches = λ other e. cc; refuses = λ e. cc });
-          report = λ words asks. inl (
-            subst IsOneLine (sym is) (record { unmatched = λ other has. elim has [ inl e ↦ cc | inr e ↦ cc ]; no_rows = λ e. cc }),
-            restores.answer.3,
-          );
-          ending = subst IsEnding (sym is) (record { asked = λ e. cc; read = λ e. cc; unwritten = λ e. cc });
-          early = tt;
-          last = none_before old now new judges.clean restores.last;
-          failed = λ e. cc;
-          unwritten = λ e. cc;
-        }
-    restores_decides new (Err o) restores = record {
-      files = λ t n other. restores.others t n other ∙ judges.files n;
-      left = λ t words asks. let part = cut new o restores t words asks in of_unwritten (Leaves old.held new.held words) o restores.stopped part part;
-      right = λ t words asks. of_unwritten (IsRight old.held words) o restores.stopped tt tt;
-      by_words = λ words asks. follows_unwritten words o restores.stopped;
-      sound = λ t words asks. tt;
-      report = λ words asks. tt;
-      ending = tt;
-      early = early_unwritten o restores.stopped;
-      last = none_before old now new judges.clean restores.last;
-      failed = λ e. absurd (of_unwritten (λ end. end ≢ ReadFault) o restores.stopped (λ e. cc) (λ e. cc) (cc e));
-      unwritten = λ e. (tt, rose_after old.faults now.faults new.faults judges.clean (restores.failed e));
-    }
+  pub restores_decides : (new : ShelfState) (result : Result Ending Outcome) → Restores tells answer.first answer.second asked.restored.now now new result → Decides tells (asked_restore asked) old new result
+  restores_decides new (Ok ending) restores =
+      let restored = restores.answer.0 in
+      let behind = restores.answer.1 in
+      let gates = length restored.graph.gates in
+      let is : ending.outcome ≡ Restored gates = restores.answer.2 in
+      record {
+        files = λ t n other. restores.others t n other ∙ judges.files n;
+        left = λ t words asks. subst (Leaves old.held new.held words) (sym is) (left_whole restored new behind (restores.answer.4 t) t words asks);
+        right = λ t words asks. subst (IsRight old.held words) (sym is) (restorable t words asks gates behind.gates);
+        by_words = λ words asks. subst (FollowsWords words) (sym is) (follows_files words (Restored gates) (reads asked words asks) (λ e. cc) (λ number text e. cc));
+        sound = λ t words asks. subst (IsSoundAnswer old.held words) (sym is) (record { matches = λ other e. cc; refuses = λ e. cc });
+        report = λ words asks. inl (
+          subst IsOneLine (sym is) (record { unmatched = λ other has. elim has [ inl e ↦ cc | inr e ↦ cc ]; no_rows = λ e. cc }),
+          restores.answer.3,
+        );
+        ending = subst IsEnding (sym is) (record { asked = λ e. cc; read = λ e. cc; unwritten = λ e. cc });
+        early = tt;
+        last = none_before old now new judges.clean restores.last;
+        failed = λ e. cc;
+        unwritten = λ e. cc;
+      }
+  restores_decides new (Err o) restores = record {
+    files = λ t n other. restores.others t n other ∙ judges.files n;
+    left = λ t words asks. let part = cut new o restores t words asks in of_unwritten (Leaves old.held new.held words) o restores.stopped part part;
+    right = λ t words asks. of_unwritten (IsRight old.held words) o restores.stopped tt tt;
+    by_words = λ words asks. follows_unwritten words o restores.stopped;
+    sound = λ t words asks. tt;
+    report = λ words asks. tt;
+    ending = tt;
+    early = early_unwritten o restores.stopped;
+    last = none_before old now new judges.clean restores.last;
+    failed = λ e. absurd (of_unwritten (λ end. end ≢ ReadFault) o restores.stopped (λ e. cc) (λ e. cc) (cc e));
+    unwritten = λ e. (tt, rose_after old.faults now.faults new.faults judges.clean (restores.failed e));
+  }

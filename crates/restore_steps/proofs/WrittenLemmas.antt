@@ -21,10 +21,11 @@ use Rattle.check_steps.specs.Reading.{netlist_of}
 use Rattle.check_steps.specs.declared.outcome.Ending.{Ending}
 use Rattle.check_steps.specs.declared.outcome.Outcome.{Outcome}
 use Rattle.check_steps.specs.declared.outcome.Outcome.TheVariants.{Restored, Memory}
-use Rattle.check_steps.proofs.CircuitLemmas.{few_gates, few_ports, ports_named}
+use Rattle.check_steps.proofs.CircuitLemmas.{few_ports, ports_named}
 use Rattle.run_steps.specs.Restore.{IsRestored}
 use Rattle.run_steps.specs.Steps.{WritesText}
 use Rattle.restore_steps.specs.Restoring.{IsBehindPorts, Restores}
+use Rattle.restore_steps.proofs.GateLemmas.{few_gates}
 
 -- the names of a file's ports stand on lines
 names_on_lines : (bytes : List ℕ) (circuit : Circuit) (i o : List (List ℕ)) → IsCircuit bytes circuit i o → All IsNameOnLine i × All IsNameOnLine o
@@ -58,13 +59,13 @@ module _ (content other : Option (List ℕ)) (circuit : Circuit) (first second r
   pub is_restored : IsRestored (netlist_of circuit first) second.graph (length restored.graph.gates) (aig_text restored)
   is_restored =
       let net = restored.graph in
-      let file = as_circuit (with_greater_first net) in
+      let printed = as_circuit (with_greater_first net) in
       record {
-        circuit = file;
+        circuit = printed;
         binary = refl;
-        file = subst (λ names. IsAiger (aig_text restored) file names (map symbol_name first.output_names)) behind.input_names
-            (subst (IsAiger (aig_text restored) file restored.input_names) behind.output_names (aig_is restored good));
-        same = equal_circuits circuit file first.graph net computes (computes_too net behind.sound.ordered) behind.equal;
+        file = subst (λ names. IsAiger (aig_text restored) printed names (map symbol_name first.output_names)) behind.input_names
+            (subst (IsAiger (aig_text restored) printed restored.input_names) behind.output_names (aig_is restored good));
+        same = equal_circuits circuit printed first.graph net computes (computes_too net behind.sound.ordered) behind.equal;
         gates_are = length-map (map greater_first net.gates) gate_def ∙ length-map net.gates greater_first;
         no_more = omega (arith, behind.gates);
       }

@@ -167,6 +167,9 @@ SaysThree telling held first second account o = SaysTwo held first second (SaysA
 abbrev pub wished_of : List ℕ → List ℕ → List ℕ → List ℕ → Wished
 wished_of first second account restored = record { first = first; second = second; account = account; restored = restored }
 
+named_restore : (words : List (List ℕ)) (wished : Wished) → AsksRestore words wished → AsksRestore words (wished_of wished.first wished.second wished.account wished.restored)
+named_restore words wished asks = record { form = asks.form; names = asks.names }
+
 -- the words ask for a check by an account, or for a netlist to be restored by one
 abbrev pub JudgeBy : List (List ℕ) → Telling → List ℕ → List ℕ → List ℕ → Type 0
 JudgeBy words telling first second account =
@@ -426,7 +429,7 @@ says_restore held words wished o asks other says =
       | inr (inl (k, f, g, t, judge, fact)) ↦
           let e = judged_one checked accepted_as wished.first wished.second wished.account k f g t (inl (check, refl)) judge in
           let same : SaysThree accepted_as held wished.first wished.second wished.account o = subst (λ n. SaysThree n held wished.first wished.second wished.account o) e.0 (subst (λ n. SaysThree k held n wished.second wished.account o) e.1 (subst (λ n. SaysThree k held f n wished.account o) e.2 (subst (λ n. SaysThree k held f g n o) e.3 fact))) in
-          inr (inl (restored_as, wished.first, wished.second, wished.account, inr (wished.restored, asks, refl), three_too held wished.first wished.second wished.account o other same))
+          inr (inl (restored_as, wished.first, wished.second, wished.account, inr (wished.restored, named_restore words wished asks, refl), three_too held wished.first wished.second wished.account o other same))
       | inr (inr (inl (sought, asks', fact))) ↦ absurd (check_or_match checked wished.first wished.second wished.account sought check asks')
       | inr (inr (inr (file, budget, asks', fact))) ↦ absurd (check_or_info checked wished.first wished.second wished.account file budget check asks')
     ]
@@ -449,7 +452,7 @@ says_restored held words gates is =
     let first = subst (λ name. HoldsGraph (held name) graphs.first) e.0 has.first_held in
     let second = subst (λ name. HoldsGraph (held name) graphs.second) e.1 has.second_held in
     let there = subst (λ name. held name ≡ Some is.accepted.account) e.2 has.there in
-    inr (inl (restored_as, wished.first, wished.second, wished.account, inr (wished.restored, is.asks, refl), inr (first.netlist, first.holds, inr (second.netlist, second.holds, inr (graphs, first, second, is.accepted.account, there, inl (verdict.Match is.matching, ap Restored is.gates_are, is.accepted.accepted))))))
+    inr (inl (restored_as, wished.first, wished.second, wished.account, inr (wished.restored, named_restore words wished is.asks, refl), inr (first.netlist, first.holds, inr (second.netlist, second.holds, inr (graphs, first, second, is.accepted.account, there, inl (verdict.Match is.matching, ap Restored is.gates_are, is.accepted.accepted))))))
 
 -- a budget is spent on a file that is a netlist, or on two
 asked_of_spent : (held : List ℕ → Option (List ℕ)) (words : List (List ℕ)) (ledger : Ledgered) → IsSpentOn held words ledger → IsAskedOf held words
