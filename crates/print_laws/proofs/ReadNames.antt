@@ -1,7 +1,7 @@
 -- A symbol's line can hold each name that a file gives a port, but for a carriage return at its end.
-use Rattle.std.proofs.Common.{◌≡◌, ◌≢◌, ◌⊎◌, ℕ, zero, suc, ◌+◌, ◌-◌, ◌<◌, ◌≤◌, ◌^◌, ◌==◌, Bool, true, false, cond, not, List, [], ◌∷◌, ◌++◌, length, length-append, get_or, set, take, drop, map, filter, All, Option, inl, inr, if◌then◌else◌, eqb-true, refl, sym, ap, subst, ◌∙◌, arith}
+use Rattle.std.proofs.Common.{◌≡◌, ◌≢◌, ◌⊎◌, ℕ, zero, suc, ◌+◌, ◌-◌, ◌<◌, ◌≤◌, ◌^◌, ◌==◌, Bool, true, false, cond, List, [], ◌∷◌, ◌++◌, length, get_or, set, take, drop, map, filter, All, inl, inr, if◌then◌else◌, refl, sym, ap, subst, ◌∙◌, arith}
 use Rattle.std.specs.Fmt.{decimal}
-use Rattle.std.specs.List.{before_first, flat_map, onto_first, position_or_len, slice_split}
+use Rattle.std.specs.List.{before_first, onto_first, position_or_len, slice_split}
 use Rattle.std.proofs.lemmas.Bool.{eq-eqb, false≢true}
 use Rattle.std.proofs.lemmas.List.{get_or-set_same, get_or_push, length-set, length_push}
 use Rattle.std.proofs.lemmas.List.Elements.{All-nil, All-cons, All-head, All-tail, All-append, All-set, All-take, All-drop, All-map, All-filter, filter_passes}
@@ -20,7 +20,7 @@ use Rattle.aiger_reader.proofs.LimitLemmas.{accepted_limits}
 use Rattle.aiger_reader.proofs.OneSymbols.{port_or_not}
 use Rattle.blif_reader.specs.Blif.{IsBlif, blif_lines}
 use Rattle.blif_reader.specs.Directives.{directive_of}
-use Rattle.blif_reader.specs.JoinedLines.{content, ends_with_backslash, goes_on, has_words, is_comment_sign, joined, joined_lines, line_words, lines_at, onto_next, placed, without_backslash}
+use Rattle.blif_reader.specs.JoinedLines.{content, ends_with_backslash, goes_on, has_words, is_comment_sign, joined, line_words, lines_at, onto_next, placed, without_backslash}
 use Rattle.blif_reader.specs.Names.{input_words, is_same_kind, output_words, port_words, ports_on, words_of_kind}
 use Rattle.blif_reader.specs.declared.directive.Directive.{Directive}
 use Rattle.blif_reader.specs.declared.directive.Directive.TheVariants.{Inputs, Outputs}
