@@ -1,5 +1,5 @@
 -- The netlist was written, or a first part of it.
-use Rattle.std.proofs.Common.{Ok, Err, refl, subst}
+use Rattle.std.proofs.Common.{Ok, Err, rules, subst}
 use Rattle.std.proofs.lemmas.Result.{err_from_is_err_and}
 use Rattle.run_steps.specs.Steps.{WritesText}
 use Rattle.restore_steps.proofs.WrittenLemmas.{no_room, unwritten_netlist, written}
@@ -24,5 +24,5 @@ returns-in_err-write_named g c =
 
 pub returns : goal.returns
 returns g c =
-    written _ _ _ c.in_ok-netlist.netlist _ _ _ _ c.in_ok-netlist.ensures ? c.in_ok-report.ensures
+    written _ _ _ c.in_ok-netlist.netlist _ _ _ _ c.in_ok-netlist.ensures (search rules) c.in_ok-report.ensures
     (subst (λ text. WritesText g.S.Shelf.tells c.args.name.now text (g.S.Shelf.state c.args.shelf.now) (g.S.Shelf.state c.write_named.new.shelf) (Ok tt)) c.new-text.ensures c.in_ok-write_named.ensures)
