@@ -8,6 +8,7 @@ here=$(cd "$(dirname "${BASH_SOURCE[0]}")" && pwd)
 npnp=${1-$("$here/../bench/program.sh")}
 npnp=$(readlink -f -- "$npnp")
 . "$here/multiplier.sh"
+. "$here/processor.sh"
 work=$(mktemp -d)
 trap 'rm -rf "$work"' EXIT
 cp "$here"/*.aag "$here"/*.aig "$here"/*.blif "$here"/*.account "$work"
@@ -126,6 +127,65 @@ wants 5 'malformed first 28 0' check /dev/null b.aag a-b.account
 wants 5 'too large first' check /dev/zero b.aag a-b.account
 wants 5 'too large first' info /dev/zero
 wants 6 'read fault' check a.aag b.aag /dev/zero
+
+# names are given back by an account of a match; a refusal and a rejected account leave the new file
+wants 0 'restored 1' restore a.aag b.aag a-b.account named.aig
+wants 0 'restored 1' restore and.blif or.blif and-or.account named.aig
+wants 0 'restored 6' restore c17.blif c17_moved.aig c17.account named.aig
+wants 0 'inputs 5' info named.aig
+wants 1 'accepted refusal' restore and.blif xor.blif and-xor.account unnamed.aig
+wants 2 'rejected line 3 refutation' restore a.aag b.aag sign.account unnamed.aig
+wants 5 'absent account' restore a.aag b.aag absent.account unnamed.aig
+[ ! -e unnamed.aig ]
+tell $? 'a netlist that is not restored' '' unnamed.aig
+wants 4 'usage' restore a.aag b.aag a-b.account a.aag
+wants 6 '' restore a.aag b.aag a-b.account ./a.aag
+wants 6 '' restore a.aag b.aag a-b.account folder
+wants 0 'accepted match' check a.aag b.aag a-b.account
+explains 'npnp restore a.aag b.aag made.account NEW' match a.aag b.aag made.account
+
+# ABC finds the netlist that was restored equal to the first one, port by port, by their names
+is_equal() { # FIRST RESTORED
+  local answer
+  answer=$(berkeley-abc -q "cec $1 $2" 2>&1)
+  [[ $answer == *'Networks are equivalent'* && $answer != *'warning'* ]]
+  tell $? "cec of $1 and $2" 'Networks are equivalent' "$answer"
+}
+
+# looks for a match, and gives the names back
+restores() { # FIRST SECOND NEW
+  wants 0 'matched' match "$1" "$2" restored.account
+  [ "$("$npnp" restore "$1" "$2" restored.account "$3" | cut -d' ' -f1)" = restored ]
+  tell $? "npnp restore $1 $2 restored.account $3" restored other
+}
+
+processor 4 >processor.blif
+lose 7 <processor.blif >lost.blif
+restores oai221.blif oai221_lost.blif oai221.aig
+restores processor.blif lost.blif processor.aig
+if command -v berkeley-abc >/dev/null; then
+  is_equal c17.blif named.aig
+  is_equal oai221.blif oai221.aig
+  is_equal processor.blif processor.aig
+  # the processor with its ports lost, resynthesized
+  berkeley-abc -q 'read_blif lost.blif; strash; dch; map -B 0.9 -D 0; strash; dc2; write_aiger lost.aig' >/dev/null 2>&1 ||
+    berkeley-abc -q 'read_blif lost.blif; strash; dc2; dc2; write_aiger lost.aig' >/dev/null
+  restores processor.blif lost.aig processor_again.aig
+  is_equal processor.blif processor_again.aig
+  # a whole cell library
+  cp -r "$here/library" library
+  make -s -C library -j"$(nproc)" NPNP="$npnp" named >/dev/null
+  for cell in library/first/*.blif; do
+    is_equal "$cell" "library/named/$(basename -s .blif "$cell").aig"
+  done
+else
+  echo 'skipped: no berkeley-abc compares the netlists that were restored'
+fi
+if command -v yosys >/dev/null; then
+  inputs=$(yosys -p 'read_aiger named.aig; stat; select -count i:*' 2>/dev/null | grep -o '^5 objects')
+  [ "$inputs" = '5 objects' ]
+  tell $? 'yosys reads named.aig' '5 objects' "$inputs"
+fi
 
 # what the program says of itself
 wants 0 'npnp match FIRST SECOND ACCOUNT [BUDGET [SEED]]' --help

@@ -6,9 +6,9 @@ use Rattle.net_file.specs.declared.fault.NetKind.{NetKind}
 use Rattle.net_file.specs.declared.fault.NetStop.{NetStop}
 use Rattle.net_file.specs.declared.named.Named.{Named}
 use Rattle.aiger_reader.proofs.OneAiger.{one_netlist, netlist_or_fault, one_fault}
-use Rattle.aiger_reader.proofs.FewPorts.{few_outputs as few_in_aiger, few_inputs as few_inputs_in_aiger, aiger_acyclic}
+use Rattle.aiger_reader.proofs.FewPorts.{few_outputs as few_in_aiger, few_inputs as few_inputs_in_aiger, names_of_ports, aiger_acyclic}
 use Rattle.blif_reader.proofs.OneBlif.{one_netlist as one_blif, netlist_or_fault as blif_or_fault, one_fault as one_blif_fault}
-use Rattle.blif_reader.proofs.FewPorts.{few_outputs as few_in_blif, few_inputs as few_inputs_in_blif}
+use Rattle.blif_reader.proofs.FewPorts.{few_outputs as few_in_blif, few_inputs as few_inputs_in_blif, named_ports}
 use Rattle.blif_reader.specs.Blif.{ReadAs as BlifReadAs}
 use Rattle.check_steps.specs.Circuits.{BeginsAsAiger, IsCircuit, IsCircuitFault}
 use Rattle.check_steps.specs.Reading.{ReadAs}
@@ -35,6 +35,11 @@ few_ports bytes circuit i o is =
       | inl (begins, aiger) ↦ (few_inputs_in_aiger bytes circuit i o aiger, few_in_aiger bytes circuit i o aiger)
       | inr (not, blif) ↦ (few_inputs_in_blif bytes circuit i o blif, few_in_blif bytes circuit i o blif)
     ]
+
+-- each port has a name
+pub ports_named : (bytes : List ℕ) (circuit : Circuit) (i o : List (List ℕ)) → IsCircuit bytes circuit i o → (length i ≡ circuit.inputs) × (length o ≡ length circuit.outputs)
+ports_named bytes circuit i o is =
+    elim is [ inl (begins, aiger) ↦ names_of_ports bytes circuit i o aiger | inr (not, blif) ↦ named_ports bytes circuit i o blif ]
 
 pub circuit_acyclic : (bytes : List ℕ) (circuit : Circuit) (i o : List (List ℕ)) → IsCircuit bytes circuit i o → IsAcyclic circuit
 circuit_acyclic bytes circuit i o is = elim is [ inl (begins, aiger) ↦ aiger_acyclic bytes circuit i o aiger | inr (not, blif) ↦ blif.acyclic ]

@@ -30,6 +30,7 @@ early o is = record {
   no_refusal = λ e. subst EndsRun e is;
   no_match = λ e. subst EndsRun e is;
   no_pair = λ e. subst EndsRun e is;
+  no_netlist = λ gates e. subst EndsRun e is;
   no_trial = λ number account e. subst EndsRun e is;
   asked = λ e. subst EndsRun e is;
 }

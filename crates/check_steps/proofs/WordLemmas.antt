@@ -1,5 +1,5 @@
 -- Words that were read by their places.
-use Rattle.std.proofs.Common.{◌≡◌, ◌≢◌, inl, inr, ℕ, ◌<◌, ◌≤◌, ◌↔◌, ◌==◌, ◌||◌, not, Bool, true, false, IsTrue, List, [], ◌∷◌, length, drop, Option, None, Some, IfNone, IfSome, get_or, refl, sym, ◌∙◌, ap, subst, arith}
+use Rattle.std.proofs.Common.{◌≡◌, ◌≢◌, inl, inr, ℕ, ◌<◌, ◌≤◌, ◌↔◌, ◌==◌, ◌||◌, ◌&&◌, not, Bool, true, false, IsTrue, List, [], ◌∷◌, length, drop, Option, None, Some, IfNone, IfSome, get_or, refl, sym, ◌∙◌, ap, subst, arith}
 use Rattle.std.specs.List.{between}
 use Rattle.std.specs.Prelude.{codes}
 use Rattle.std.specs.Str.{bytes_eq}
@@ -7,11 +7,12 @@ use Rattle.std.proofs.lemmas.Bool.{false≢true}
 use Rattle.std.proofs.lemmas.Bool.Decides.{eqb_tells}
 use Rattle.std.proofs.lemmas.Slice.{between_to_end}
 use Rattle.std.proofs.lemmas.Slice.Eq.{bytes_eq-Decides}
-use Rattle.check_steps.specs.Asks.{sought_by, wanted_by}
+use Rattle.check_steps.specs.Asks.{sought_by, wanted_by, wished_by}
 use Rattle.check_steps.specs.declared.words.Match.{Match as MatchWords}
-use Rattle.check_steps.specs.Words.{AreBudgetAndSeed, AreNames, AreTwoNames, AsksInfo, AsksMake, AsksMatch, HaveInfoForm, IsNumber, Wanted}
+use Rattle.check_steps.specs.Words.{AreBudgetAndSeed, AreFourNames, AreNames, AreTwoNames, AsksInfo, AsksMake, AsksMatch, AsksRestore, HaveInfoForm, IsNumber, Wanted}
 use Rattle.check_steps.specs.declared.words.Info.{Info as InfoWords}
 use Rattle.check_steps.specs.declared.words.Make.{Make as MakeWords}
+use Rattle.check_steps.specs.declared.words.Restore.{Restore as RestoreWords}
 
 -- a text of which a test said that it isn't empty
 pub not_empty : (text : List ℕ) (empty : Bool) → empty ≡ (length text == 0) → empty ≡ false → text ≢ []
@@ -130,3 +131,53 @@ only_two_names first second false false false ea eb ec are = refl
 
 pub two_names_tested : (first second : List ℕ) (a b c : Bool) → a ≡ (length first == 0) → b ≡ (length second == 0) → c ≡ bytes_eq second first → IsTrue (not ((a || b) || c)) ↔ AreTwoNames first second
 two_names_tested first second a b c ea eb ec = (two_names_if first second a b c ea eb ec, only_two_names first second a b c ea eb ec)
+
+pub five : {X : Type 0} (xs : List X) (a b c d e : X) → 5 ≤ length xs → length xs < 6 → a ≡ get_or xs 0 a → b ≡ get_or xs 1 b → c ≡ get_or xs 2 c → d ≡ get_or xs 3 d → e ≡ get_or xs 4 e → xs ≡ a ∷ b ∷ c ∷ d ∷ e ∷ []
+five (x ∷ y ∷ z ∷ w ∷ u ∷ []) a b c d e low high ea eb ec ed ee = cc
+five xs a b c d e low high ea eb ec ed ee = absurd (omega arith)
+
+-- what names make of words of the form
+pub asks_restore : (words : List (List ℕ)) (first second account restored : List ℕ) (result : Option RestoreWords)
+    → words ≡ codes "restore" ∷ first ∷ second ∷ account ∷ restored ∷ []
+    → IfSome result (λ asked. (asked.first.now ≡ first) × (asked.second.now ≡ second) × (asked.account.now ≡ account) × (asked.restored.now ≡ restored))
+    → IfSome result (λ asked. AreFourNames first second account restored)
+    → IfSome result (λ asked. AsksRestore words (wished_by asked))
+asks_restore words first second account restored None form are names_are = tt
+asks_restore words first second account restored (Some asked) form are names_are = record {
+  form = form ∙ ap (λ name. codes "restore" ∷ name ∷ second ∷ account ∷ restored ∷ []) (sym are.0) ∙ ap (λ name. codes "restore" ∷ asked.first.now ∷ name ∷ account ∷ restored ∷ []) (sym are.1) ∙ ap (λ name. codes "restore" ∷ asked.first.now ∷ asked.second.now ∷ name ∷ restored ∷ []) (sym are.2) ∙ ap (λ name. codes "restore" ∷ asked.first.now ∷ asked.second.now ∷ asked.account.now ∷ name ∷ []) (sym are.3);
+  names = subst (λ name. AreFourNames name asked.second.now asked.account.now asked.restored.now) (sym are.0) (subst (λ name. AreFourNames first name asked.account.now asked.restored.now) (sym are.1) (subst (λ name. AreFourNames first second name asked.restored.now) (sym are.2) (subst (AreFourNames first second account) (sym are.3) names_are)));
+}
+
+-- four names are two that are read with the one that is written, and the account with it
+four_names : (first second account restored : List ℕ) → AreNames first second restored → AreTwoNames account restored → AreFourNames first second account restored
+four_names first second account restored names pair = record {
+  first_named = names.first_named;
+  second_named = names.second_named;
+  account_named = pair.first_named;
+  restored_named = names.account_named;
+  not_first = names.not_first;
+  not_second = names.not_second;
+  not_account = pair.apart;
+}
+
+read_names : (first second account restored : List ℕ) → AreFourNames first second account restored → AreNames first second restored
+read_names first second account restored are = record {
+  first_named = are.first_named;
+  second_named = are.second_named;
+  account_named = are.restored_named;
+  not_first = are.not_first;
+  not_second = are.not_second;
+}
+
+account_names : (first second account restored : List ℕ) → AreFourNames first second account restored → AreTwoNames account restored
+account_names first second account restored are = record {
+  first_named = are.account_named;
+  second_named = are.restored_named;
+  apart = are.not_account;
+}
+
+pub four_names_tested : (first second account restored : List ℕ) (a b : Bool) → IsTrue a ↔ AreNames first second restored → IsTrue b ↔ AreTwoNames account restored → IsTrue (a && b) ↔ AreFourNames first second account restored
+four_names_tested first second account restored true true one two = (λ t. four_names first second account restored (one.0 refl) (two.0 refl), λ are. refl)
+four_names_tested first second account restored true false one two = (λ t. absurd (false≢true t), λ are. two.1 (account_names first second account restored are))
+four_names_tested first second account restored false true one two = (λ t. absurd (false≢true t), λ are. one.1 (read_names first second account restored are))
+four_names_tested first second account restored false false one two = (λ t. absurd (false≢true t), λ are. one.1 (read_names first second account restored are))

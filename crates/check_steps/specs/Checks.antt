@@ -1,7 +1,7 @@
 -- What a check does, and what its outcome says of the words and the files.
-use Rattle.std.specs.Prelude.{◌≡◌, ℕ, Bool, IsTrue, List, Option, Result, Ok, Err, IfOk, IfErr}
+use Rattle.std.specs.Prelude.{◌≡◌, ℕ, Bool, IsTrue, List, Option, Result, Ok, Err, IfOk, IfErr, OnOk}
 use Rattle.shelf_core.specs.Fault.{NoCallFollows, Rose}
-use Rattle.shelf_core.specs.State.{ShelfState}
+use Rattle.shelf_core.specs.State.{ShelfState, Closed}
 use Rattle.net_core.specs.declared.matching.Matching.{Matching}
 use Rattle.account_check.specs.declared.verdict.Verdict.TheVariants as verdict
 use Rattle.check_steps.specs.Words.{AsksCheck}
@@ -9,8 +9,9 @@ use Rattle.check_steps.specs.Held.{Netlist}
 use Rattle.check_steps.specs.Check.{IsAccepted, IsAsked, IsMatchOfFiles, IsRejected, LacksMatch}
 use Rattle.check_steps.specs.Ends.{EndsEarly, IsAbsent}
 use Rattle.check_steps.specs.Lines.{port_names, report_on}
-use Rattle.check_steps.specs.Reading.{IsOfReading}
-use Rattle.check_steps.specs.Judged.{IsJudged}
+use Rattle.check_steps.specs.Reading.{IsOfReading, IsReadFrom}
+use Rattle.check_steps.specs.Judged.{IsJudged, IsMatchIfAny, IsUnequalIfRefused, IsVerdict, graphs_of}
+use Rattle.check_steps.specs.declared.checking.Judgement.{Judgement}
 use Rattle.check_steps.specs.declared.words.Check.{Check}
 use Rattle.check_steps.specs.declared.outcome.Ending.{Ending}
 use Rattle.check_steps.specs.declared.outcome.Outcome.{Outcome}
@@ -51,6 +52,27 @@ pub record IsCheckReport (tells : Bool) (held : List ℕ → Option (List ℕ)) 
 abbrev pub ended : Result Ending Outcome → Outcome
 ended (Ok ending) = ending.outcome
 ended (Err outcome) = outcome
+
+-- Reading the two netlists that a check names, and judging them by the account that it names.
+pub record JudgesFiles (tells : Bool) (check : Check) (old new : ShelfState) (result : Result Judgement Outcome) : Type 0 where
+  -- no file changes, and none is open after an answer
+  pub files : (n : List ℕ) → new.held n ≡ old.held n
+  pub closed : OnOk result (new.mode ≡ Closed)
+  -- the netlists are those of the files, and what the account says of them is right
+  pub first : IfOk result (λ answer. IsReadFrom tells (old.held check.first.now) answer.first)
+  pub second : IfOk result (λ answer. IsReadFrom tells (old.held check.second.now) answer.second)
+  pub verdict : IsTrue tells
+      → IfOk result (λ answer. IsVerdict (graphs_of answer.first answer.second) (old.held check.account.now) answer.outcome)
+  pub matches : IfOk result (λ answer. IsMatchIfAny answer.first.graph answer.second.graph answer.outcome)
+  pub refuses : IfOk result (λ answer. IsUnequalIfRefused answer.first.graph answer.second.graph answer.outcome)
+  pub judged : IfOk result (λ answer. IsJudged answer.outcome)
+  -- else the outcome is what a file says, or a fault
+  pub right : IsTrue tells → (words : List (List ℕ)) → AskFor words check → IfErr result (IsOfCheck old.held words)
+  pub early : IfErr result IsOfReading
+  -- a fault has its cause outside, and no call follows it
+  pub clean : OnOk result (new.faults ≡ old.faults)
+  pub last : NoCallFollows old new
+  pub failed : result ≡ Err ReadFault → Rose old.faults new.faults
 
 -- Checking the account that the words name against the two netlists that they name.
 pub record Checks (tells : Bool) (check : Check) (old new : ShelfState) (result : Result Ending Outcome) : Type 0 where

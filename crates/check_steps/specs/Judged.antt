@@ -12,7 +12,7 @@ use Rattle.account_check.specs.declared.verdict.Verdict.TheVariants as verdict
 use Rattle.check_steps.specs.Lines.{HasMatching}
 use Rattle.check_steps.specs.declared.outcome.Which.TheVariants.{Account}
 use Rattle.check_steps.specs.declared.outcome.Outcome.{Outcome}
-use Rattle.check_steps.specs.declared.outcome.Outcome.TheVariants.{AcceptedMatch, AcceptedRefusal, Rejected, Matched, NoMatching, Usage, Absent, Informed, Made}
+use Rattle.check_steps.specs.declared.outcome.Outcome.TheVariants.{AcceptedMatch, AcceptedRefusal, Rejected, Matched, NoMatching, Usage, Absent, Informed, Made, Restored}
 use Rattle.check_steps.specs.declared.outcome.Outcome.TheVariants.{Tried, ReadFault, WriteFault}
 use Rattle.check_steps.specs.declared.files.ReadStop.{ReadStop}
 use Rattle.check_steps.specs.declared.files.ReadStop.TheVariants as stop
@@ -49,6 +49,7 @@ pub record IsJudged (outcome : Outcome) : Type 0 where
   pub unwritten : outcome ≢ WriteFault
   pub no_match : outcome ≢ NoMatching
   pub no_pair : outcome ≢ Made
+  pub no_netlist : (gates : ℕ) → outcome ≢ Restored gates
   pub no_trial : (number : ℕ) (account : List ℕ) → outcome ≢ Tried number account
   pub unmatched : (matching : Matching) → outcome ≢ Matched matching
 

@@ -2,7 +2,7 @@
 use Rattle.std.specs.Prelude.{ℕ}
 use Rattle.check_steps.specs.declared.outcome.Outcome.{Outcome}
 use Rattle.check_steps.specs.declared.outcome.Outcome.TheVariants.{AcceptedMatch, AcceptedRefusal, Rejected, Matched, NoMatching, Spent, Usage, Absent}
-use Rattle.check_steps.specs.declared.outcome.Outcome.TheVariants.{TooLarge, Malformed, Informed, Made, Tried, ReadFault, WriteFault, Memory}
+use Rattle.check_steps.specs.declared.outcome.Outcome.TheVariants.{TooLarge, Malformed, Informed, Made, Restored, Tried, ReadFault, WriteFault, Memory}
 
 abbrev pub status_of : Outcome → ℕ
 status_of (AcceptedMatch matching) = 0
@@ -12,6 +12,7 @@ status_of (Matched matching) = 0
 status_of NoMatching = 1
 status_of Informed = 0
 status_of Made = 0
+status_of (Restored gates) = 0
 status_of (Tried number account) = 0
 status_of (Spent ledger) = 3
 status_of Usage = 4

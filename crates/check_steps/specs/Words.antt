@@ -50,6 +50,29 @@ pub record AreNames (first second account : List ℕ) : Type 0 where
   pub not_first : account ≢ first
   pub not_second : account ≢ second
 
+-- Names of two netlists, of an account, and of a file that is written: none is empty, and the last is none of the others.
+pub record AreFourNames (first second account restored : List ℕ) : Type 0 where
+  pub first_named : first ≢ []
+  pub second_named : second ≢ []
+  pub account_named : account ≢ []
+  pub restored_named : restored ≢ []
+  pub not_first : restored ≢ first
+  pub not_second : restored ≢ second
+  pub not_account : restored ≢ account
+
+-- What is restored: the second of two netlists behind the first one's ports, by an account of a match of them, in a file that is
+-- written.
+pub record Wished : Type 0 where
+  pub first : List ℕ
+  pub second : List ℕ
+  pub account : List ℕ
+  pub restored : List ℕ
+
+-- `restore FIRST SECOND ACCOUNT NEW`
+pub record AsksRestore (words : List (List ℕ)) (wished : Wished) : Type 0 where
+  pub form : words ≡ codes "restore" ∷ wished.first ∷ wished.second ∷ wished.account ∷ wished.restored ∷ []
+  pub names : AreFourNames wished.first wished.second wished.account wished.restored
+
 -- `match FIRST SECOND ACCOUNT [BUDGET [SEED]]`
 pub record AsksMatch (words : List (List ℕ)) (sought : Sought) : Type 0 where
   pub numbers : List (List ℕ)
@@ -109,10 +132,12 @@ abbrev pub ReadFiles : List (List ℕ) → Type 0
 ReadFiles words =
     ((first second account : List ℕ) × NameThree words first second account)
     ⊎ ((file : List ℕ) × (budget : ℕ) × AsksInfo words file budget)
+    ⊎ ((wished : Wished) × AsksRestore words wished)
 
 -- words of no form that is known
 pub record AskNothing (words : List (List ℕ)) : Type 0 where
   pub no_check : (first second account : List ℕ) → AsksCheck words first second account → ⊥
+  pub no_restore : (wished : Wished) → AsksRestore words wished → ⊥
   pub no_match : (sought : Sought) → AsksMatch words sought → ⊥
   pub no_info : (file : List ℕ) (budget : ℕ) → AsksInfo words file budget → ⊥
   pub no_make : (wanted : Wanted) → AsksMake words wanted → ⊥

@@ -1,6 +1,6 @@
 //! What an account says of two netlists, checked as it is read.
 
-ghost use Rattle.std.specs.Prelude.{ℕ, List, ◌≡◌, ◌≢◌, ◌+◌, ◌<◌, ◌^◌, [], IfOk, Some, Err, length};
+ghost use Rattle.std.specs.Prelude.{ℕ, List, ◌≡◌, ◌≢◌, ◌+◌, ◌<◌, ◌^◌, [], IfOk, OnOk, Some, Err, length};
 ghost use Rattle.net_core.specs.Sides.{Graphs as TwoGraphs};
 ghost use Rattle.account_check.specs.Checking.{HasTaken, IsUnderWay};
 ghost use Rattle.shelf_core.specs.State.{Closed, Reading};
@@ -60,8 +60,9 @@ pub fn judge<S: Shelf, W: Watch>(
     watch: &W,
 ) -> Result<Outcome, ReadStop>
     requires { (S.state shelf.old).mode ≡ Closed }
-    ensures { Judges S.tells (graphs_of first.now second.now) ((S.state shelf.old).held name.now)
+    ensures judges { Judges S.tells (graphs_of first.now second.now) ((S.state shelf.old).held name.now)
         (S.state shelf.old) (S.state shelf.new) result }
+    ensures closed { OnOk result ((S.state shelf.new).mode ≡ Closed) }
 {
     let graphs = Graphs::new(&first.graph, &second.graph);
     match shelf.open(name)? {
@@ -79,8 +80,9 @@ fn judge_open<S: Shelf, W: Watch>(
     watch: &W,
 ) -> Result<Outcome, ReadStop>
     requires { HasUnread S.tells (S.state shelf.old) size }
-    ensures { Judges S.tells graphs.now (Some (S.state shelf.old).unread)
+    ensures judges { Judges S.tells graphs.now (Some (S.state shelf.old).unread)
         (S.state shelf.old) (S.state shelf.new) result }
+    ensures closed { OnOk result ((S.state shelf.new).mode ≡ Closed) }
 {
     let mut piece = zeros(alloc, PIECE)?;
     let outcome = judge_by(alloc, graphs, shelf, &mut piece, size, watch)?;

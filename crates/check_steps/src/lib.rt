@@ -10,11 +10,11 @@ mod outcome;
 mod report;
 mod words;
 
-pub use checking::check_files;
+pub use checking::{Judgement, check_files, judge_files};
 pub use files::{File, PIECE, ReadStop, read_file, zeros};
 pub use netlists::{NETLIST_LIMIT, read_netlist};
 pub use outcome::{Ending, Outcome, Which};
 pub use report::{report_line, report_named};
 pub use words::{
-    Check, Command, DEFAULT_BUDGET, DEFAULT_SEED, Info, Make, Match, Trial, command_asked,
+    Check, Command, DEFAULT_BUDGET, DEFAULT_SEED, Info, Make, Match, Restore, Trial, command_asked,
 };

@@ -43,6 +43,10 @@ pub enum Outcome {
     Informed,
     /// The two files have the pair of netlists that was asked for.
     Made,
+    /// The second netlist was written behind the first one's ports, with so many gates.
+    Restored {
+        gates: u64,
+    },
     /// A match of the pair of netlists that the number gives was found, and the account of it was accepted.
     Tried {
         number: u64,
@@ -79,7 +83,7 @@ pub struct Ending {
 }
 
 impl Outcome {
-    /// The exit status of the program: 0 a match or a report, 1 no match, 2 an account rejected, 3 a spent budget,
+    /// The exit status of the program: 0 a match, a report or netlists, 1 no match, 2 an account rejected, 3 a spent budget,
     /// 4 words of no known form, 5 a file that isn't there or isn't a netlist, 6 a fault of the outside, 7 no memory.
     pub fn status(&self) -> u8
         ensures { result ≡ status_of self.now }
@@ -92,6 +96,7 @@ impl Outcome {
             Outcome::NoMatching => 1,
             Outcome::Informed => 0,
             Outcome::Made => 0,
+            Outcome::Restored { .. } => 0,
             Outcome::Tried { .. } => 0,
             Outcome::Spent(_) => 3,
             Outcome::Usage => 4,

@@ -49,9 +49,10 @@ fn put_line(outcome: &Outcome, out: &mut Vec<u8>) -> Result<(), AllocError>
         Outcome::Rejected { line, why } => put_rejected(*line, why.word(), out),
         Outcome::Matched(_) => out.extend_from_slice(b"matched\n"),
         Outcome::NoMatching => out.extend_from_slice(b"no matching\n"),
-        Outcome::Spent(ledger) => put_spent(ledger.learned(), out),
+        Outcome::Spent(ledger) => put_count(b"spent ", ledger.learned(), out),
         Outcome::Informed => Ok(()),
         Outcome::Made => out.extend_from_slice(b"made 64 32 2000\n"),
+        Outcome::Restored { gates } => put_count(b"restored ", *gates, out),
         Outcome::Tried { number, .. } => put_tried(*number, out),
         Outcome::Usage => out.extend_from_slice(b"usage\n"),
         Outcome::Absent(which) => put_file(b"absent ", *which, out),
@@ -63,12 +64,12 @@ fn put_line(outcome: &Outcome, out: &mut Vec<u8>) -> Result<(), AllocError>
     }
 }
 
-// Writes the line of a spent budget: how many clauses were learned.
-fn put_spent(learned: u64, out: &mut Vec<u8>) -> Result<(), AllocError>
-    ensures { OnOk result (out.new.items ≡ out.old.items ++ codes "spent " ++ decimal learned ++ 10 ∷ []) }
+// Writes a line that ends in a number: how many clauses were learned, or how many gates there are.
+fn put_count(what: &[u8], count: u64, out: &mut Vec<u8>) -> Result<(), AllocError>
+    ensures { OnOk result (out.new.items ≡ out.old.items ++ what.now ++ decimal count ++ 10 ∷ []) }
 {
-    out.extend_from_slice(b"spent ")?;
-    put_decimal(learned, out)?;
+    out.extend_from_slice(what)?;
+    put_decimal(count, out)?;
     out.extend_from_slice(b"\n")
 }
 

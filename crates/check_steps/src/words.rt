@@ -1,9 +1,10 @@
 //! The words of the command line.
 
 ghost use Rattle.std.specs.Prelude.{◌≡◌, ◌≢◌, ◌⊎◌, ℕ, [], ◌↔◌, IsTrue, List, map, IfSome, IfNone, string_bytes};
-ghost use Rattle.check_steps.specs.Asks.{Ask, sought_by, wanted_by};
-ghost use Rattle.check_steps.specs.Words.{AreBudgetAndSeed, AreNames, AreTwoNames, AskNothing, AsksCheck, AsksInfo};
-ghost use Rattle.check_steps.specs.Words.{AsksMake, AsksMatch, AsksTrial, IsNumber, Sought, Wanted};
+ghost use Rattle.check_steps.specs.Asks.{Ask, sought_by, wanted_by, wished_by};
+ghost use Rattle.check_steps.specs.Words.{AreBudgetAndSeed, AreFourNames, AreNames, AreTwoNames, AskNothing, AsksCheck};
+ghost use Rattle.check_steps.specs.Words.{AsksInfo, AsksMake, AsksMatch, AsksRestore, AsksTrial, IsNumber};
+ghost use Rattle.check_steps.specs.Words.{Sought, Wanted, Wished};
 
 use text_core::{Cursor, decimal};
 
@@ -25,6 +26,19 @@ pub struct Check<'a> {
     pub second: &'a str,
     /// The account: that a matching is a match, or that none is, and the proof.
     pub account: &'a str,
+}
+
+/// The files of a netlist that gets another one's ports.
+#[derive(Clone, Copy, Debug)]
+pub struct Restore<'a> {
+    /// The first netlist, whose ports and names it gets.
+    pub first: &'a str,
+    /// The second netlist, whose gates it has.
+    pub second: &'a str,
+    /// The account: that a matching is a match of the two, and the proof.
+    pub account: &'a str,
+    /// The file that is written.
+    pub restored: &'a str,
 }
 
 /// The netlists of which a match is sought.
@@ -74,6 +88,8 @@ pub struct Trial {
 pub enum Command<'a> {
     /// Whether an account proves that two netlists match.
     Check(Check<'a>),
+    /// The second of two netlists behind the first one's ports, by an account of a match.
+    Restore(Restore<'a>),
     /// A match of two netlists, or that there is none.
     Match(Match<'a>),
     /// What each output of a netlist depends on, and how.
@@ -91,6 +107,9 @@ pub fn command_asked(words: &[String]) -> Option<Command<'_>>
 {
     if let Some(check) = check_asked(words) {
         return Some(Command::Check(check));
+    }
+    if let Some(asked) = restore_asked(words) {
+        return Some(Command::Restore(asked));
     }
     if let Some(asked) = match_asked(words) {
         return Some(Command::Match(asked));
@@ -127,6 +146,55 @@ fn check_asked(words: &[String]) -> Option<Check<'_>>
         }
         _ => None,
     }
+}
+
+/// What the words ask to restore: `restore`, and four names that aren't empty, the last of which is none of the others.
+fn restore_asked(words: &[String]) -> Option<Restore<'_>>
+    ensures asked { IfSome result (λ asked. AsksRestore (map string_bytes words.now) (wished_by asked)) }
+    ensures not_asked { IfNone result
+        ((wished : Wished) → AsksRestore (map string_bytes words.now) wished → ⊥) }
+{
+    match words {
+        [command, first, second, account, restored] if command.as_str() == "restore" => restore_of(
+            first.as_str(),
+            second.as_str(),
+            account.as_str(),
+            restored.as_str(),
+        ),
+        _ => None,
+    }
+}
+
+/// What four names ask to restore.
+fn restore_of<'a>(
+    first: &'a str,
+    second: &'a str,
+    account: &'a str,
+    restored: &'a str,
+) -> Option<Restore<'a>>
+    ensures some { IfSome result (λ asked. (asked.first.now ≡ first.now)
+        × (asked.second.now ≡ second.now)
+        × (asked.account.now ≡ account.now)
+        × (asked.restored.now ≡ restored.now)) }
+    ensures apart { IfSome result (λ asked. AreFourNames first.now second.now account.now restored.now) }
+    ensures none { IfNone result (AreFourNames first.now second.now account.now restored.now → ⊥) }
+{
+    if !are_four_names(first, second, account, restored) {
+        return None;
+    }
+    Some(Restore {
+        first,
+        second,
+        account,
+        restored,
+    })
+}
+
+/// Whether four names aren't empty, and the last one is none of the others.
+fn are_four_names(first: &str, second: &str, account: &str, restored: &str) -> bool
+    ensures { IsTrue result ↔ AreFourNames first.now second.now account.now restored.now }
+{
+    are_names(first, second, restored) & are_two_names(account, restored)
 }
 
 /// The match that the words ask for: `match`, three names, and perhaps a budget, and after it perhaps a seed.

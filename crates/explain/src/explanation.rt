@@ -69,6 +69,9 @@ fn name_of(words: &[String], which: Which) -> Option<&str> {
         (Command::Check(check), Which::First) => Some(check.first),
         (Command::Check(check), Which::Second) => Some(check.second),
         (Command::Check(check), Which::Account) => Some(check.account),
+        (Command::Restore(asked), Which::First) => Some(asked.first),
+        (Command::Restore(asked), Which::Second) => Some(asked.second),
+        (Command::Restore(asked), Which::Account) => Some(asked.account),
         (Command::Info(info), Which::First) => Some(info.file),
         _ => None,
     }
@@ -97,6 +100,7 @@ fn put_explanation<S: Shelf>(
             put_netlist_fault(alloc, told, *which, fault, shelf, text)
         }
         Outcome::Rejected { line, why } => { put_rejected(alloc, told, *line, *why, shelf, text) }
+        Outcome::Matched(_) => put_matched(told.words, text),
         Outcome::NoMatching => put_no_matching(alloc, told, shelf, text),
         Outcome::Spent(ledger) => put_spent(alloc, told, ledger.budget(), shelf, text),
         _ => Ok(()),
@@ -108,6 +112,21 @@ fn put_usage(words: &[String], text: &mut String) -> Result<(), ReadStop> {
         writeln!(text, "npnp: {fault}")?;
     }
     Ok(text.push_str(FORMS)?)
+}
+
+/// Says how the second netlist of a match gets the first one's ports.
+fn put_matched(words: &[String], text: &mut String) -> Result<(), ReadStop> {
+    let Some(Command::Match(asked)) = command_asked(words) else {
+        return Ok(());
+    };
+    let first = Shown::name(asked.first);
+    let second = Shown::name(asked.second);
+    let account = Shown::name(asked.account);
+    writeln!(
+        text,
+        "npnp: `npnp restore {first} {second} {account} NEW` gives the names back: NEW is {second} behind the ports of {first}"
+    )?;
+    Ok(())
 }
 
 /// Says something of a file.

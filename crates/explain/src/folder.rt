@@ -1,4 +1,4 @@
-//! Files that surely can't be written, said before the search.
+//! Files that surely can't be written, said before the run.
 
 use check_steps::{Command, command_asked};
 use refusal_words::TerminalText;
@@ -55,6 +55,7 @@ pub fn folder_of(name: &str) -> &str {
 pub fn written_names(words: &[String]) -> [Option<&str>; 2] {
     match command_asked(words) {
         Some(Command::Match(asked)) => [Some(asked.account), None],
+        Some(Command::Restore(asked)) => [Some(asked.restored), None],
         Some(Command::Make(asked)) => [Some(asked.first), Some(asked.second)],
         _ => [None, None],
     }

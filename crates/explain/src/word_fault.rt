@@ -17,6 +17,7 @@ pub enum Slot {
     Number,
     Budget,
     Seed,
+    New,
 }
 
 /// As the forms of the words call it.
@@ -30,6 +31,7 @@ impl fmt::Display for Slot {
             Slot::Number => "NUMBER",
             Slot::Budget => "BUDGET",
             Slot::Seed => "SEED",
+            Slot::New => "NEW",
         })
     }
 }
@@ -51,6 +53,8 @@ const MATCH: &[Slot] = &[
 
 const CHECK: &[Slot] = &[Slot::First, Slot::Second, Slot::Account];
 
+const RESTORE: &[Slot] = &[Slot::First, Slot::Second, Slot::Account, Slot::New];
+
 const INFO: &[Slot] = &[Slot::File, Slot::Budget];
 
 const MAKE: &[Slot] = &[Slot::Number, Slot::First, Slot::Second];
@@ -62,6 +66,7 @@ fn form_of(command: &str) -> Option<Form> {
     let (slots, wanted) = match command {
         "match" => (MATCH, 3),
         "check" => (CHECK, 3),
+        "restore" => (RESTORE, 4),
         "info" => (INFO, 1),
         "make" => (MAKE, 3),
         "trial" => (TRIAL, 1),
@@ -183,19 +188,40 @@ fn fault_of_number(slot: Slot, word: &str) -> Option<WordFault<'_>> {
 fn same_file<'a>(command: &str, operands: &[String]) -> Option<WordFault<'a>> {
     match (command, operands) {
         ("match", [first, second, account, ..]) => {
-            let account = account.as_str();
-            if account == first.as_str() {
-                return Some(same(Slot::Account, Slot::First));
-            }
-            (account == second.as_str()).then_some(same(Slot::Account, Slot::Second))
+            let others = [
+                (Slot::First, first.as_str()),
+                (Slot::Second, second.as_str()),
+            ];
+            same_as(Slot::Account, account.as_str(), &others)
+        }
+        ("restore", [first, second, account, new]) => {
+            let others = [
+                (Slot::First, first.as_str()),
+                (Slot::Second, second.as_str()),
+                (Slot::Account, account.as_str()),
+            ];
+            same_as(Slot::New, new.as_str(), &others)
         }
         ("make", [_, first, second]) => {
-            (second.as_str() == first.as_str()).then_some(same(Slot::Second, Slot::First))
+            same_as(
+                Slot::Second,
+                second.as_str(),
+                &[(Slot::First, first.as_str())],
+            )
         }
         _ => None,
     }
 }
 
-fn same<'a>(slot: Slot, other: Slot) -> WordFault<'a> {
-    WordFault::SameFile { slot, other }
+/// The first of other files that has the name of one to be written.
+fn same_as<'a>(slot: Slot, name: &str, others: &[(Slot, &str)]) -> Option<WordFault<'a>> {
+    for (other, word) in others.iter() {
+        if *word == name {
+            return Some(WordFault::SameFile {
+                slot,
+                other: *other,
+            });
+        }
+    }
+    None
 }

@@ -9,7 +9,7 @@ use Rattle.circuits.specs.Literals.{inverse}
 use Rattle.circuits.specs.Netlists.{Net}
 use Rattle.rand_pcg.specs.Lcg.{Lcg}
 use Rattle.gen_pair.specs.Drawing.{drawn, drawn_bit, generator_of}
-use Rattle.gen_pair.specs.Moved.{signed, moved_gate, AreMovedOutputs}
+use Rattle.port_moves.specs.Moved.{signed, moved_gate, AreMovedOutputs}
 use Rattle.gen_pair.specs.Shuffles.{shuffled, signed_places, hidden_ports, hidden_matching}
 use Rattle.gen_pair.specs.Pairs.{ArePairOf}
 use Rattle.gen_pair.specs.Mixing.{Mixing, mixing, Making, with_and, with_multiplexer, mixed_once, mixed, joining, joined, making, with_output, made, window_of}

@@ -1,4 +1,3 @@
-pub mod Moved
 pub mod Growing
 pub mod Names
 pub mod Drawing

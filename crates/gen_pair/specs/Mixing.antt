@@ -7,7 +7,7 @@ use Rattle.circuits.specs.declared.netlist.Gate.{Gate}
 use Rattle.circuits.specs.Literals.{inverse, plain_literal}
 use Rattle.rand_pcg.specs.Lcg.{Lcg}
 use Rattle.gen_pair.specs.Drawing.{drawn, drawn_bit}
-use Rattle.gen_pair.specs.Moved.{signed}
+use Rattle.port_moves.specs.Moved.{signed}
 use Rattle.circuits.specs.Expansion.{stand_in}
 
 -- the AND of two literals as the next gate, and its literal

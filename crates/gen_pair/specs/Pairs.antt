@@ -4,7 +4,7 @@ use Rattle.circuits.specs.Netlists.{Net}
 use Rattle.gen_pair.specs.Drawing.{generator_of}
 use Rattle.gen_pair.specs.Mixing.{made}
 use Rattle.gen_pair.specs.Shuffles.{hidden_matching}
-use Rattle.gen_pair.specs.Moved.{moved_gate, AreMovedOutputs}
+use Rattle.port_moves.specs.Moved.{moved_gate, AreMovedOutputs}
 
 -- the size of a generated netlist
 pub record HasSizes (net : Net) : Type 0 where

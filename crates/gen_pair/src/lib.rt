@@ -4,7 +4,6 @@
 
 mod drawing;
 mod hidden;
-mod moving;
 mod naming;
 mod pair;
 mod windows;

@@ -10,11 +10,11 @@ ghost use Rattle.gen_pair.specs.Pairs.{HasSizes, ArePairOf};
 ghost use Rattle.gen_pair.specs.Shuffles.{hidden_matching};
 
 use crate::hidden::hidden_ports;
-use crate::moving::moved_graph;
 use crate::naming::{Letters, with_names};
 use crate::windows::{INPUTS, OUTPUTS, make_parts};
 use net_core::{Graph, Matching};
 use net_file::Named;
+use port_moves::moved_graph;
 use rand_pcg::Lcg64Xsh32;
 use std::alloc::{AllocError, Global};
 

@@ -10,8 +10,8 @@ ghost use Rattle.gen_pair.specs.Mixing.{with_and, with_multiplexer, mixing, mixe
 ghost use Rattle.gen_pair.specs.Mixing.{window_of, making, with_output, made};
 
 use crate::drawing::{draw, draw_bit};
-use crate::moving::signed;
 use net_core::{Gate, Lit};
+use port_moves::signed;
 use rand_pcg::Lcg64Xsh32;
 use std::alloc::{AllocError, Global};
 

@@ -1,7 +1,6 @@
 -- What a run tells is what was answered.
 use Rattle.std.proofs.Common.{◌≡◌, inl, inr, ℕ, List, Option, sym, subst, ◌∙◌}
-use Rattle.check_steps.specs.Checks.{IsSound}
-use Rattle.run_steps.specs.Outcomes.{IsTold}
+use Rattle.run_steps.specs.Outcomes.{IsSoundAnswer, IsTold}
 use Rattle.run_steps.specs.Steps.{TellsLine}
 use Rattle.check_steps.specs.declared.outcome.Ending.{Ending}
 use Rattle.check_steps.specs.declared.outcome.Outcome.{Outcome}
@@ -17,5 +16,5 @@ by_line P ending (inl line) one memory = subst P (sym line.0) one
 by_line P ending (inr is) one memory = subst P (sym is) memory
 
 -- where memory is refused nothing is accepted
-pub sound_memory : {held : List ℕ → Option (List ℕ)} {words : List (List ℕ)} → IsSound held words Memory
+pub sound_memory : {held : List ℕ → Option (List ℕ)} {words : List (List ℕ)} → IsSoundAnswer held words Memory
 sound_memory {held} {words} = record { matches = λ matching e. cc; refuses = λ e. cc }

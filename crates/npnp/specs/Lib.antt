@@ -8,6 +8,7 @@ pub use Rattle.run_steps.specs.Make
 pub use Rattle.run_steps.specs.Match
 pub use Rattle.run_steps.specs.Outcomes
 pub use Rattle.run_steps.specs.Report
+pub use Rattle.run_steps.specs.Restore
 pub use Rattle.run_steps.specs.Steps
 pub use Rattle.run_steps.specs.Trial
 pub use Rattle.check_steps.specs.Words

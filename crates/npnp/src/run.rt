@@ -14,8 +14,8 @@ ghost use Rattle.check_steps.specs.Check.{IsAccepted, IsRejected, IsMatchOfFiles
 ghost use Rattle.run_steps.specs.Make.{HoldsPair, NamesPair, WriteFiles};
 ghost use Rattle.run_steps.specs.Match.{HasNoMatch, IsAskedToMatch, IsMatchFound, IsProved, IsSpentOnTwo, NamesAccount};
 ghost use Rattle.check_steps.specs.Ends.{EndsEarly, IsAbsent};
-ghost use Rattle.run_steps.specs.Outcomes.{FollowsWords, IsAskedOf, IsDecided, IsOfMatch, IsOfTrial, IsRight, IsSettled, IsSpentOn, IsTold, Leaves, LeavesFiles, MayBeCut};
-ghost use Rattle.check_steps.specs.Checks.{IsSound};
+ghost use Rattle.run_steps.specs.Outcomes.{FollowsWords, IsAskedOf, IsDecided, IsOfMatch, IsOfTrial, IsRight, IsSettled, IsSoundAnswer, IsSpentOn, IsTold, Leaves, LeavesFiles, MayBeCut};
+ghost use Rattle.run_steps.specs.Restore.{AsChecked, HoldsRestored, IsRestorable, NamesRestored};
 ghost use Rattle.run_steps.specs.Report.{IsReport};
 ghost use Rattle.check_steps.specs.Lines.{line_of};
 ghost use Rattle.run_steps.specs.Steps.{Decides, TellsLine, PutsText, WritesPart};
@@ -29,6 +29,7 @@ use crate::trying::try_pair;
 use account_check::Verdict;
 pub use check_steps::Ending;
 use check_steps::{Command, Outcome, check_files, command_asked, report_line};
+use restore_steps::restore_files;
 use run_steps::make_files;
 use shelf_core::{Shelf, ShelfStop, Sink};
 use std::alloc::Global;
@@ -48,6 +49,9 @@ const OUT_OF_MEMORY: &[u8] = b"out of memory\n";
 /// - `check FIRST SECOND ACCOUNT`: FIRST and SECOND are netlists, and ACCOUNT is a text that claims a matching and
 ///   proves, by refutations, that it is a match of the two, or that proves by bans that no matching is one. A match
 ///   that it proves is printed as a port table.
+/// - `restore FIRST SECOND ACCOUNT NEW`: where ACCOUNT proves a match of the netlists FIRST and SECOND, as a check by these
+///   names would say, NEW is written, in the binary form of AIGER: SECOND's gates behind FIRST's ports, with their names and
+///   in their order. The name NEW is none of the others.
 /// - `info FILE [BUDGET]`: FILE is a netlist. Its supports, unateness and symmetries are decided; at most BUDGET
 ///   clauses are learned for that, by default 1,000,000,000.
 /// - `make NUMBER FIRST SECOND`: the pair of netlists that NUMBER gives is made, and written to the files FIRST, in the
@@ -57,8 +61,8 @@ const OUT_OF_MEMORY: &[u8] = b"out of memory\n";
 ///
 /// The files are opened in this order, each read and closed before the next. A netlist of more than 67,108,864
 /// bytes is closed unread. The account of a match is written once its answer is known: its lines in pieces of 65,536
-/// bytes, and its last line by itself. The files of a pair are written one after the other in such pieces. After a
-/// failure no further call of the shelf is made.
+/// bytes, and its last line by itself. The files of a pair, and a netlist that is restored, are written one after the
+/// other in such pieces. After a failure no further call of the shelf is made.
 ///
 /// The sink is told what the run is at, and gets the report at the end.
 ///
@@ -92,24 +96,33 @@ pub fn run<S: Shelf, K: Sink>(
         → IsAskedToMatch (S.state shelf.old).held (bytes_of words.now) → IsOfMatch result }
 
     // Where no call failed and memory did not run out, the words and the files decide the outcome: an account that is
-    // accepted, or its first bad line; a netlist that isn't there, is too large, or is malformed, and where.
+    // accepted, or its first bad line; a netlist that isn't there, is too large, or is malformed, and where. Of the words
+    // of `restore` their first three files say what a check of them says, but for an accepted match.
     ensures accepted { IsTrue S.tells → IsDecided result → (matching : Matching)
         → ((result ≡ Outcome.AcceptedMatch matching)
         ↔ IsAccepted (S.state shelf.old).held (bytes_of words.now) (Verdict.Match matching)) }
     ensures accepted_refusal { IsTrue S.tells → IsDecided result
         → ((result ≡ Outcome.AcceptedRefusal)
-        ↔ IsAccepted (S.state shelf.old).held (bytes_of words.now) Verdict.None) }
+        ↔ AsChecked (λ checked. IsAccepted (S.state shelf.old).held checked Verdict.None)
+        (bytes_of words.now)) }
     ensures rejected { IsTrue S.tells → IsDecided result → (line : ℕ) (why : Reason)
         → ((result ≡ Outcome.Rejected line why)
-        ↔ IsRejected (S.state shelf.old).held (bytes_of words.now) line why) }
+        ↔ AsChecked (λ checked. IsRejected (S.state shelf.old).held checked line why)
+        (bytes_of words.now)) }
     ensures absent { IsTrue S.tells → IsDecided result → (which : AnyFile)
-        → ((result ≡ Outcome.Absent which) ↔ IsAbsent (S.state shelf.old).held (bytes_of words.now) which) }
+        → ((result ≡ Outcome.Absent which)
+        ↔ AsChecked (λ checked. IsAbsent (S.state shelf.old).held checked which)
+        (bytes_of words.now)) }
     ensures too_large { IsTrue S.tells → IsDecided result → (which : AnyFile)
         → ((result ≡ Outcome.TooLarge which)
-        ↔ EndsEarly (S.state shelf.old).held (bytes_of words.now) (Outcome.TooLarge which)) }
-    ensures malformed { IsTrue S.tells → IsDecided result → (which : AnyFile) (kind : NetKind) (at : ℕ)
+        ↔ AsChecked (λ checked. EndsEarly (S.state shelf.old).held checked (Outcome.TooLarge which))
+        (bytes_of words.now)) }
+    ensures malformed { IsTrue S.tells → IsDecided result
+        → (which : AnyFile) (kind : NetKind) (at : ℕ)
         → ((result ≡ Outcome.Malformed which kind at)
-        ↔ EndsEarly (S.state shelf.old).held (bytes_of words.now) (Outcome.Malformed which kind at)) }
+        ↔ AsChecked
+        (λ checked. EndsEarly (S.state shelf.old).held checked (Outcome.Malformed which kind at))
+        (bytes_of words.now)) }
 
     // A matching is accepted only where it is a match of the two files' netlists, whoever wrote the account.
     ensures sound { IsTrue S.tells → (matching : Matching) → result ≡ Outcome.AcceptedMatch matching
@@ -117,7 +130,7 @@ pub fn run<S: Shelf, K: Sink>(
 
     // A refusal is accepted only where no signed bijections make the two files' netlists equal, whoever wrote it.
     ensures sound_refusal { IsTrue S.tells → result ≡ Outcome.AcceptedRefusal
-        → LacksMatch (S.state shelf.old).held (bytes_of words.now) }
+        → AsChecked (LacksMatch (S.state shelf.old).held) (bytes_of words.now) }
 
     // What is known of a netlist is reported where no budget was spent, and by rows that are right for its circuit. A
     // budget is spent by work on the netlists that the words name.
@@ -132,6 +145,15 @@ pub fn run<S: Shelf, K: Sink>(
     // then the pair as it is printed, which is read as circuits of the pair's functions, and these have a match.
     ensures made { IsTold result → ((result ≡ Outcome.Made) ↔ AskForPair (bytes_of words.now)) }
     ensures pair { IsTrue S.tells → result ≡ Outcome.Made → HoldsPair (S.state shelf.new).held (bytes_of words.now) }
+
+    // A netlist is restored exactly where the words ask for it and a check by the first three names accepts the account,
+    // which proves a match, unless a fault came or memory ran out. The new file has it then: it has the first netlist's
+    // ports, in their order and by their names, and computes what that does, with no more gates than the second's graph.
+    ensures restored { IsTrue S.tells → IsDecided result → (gates : ℕ)
+        → ((result ≡ Outcome.Restored gates)
+        ↔ IsRestorable (S.state shelf.old).held (map string_bytes words.now) gates) }
+    ensures restored_file { IsTrue S.tells → (gates : ℕ) → result ≡ Outcome.Restored gates
+        → HoldsRestored (S.state shelf.old).held (S.state shelf.new).held (map string_bytes words.now) gates }
 
     // A pair was tried only where its number is that of the words and the account, which the outcome has, is accepted
     // for it: it proves a matching that is a match. Nothing else comes of a trial, but that the budget is spent on the
@@ -161,12 +183,14 @@ pub fn run<S: Shelf, K: Sink>(
     ensures no_call_follows { NoCallFollows (S.state shelf.old) (S.state shelf.new) }
     ensures no_put_follows { NoPutFollows (K.state out.old) (K.state out.new) }
 
-    // No file changes but the account of a match, and that one only where there is an answer, and the two files of a
-    // pair. A failed write or running out of memory may leave a first part of an account that is accepted, or of the
-    // pair's first netlist, and only where that is whole a part of the second.
+    // No file changes but the account of a match, and that one only where there is an answer, the two files of a pair, and
+    // that of a netlist which is restored. A failed write or running out of memory may leave a first part of an account that
+    // is accepted, of a netlist that is restored, or of the pair's first netlist, and only where that is whole a part of the
+    // second.
     ensures files { IsTrue S.tells → (name : List ℕ)
         → (NamesAccount (bytes_of words.now) name → ⊥)
         → (NamesPair (bytes_of words.now) name → ⊥)
+        → (NamesRestored (bytes_of words.now) name → ⊥)
         → (S.state shelf.new).held name ≡ (S.state shelf.old).held name }
     ensures kept { IsTrue S.tells → LeavesFiles result → (name : List ℕ)
         → (S.state shelf.new).held name ≡ (S.state shelf.old).held name }
@@ -181,7 +205,7 @@ pub fn run<S: Shelf, K: Sink>(
     ensures part { IsTrue S.tells → IsTrue K.tells
         → (asked : AnyOutcome) × (text : List ℕ)
         × IsRight (S.state shelf.old).held (bytes_of words.now) asked
-        × IsSound (S.state shelf.old).held (bytes_of words.now) asked
+        × IsSoundAnswer (S.state shelf.old).held (bytes_of words.now) asked
         × IsReport S.tells (S.state shelf.old).held (bytes_of words.now) asked text
         × WritesPart (K.state out.old) (K.state out.new) text }
 {
@@ -192,13 +216,16 @@ pub fn run<S: Shelf, K: Sink>(
 /// How the words and the files, or a fault that came between, end the run.
 fn answer<S: Shelf, W: Watch>(alloc: Global, words: &[String], shelf: &mut S, watch: &W) -> Ending
     requires { (S.state shelf.old).mode ≡ Closed }
-    ensures right { IsTrue S.tells → IsRight (S.state shelf.old).held (bytes_of words.now) result.outcome }
-    ensures sound { IsTrue S.tells → IsSound (S.state shelf.old).held (bytes_of words.now) result.outcome }
+    ensures right { IsTrue S.tells
+        → IsRight (S.state shelf.old).held (bytes_of words.now) result.outcome }
+    ensures sound { IsTrue S.tells
+        → IsSoundAnswer (S.state shelf.old).held (bytes_of words.now) result.outcome }
     ensures report { (result.outcome ≡ Outcome.Memory)
         ⊎ IsReport S.tells (S.state shelf.old).held (bytes_of words.now) result.outcome result.report.items }
     ensures files { IsTrue S.tells → (name : List ℕ)
         → (NamesAccount (bytes_of words.now) name → ⊥)
         → (NamesPair (bytes_of words.now) name → ⊥)
+        → (NamesRestored (bytes_of words.now) name → ⊥)
         → (S.state shelf.new).held name ≡ (S.state shelf.old).held name }
     ensures left { IsTrue S.tells
         → Leaves (S.state shelf.old).held (S.state shelf.new).held (bytes_of words.now) result.outcome }
@@ -236,6 +263,7 @@ fn follow<S: Shelf, W: Watch>(
 {
     match command {
         Command::Check(check) => check_files(alloc, check, shelf, watch),
+        Command::Restore(asked) => restore_files(alloc, asked, shelf, watch),
         Command::Match(asked) => find(alloc, asked, shelf, watch),
         Command::Info(info) => inform(alloc, info, shelf, watch),
         Command::Make(asked) => make_files(alloc, asked, shelf),

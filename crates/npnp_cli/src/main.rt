@@ -55,15 +55,24 @@ fn run_told(rt: HostRuntime, words: &[String]) -> io::Result<Outcome> {
     Ok(outcome)
 }
 
-/// The machine's files, where the account of a check may come through a long pipe.
+/// The machine's files, where an account that is read may come through a long pipe.
 fn shelf_for(rt: HostRuntime, words: &[String]) -> io::Result<DiskShelf<HostRuntime>>
     ensures { IfOk result (λ shelf. (⟦<DiskShelf<HostRuntime> as Shelf>⟧.state shelf).mode ≡ Closed) }
 {
     let mut shelf = DiskShelf::new(rt);
-    if let Some(Command::Check(check)) = command_asked(words) {
-        shelf.expect_long(check.account)?;
+    if let Some(account) = account_read(words) {
+        shelf.expect_long(account)?;
     }
     Ok(shelf)
+}
+
+/// The account that the words ask to read.
+fn account_read(words: &[String]) -> Option<&str> {
+    match command_asked(words)? {
+        Command::Check(check) => Some(check.account),
+        Command::Restore(asked) => Some(asked.account),
+        _ => None,
+    }
 }
 
 /// Prints what the program says of itself, and answers the status.

@@ -2,6 +2,7 @@ pub mod NumberLines
 pub mod Fitting
 pub mod Circuits
 pub mod SymbolLines
+pub mod ReadNames
 pub mod Aag
 pub mod Deltas
 pub mod OperandOrder

@@ -35,7 +35,7 @@ entry_at kind position (name ∷ names) (suc k) d h =
     ∙ ap (port_at kind) (one_more position k)
 
 -- a letter of a port is no line feed, and begins no comment
-letter_on_line : (kind : PortKind) → is_line_feed (letter_of kind) ≡ false
+pub letter_on_line : (kind : PortKind) → is_line_feed (letter_of kind) ≡ false
 letter_on_line Input = refl
 letter_on_line Output = refl
 

@@ -1,5 +1,5 @@
 -- Which netlists and names an AIGER file can hold, within the limits of the reader.
-use Rattle.std.specs.Prelude.{◌≡◌, ◌≢◌, ℕ, ◌≤◌, List, [], ◌∷◌, ◌++◌, length, All}
+use Rattle.std.specs.Prelude.{◌≡◌, ◌≢◌, ◌-◌, ℕ, ◌≤◌, ◌==◌, List, [], ◌∷◌, ◌++◌, length, slice_index_or, slice_set, All, if◌then◌else◌}
 use Rattle.text_core.specs.Lines.{IsLine}
 use Rattle.circuits.specs.Netlists.{Net, IsOrdered}
 use Rattle.net_core.specs.Limits.{most_gates, most_ports}
@@ -10,6 +10,11 @@ pub record IsSymbolName (name : List ℕ) : Type 0 where
   pub filled : name ≢ []
   pub on_line : IsLine name
   pub no_return : (front : List ℕ) → name ≢ front ++ 13 ∷ []
+
+-- a name as its symbol is printed: a carriage return at its end, which would be read as part of the line's end, becomes `_`
+abbrev pub symbol_name : List ℕ → List ℕ
+symbol_name name =
+    if slice_index_or name (length name - 1) 0 == 13 then slice_set name (length name - 1) 95 else name
 
 -- A netlist in order, of no more ports and gates than the readers take.
 pub record IsWithinLimits (net : Net) : Type 0 where

@@ -1,5 +1,5 @@
 -- The words and the files determine what is answered.
-use Rattle.std.proofs.Common.{◌≡◌, ◌≢◌, ℕ, ◌↔◌, ◌⊎◌, inl, inr, Bool, IsTrue, List, length, Option, None, Some, Result, Ok, Err, refl, sym, ◌∙◌, ap, subst, arith}
+use Rattle.std.proofs.Common.{◌≡◌, ◌≢◌, ℕ, ◌↔◌, ◌⊎◌, inl, inr, Bool, IsTrue, List, [], length, get_or, Option, None, Some, Result, Ok, Err, refl, sym, ◌∙◌, ap, subst, arith}
 use Rattle.shelf_core.specs.Fault.{NoCallFollows, Rose}
 use Rattle.circuits.specs.Levels.{IsOrderOf}
 use Rattle.circuits.specs.Netlists.{Net}
@@ -14,13 +14,14 @@ use Rattle.account_check.specs.declared.verdict.Why.{Why}
 use Rattle.account_check.proofs.VerdictLemmas.{one_rejection, one_proved, never_both}
 use Rattle.check_steps.specs.Circuits.{IsCircuit, IsCircuitFault}
 use Rattle.query_core.specs.Ledgers.{Ledgered}
-use Rattle.check_steps.specs.Words.{AsksCheck, AsksInfo, AsksMatch, AskNothing, NameThree, ReadFiles, Sought}
+use Rattle.check_steps.specs.Words.{AsksCheck, AsksInfo, AsksMatch, AsksRestore, AskNothing, NameThree, ReadFiles, Sought, Wished, check_words}
 use Rattle.run_steps.specs.Match.{HasNoMatch, IsAskedToMatch, IsMatchFound, IsSought, IsSpentOnTwo}
 use Rattle.circuits.specs.Matches.{AreNpnpEqual}
-use Rattle.check_steps.specs.Check.{HasAccount, LacksAccount}
+use Rattle.check_steps.specs.Check.{HasAccount, IsAccepted, IsRejected, LacksAccount}
 use Rattle.check_steps.specs.Held.{Netlist, HoldsNetlist, HoldsGraph, HoldsFault, HoldsTooMuch}
-use Rattle.check_steps.specs.Ends.{EndsAt, EndsEarly}
-use Rattle.run_steps.specs.Outcomes.{FollowsWords, IsAskedOf, IsSpentOn, IsOfOne, IsOfMatch, IsRight, IsDecided, IsTold, Leaves}
+use Rattle.check_steps.specs.Ends.{EndsAt, EndsEarly, IsAbsent}
+use Rattle.run_steps.specs.Outcomes.{FollowsWords, IsAskedOf, IsSpentOn, IsOfOne, IsOfMatch, IsRight, IsDecided, IsSoundAnswer, IsTold, Leaves}
+use Rattle.run_steps.specs.Restore.{AsChecked, IsRestorable}
 use Rattle.shelf_core.specs.State.{ShelfState}
 use Rattle.run_steps.specs.Report.{IsReport}
 use Rattle.check_steps.specs.Reading.{IsEarly, IsOfReading}
@@ -33,10 +34,10 @@ use Rattle.run_steps.proofs.OutcomeLemmas.{of_unwritten}
 use Rattle.check_steps.specs.declared.outcome.Which.{Which}
 use Rattle.check_steps.specs.declared.outcome.Which.TheVariants.{First, Second, Account}
 use Rattle.check_steps.specs.declared.outcome.Outcome.{Outcome}
-use Rattle.check_steps.specs.declared.outcome.Outcome.TheVariants.{AcceptedMatch, AcceptedRefusal, Rejected, Matched, NoMatching, Spent, Usage, Absent, TooLarge, Malformed, Informed, Made, Tried, ReadFault, WriteFault, Memory}
-use Rattle.run_steps.proofs.FormLemmas.{names_one, file_named, sought_one, check_or_info, match_or_info, check_or_match, read_or_make, read_or_trial, reads_of}
+use Rattle.check_steps.specs.declared.outcome.Outcome.TheVariants.{AcceptedMatch, AcceptedRefusal, Rejected, Matched, NoMatching, Spent, Usage, Absent, TooLarge, Malformed, Informed, Made, Restored, Tried, ReadFault, WriteFault, Memory}
+use Rattle.run_steps.proofs.FormLemmas.{names_one, file_named, sought_one, check_of_restore, check_or_info, match_or_info, check_or_match, read_or_make, read_or_trial, reads_of, restore_or_check, restore_or_info, restore_or_match}
 use Rattle.check_steps.specs.Asks.{Ask}
-use Rattle.check_steps.specs.Checks.{Checks, IsOfCheck}
+use Rattle.check_steps.specs.Checks.{Checks, IsOfCheck, IsSound}
 use Rattle.check_steps.specs.declared.words.Check.{Check as CheckWords}
 use Rattle.check_steps.proofs.CheckingLemmas.{at_first, at_second, at_only}
 use Rattle.run_steps.specs.Commands.{asked_check, IsReadingCommand}
@@ -113,22 +114,31 @@ graph_one content a b one other =
     let acyclic = circuit_acyclic bytes one.netlist.circuit one.netlist.input_names one.netlist.output_names one.holds.is in
     one_order one.netlist.circuit a b acyclic one.numbered (subst (λ circuit. IsOrderOf circuit b) (sym e) other.numbered)
 
+-- what a run tells of two graphs and of what an account of them proves
+abbrev pub Telling : Type 0
+Telling = Graphs → Verdict → Outcome
+
 -- how the check of an account ends that proves this
-abbrev pub accepted_as : Verdict → Outcome
-accepted_as (verdict.Match matching) = AcceptedMatch matching
-accepted_as verdict.None = AcceptedRefusal
+abbrev pub accepted_as : Graphs → Verdict → Outcome
+accepted_as graphs (verdict.Match matching) = AcceptedMatch matching
+accepted_as graphs verdict.None = AcceptedRefusal
+
+-- and how a run ends that is to restore a netlist by it
+abbrev pub restored_as : Graphs → Verdict → Outcome
+restored_as graphs (verdict.Match matching) = Restored (length graphs.second.gates)
+restored_as graphs verdict.None = AcceptedRefusal
 
 -- what the account's bytes answer
-abbrev pub IsAnswer : Graphs → List ℕ → Outcome → Type 0
-IsAnswer graphs account o =
-    ((proved : Verdict) × (o ≡ accepted_as proved) × Proves graphs account proved)
+abbrev pub IsAnswer : Telling → Graphs → List ℕ → Outcome → Type 0
+IsAnswer telling graphs account o =
+    ((proved : Verdict) × (o ≡ telling graphs proved) × Proves graphs account proved)
     ⊎ ((line : ℕ) × (why : Why) × (o ≡ Rejected line why) × IsBadAt graphs account line why)
 
-answer_one : (graphs : Graphs) (account : List ℕ) (a b : Outcome) → IsAnswer graphs account a → IsAnswer graphs account b → a ≡ b
-answer_one graphs account a b one other =
+answer_one : (telling : Telling) (graphs : Graphs) (account : List ℕ) (a b : Outcome) → IsAnswer telling graphs account a → IsAnswer telling graphs account b → a ≡ b
+answer_one telling graphs account a b one other =
     elim one [
       | inl (proved, e, proves) ↦ elim other [
-        | inl (proved', e', proves') ↦ e ∙ ap accepted_as (one_proved graphs account proved proved' proves proves') ∙ sym e'
+        | inl (proved', e', proves') ↦ e ∙ ap (telling graphs) (one_proved graphs account proved proved' proves proves') ∙ sym e'
         | inr (line, why, e', bad) ↦ absurd (never_both graphs account proved line why proves bad)
       ]
       | inr (line, why, e, bad) ↦ elim other [
@@ -139,10 +149,10 @@ answer_one graphs account a b one other =
 
 -- the outcome is what the words say, or what the files under their names say
 
-abbrev pub SaysAccount : (List ℕ → Option (List ℕ)) → List ℕ → List ℕ → List ℕ → Outcome → Type 0
-SaysAccount held first second account o =
+abbrev pub SaysAccount : Telling → (List ℕ → Option (List ℕ)) → List ℕ → List ℕ → List ℕ → Outcome → Type 0
+SaysAccount telling held first second account o =
     ((o ≡ Absent Account) × (held account ≡ None))
-    ⊎ ((graphs : Graphs) × HoldsGraph (held first) graphs.first × HoldsGraph (held second) graphs.second × (bytes : List ℕ) × (held account ≡ Some bytes) × IsAnswer graphs bytes o)
+    ⊎ ((graphs : Graphs) × HoldsGraph (held first) graphs.first × HoldsGraph (held second) graphs.second × (bytes : List ℕ) × (held account ≡ Some bytes) × IsAnswer telling graphs bytes o)
 
 -- a file ends the run, or it is a netlist, and this is said
 abbrev pub SaysFile : Which → Option (List ℕ) → (Outcome → Type 0) → Outcome → Type 0
@@ -151,9 +161,24 @@ SaysFile file content says o = IsEnd file content o ⊎ ((f : Netlist) × HoldsN
 abbrev pub SaysTwo : (List ℕ → Option (List ℕ)) → List ℕ → List ℕ → (Outcome → Type 0) → Outcome → Type 0
 SaysTwo held first second says o = SaysFile First (held first) (SaysFile Second (held second) says) o
 
+abbrev pub SaysThree : Telling → (List ℕ → Option (List ℕ)) → List ℕ → List ℕ → List ℕ → Outcome → Type 0
+SaysThree telling held first second account o = SaysTwo held first second (SaysAccount telling held first second account) o
+
+abbrev pub wished_of : List ℕ → List ℕ → List ℕ → List ℕ → Wished
+wished_of first second account restored = record { first = first; second = second; account = account; restored = restored }
+
+named_restore : (words : List (List ℕ)) (wished : Wished) → AsksRestore words wished → AsksRestore words (wished_of wished.first wished.second wished.account wished.restored)
+named_restore words wished asks = record { form = asks.form; names = asks.names }
+
+-- the words ask for a check by an account, or for a netlist to be restored by one
+abbrev pub JudgeBy : List (List ℕ) → Telling → List ℕ → List ℕ → List ℕ → Type 0
+JudgeBy words telling first second account =
+    (AsksCheck words first second account × (telling ≡ accepted_as))
+    ⊎ ((restored : List ℕ) × AsksRestore words (wished_of first second account restored) × (telling ≡ restored_as))
+
 abbrev pub SaysCheck : (List ℕ → Option (List ℕ)) → List (List ℕ) → Outcome → Type 0
 SaysCheck held words o =
-    (first : List ℕ) × (second : List ℕ) × (account : List ℕ) × AsksCheck words first second account × SaysTwo held first second (SaysAccount held first second account) o
+    (telling : Telling) × (first : List ℕ) × (second : List ℕ) × (account : List ℕ) × JudgeBy words telling first second account × SaysThree telling held first second account o
 
 abbrev pub SaysMatch : (List ℕ → Option (List ℕ)) → List (List ℕ) → Outcome → Type 0
 SaysMatch held words o = (sought : Sought) × AsksMatch words sought × SaysTwo held sought.first sought.second IsOfMatch o
@@ -172,8 +197,8 @@ AreAlike a b = (a ≡ b) ⊎ (IsOfOne a × IsOfOne b) ⊎ (IsOfMatch a × IsOfMa
 graphs_same : (a b : Graphs) → a.first ≡ b.first → a.second ≡ b.second → a ≡ b
 graphs_same a b e f = λ i. record { first = e i; second = f i }
 
-account_one : (held : List ℕ → Option (List ℕ)) (first second account : List ℕ) (a b : Outcome) → SaysAccount held first second account a → SaysAccount held first second account b → a ≡ b
-account_one held first second account a b one other =
+account_one : (telling : Telling) (held : List ℕ → Option (List ℕ)) (first second account : List ℕ) (a b : Outcome) → SaysAccount telling held first second account a → SaysAccount telling held first second account b → a ≡ b
+account_one telling held first second account a b one other =
     elim one [
       | inl (e, none) ↦ elim other [
         | inl (e', none') ↦ e ∙ sym e'
@@ -184,7 +209,7 @@ account_one held first second account a b one other =
         | inr (graphs', f', g', bytes', there', answer') ↦
             let same = graphs_same graphs' graphs (graph_one (held first) graphs'.first graphs.first f' f) (graph_one (held second) graphs'.second graphs.second g' g) in
             let text : bytes' ≡ bytes = cc in
-            answer_one graphs bytes a b answer (subst (λ t. IsAnswer graphs t b) text (subst (λ two. IsAnswer two bytes' b) same answer'))
+            answer_one telling graphs bytes a b answer (subst (λ t. IsAnswer telling graphs t b) text (subst (λ two. IsAnswer telling two bytes' b) same answer'))
       ]
     ]
 
@@ -245,13 +270,54 @@ follows_nothing words nothing = record {
   read = λ e. cc;
 }
 
+-- the words name three files to be judged in one way
+abbrev AreSameJudged : Telling → List ℕ → List ℕ → List ℕ → Telling → List ℕ → List ℕ → List ℕ → Type 0
+AreSameJudged k f g t k' f' g' t' = (k' ≡ k) × (f' ≡ f) × (g' ≡ g) × (t' ≡ t)
+
+abbrev word_at : ℕ → List (List ℕ) → List ℕ
+word_at place words = get_or words place []
+
+judged_one : (words : List (List ℕ)) (k : Telling) (f g t : List ℕ) (k' : Telling) (f' g' t' : List ℕ) → JudgeBy words k f g t → JudgeBy words k' f' g' t' → AreSameJudged k f g t k' f' g' t'
+judged_one words k f g t k' f' g' t' one other =
+    elim one [
+      | inl (asks, is) ↦ elim other [
+        | inl (asks', is') ↦ let e = names_one words f g t f' g' t' asks asks' in (is' ∙ sym is, e.0, e.1, e.2)
+        | inr (r, asks', is') ↦ absurd (restore_or_check words (wished_of f' g' t' r) f g t asks' asks)
+      ]
+      | inr (r, asks, is) ↦ elim other [
+        | inl (asks', is') ↦ absurd (restore_or_check words (wished_of f g t r) f' g' t' asks asks')
+        | inr (r', asks', is') ↦ let same = sym asks'.form ∙ asks.form in (is' ∙ sym is, ap (word_at 1) same, ap (word_at 2) same, ap (word_at 3) same)
+      ]
+    ]
+
+judged_or_nothing : (words : List (List ℕ)) (k : Telling) (f g t : List ℕ) → JudgeBy words k f g t → AskNothing words → ⊥
+judged_or_nothing words k f g t judge nothing =
+    elim judge [
+      | inl (asks, is) ↦ nothing.no_check f g t asks
+      | inr (r, asks, is) ↦ nothing.no_restore (wished_of f g t r) asks
+    ]
+
+judged_or_match : (words : List (List ℕ)) (k : Telling) (f g t : List ℕ) (sought : Sought) → JudgeBy words k f g t → AsksMatch words sought → ⊥
+judged_or_match words k f g t sought judge asked =
+    elim judge [
+      | inl (asks, is) ↦ check_or_match words f g t sought asks asked
+      | inr (r, asks, is) ↦ restore_or_match words (wished_of f g t r) sought asks asked
+    ]
+
+judged_or_info : (words : List (List ℕ)) (k : Telling) (f g t file : List ℕ) (budget : ℕ) → JudgeBy words k f g t → AsksInfo words file budget → ⊥
+judged_or_info words k f g t file budget judge asked =
+    elim judge [
+      | inl (asks, is) ↦ check_or_info words f g t file budget asks asked
+      | inr (r, asks, is) ↦ restore_or_info words (wished_of f g t r) file budget asks asked
+    ]
+
 check_one : (held : List ℕ → Option (List ℕ)) (words : List (List ℕ)) (a b : Outcome) → SaysCheck held words a → SaysCheck held words b → a ≡ b
-check_one held words a b (f, g, t, asks, says) (f', g', t', asks', says') =
-    let e = names_one words f g t f' g' t' asks asks' in
-    let says'' : SaysTwo held f g (SaysAccount held f g t) b = subst (λ n. SaysTwo held n g (SaysAccount held n g t) b) e.0 (subst (λ n. SaysTwo held f' n (SaysAccount held f' n t) b) e.1 (subst (λ n. SaysTwo held f' g' (SaysAccount held f' g' n) b) e.2 says')) in
-    elim (two_one held f g (SaysAccount held f g t) a b says says'') [
+check_one held words a b (k, f, g, t, judge, says) (k', f', g', t', judge', says') =
+    let e = judged_one words k f g t k' f' g' t' judge judge' in
+    let says'' : SaysThree k held f g t b = subst (λ n. SaysThree n held f g t b) e.0 (subst (λ n. SaysThree k' held n g t b) e.1 (subst (λ n. SaysThree k' held f' n t b) e.2 (subst (λ n. SaysThree k' held f' g' n b) e.3 says'))) in
+    elim (two_one held f g (SaysAccount k held f g t) a b says says'') [
       | inl same ↦ same
-      | inr (one, other) ↦ account_one held f g t a b one other
+      | inr (one, other) ↦ account_one k held f g t a b one other
     ]
 
 match_one : (held : List ℕ → Option (List ℕ)) (words : List (List ℕ)) (a b : Outcome) → SaysMatch held words a → SaysMatch held words b → (a ≡ b) ⊎ (IsOfMatch a × IsOfMatch b)
@@ -269,25 +335,25 @@ says_one held words a b one other =
     elim one [
       | inl (e, nothing) ↦ elim other [
         | inl (e', nothing') ↦ inl (e ∙ sym e')
-        | inr (inl (f, g, t, asks, says)) ↦ absurd (nothing.no_check f g t asks)
+        | inr (inl (k, f, g, t, judge, says)) ↦ absurd (judged_or_nothing words k f g t judge nothing)
         | inr (inr (inl (sought, asks, says))) ↦ absurd (nothing.no_match sought asks)
         | inr (inr (inr (file, budget, asks, says))) ↦ absurd (nothing.no_info file budget asks)
       ]
-      | inr (inl (f, g, t, asks, says)) ↦ elim other [
-        | inl (e', nothing) ↦ absurd (nothing.no_check f g t asks)
-        | inr (inl other') ↦ inl (check_one held words a b (f, g, t, asks, says) other')
-        | inr (inr (inl (sought, asks', says'))) ↦ absurd (check_or_match words f g t sought asks asks')
-        | inr (inr (inr (file, budget, asks', says'))) ↦ absurd (check_or_info words f g t file budget asks asks')
+      | inr (inl (k, f, g, t, judge, says)) ↦ elim other [
+        | inl (e', nothing) ↦ absurd (judged_or_nothing words k f g t judge nothing)
+        | inr (inl other') ↦ inl (check_one held words a b (k, f, g, t, judge, says) other')
+        | inr (inr (inl (sought, asks', says'))) ↦ absurd (judged_or_match words k f g t sought judge asks')
+        | inr (inr (inr (file, budget, asks', says'))) ↦ absurd (judged_or_info words k f g t file budget judge asks')
       ]
       | inr (inr (inl (sought, asks, says))) ↦ elim other [
         | inl (e', nothing) ↦ absurd (nothing.no_match sought asks)
-        | inr (inl (f, g, t, asks', says')) ↦ absurd (check_or_match words f g t sought asks' asks)
+        | inr (inl (k, f, g, t, judge, says')) ↦ absurd (judged_or_match words k f g t sought judge asks)
         | inr (inr (inl other')) ↦ elim (match_one held words a b (sought, asks, says) other') [ inl same ↦ inl same | inr both ↦ inr (inr both) ]
         | inr (inr (inr (file, budget, asks', says'))) ↦ absurd (match_or_info words sought file budget asks asks')
       ]
       | inr (inr (inr (file, budget, asks, says))) ↦ elim other [
         | inl (e', nothing) ↦ absurd (nothing.no_info file budget asks)
-        | inr (inl (f, g, t, asks', says')) ↦ absurd (check_or_info words f g t file budget asks' asks)
+        | inr (inl (k, f, g, t, judge, says')) ↦ absurd (judged_or_info words k f g t file budget judge asks)
         | inr (inr (inl (sought, asks', says'))) ↦ absurd (match_or_info words sought file budget asks' asks)
         | inr (inr (inr other')) ↦ elim (info_one held words a b (file, budget, asks, says) other') [ inl same ↦ inl same | inr both ↦ inr (inl both) ]
       ]
@@ -304,25 +370,25 @@ says_early held words o decided early =
       | inl at ↦
           let end = end_of First (held at.first_name) o decided at.ends in
           elim at.asks [
-            | inl asks ↦ inr (inl (at.first_name, at.second_name, at.account_name, asks, inl end))
+            | inl asks ↦ inr (inl (accepted_as, at.first_name, at.second_name, at.account_name, inl (asks, refl), inl end))
             | inr (budget, seed, asks) ↦ inr (inr (inl (named at.first_name at.second_name at.account_name budget seed, asks, inl end)))
           ]
       | inr (inl at) ↦
           let end = end_of Second (held at.second_name) o decided at.ends in
           elim at.asks [
-            | inl asks ↦ inr (inl (at.first_name, at.second_name, at.account_name, asks, inr (at.first, at.first_held, inl end)))
+            | inl asks ↦ inr (inl (accepted_as, at.first_name, at.second_name, at.account_name, inl (asks, refl), inr (at.first, at.first_held, inl end)))
             | inr (budget, seed, asks) ↦ inr (inr (inl (named at.first_name at.second_name at.account_name budget seed, asks, inr (at.first, at.first_held, inl end))))
           ]
       | inr (inr at) ↦ inr (inr (inr (at.file_name, at.budget, at.asks, inl (end_of First (held at.file_name) o decided at.ends))))
     ]
 
-says_answer : (held : List ℕ → Option (List ℕ)) (words : List (List ℕ)) (graphs : Graphs) (bytes : List ℕ) (o : Outcome) → HasAccount held words graphs bytes → IsAnswer graphs bytes o → Says held words o
+says_answer : (held : List ℕ → Option (List ℕ)) (words : List (List ℕ)) (graphs : Graphs) (bytes : List ℕ) (o : Outcome) → HasAccount held words graphs bytes → IsAnswer accepted_as graphs bytes o → Says held words o
 says_answer held words graphs bytes o has answer =
-    inr (inl (has.first_name, has.second_name, has.account_name, has.asks, inr (has.first_held.netlist, has.first_held.holds, inr (has.second_held.netlist, has.second_held.holds, inr (graphs, has.first_held, has.second_held, bytes, has.there, answer)))))
+    inr (inl (accepted_as, has.first_name, has.second_name, has.account_name, inl (has.asks, refl), inr (has.first_held.netlist, has.first_held.holds, inr (has.second_held.netlist, has.second_held.holds, inr (graphs, has.first_held, has.second_held, bytes, has.there, answer)))))
 
 says_absent : (held : List ℕ → Option (List ℕ)) (words : List (List ℕ)) (which : Which) → which ≡ Account → LacksAccount held words → Says held words (Absent which)
 says_absent held words which e lacks =
-    inr (inl (lacks.asked.first_name, lacks.asked.second_name, lacks.account_name, lacks.asked.asks, inr (lacks.first, lacks.asked.first_held, inr (lacks.second, lacks.asked.second_held, inl (ap Absent e, lacks.absent)))))
+    inr (inl (accepted_as, lacks.asked.first_name, lacks.asked.second_name, lacks.account_name, inl (lacks.asked.asks, refl), inr (lacks.first, lacks.asked.first_held, inr (lacks.second, lacks.asked.second_held, inl (ap Absent e, lacks.absent)))))
 
 says_of : (held : List ℕ → Option (List ℕ)) (words : List (List ℕ)) (o : Outcome) → IsAskedOf held words → IsOfOne o → Says held words o
 says_of held words o asked one = inr (inr (inr (asked.file_name, asked.budget, asked.asks, inr (asked.netlist, asked.there, one))))
@@ -330,6 +396,63 @@ says_of held words o asked one = inr (inr (inr (asked.file_name, asked.budget, a
 says_match : (held : List ℕ → Option (List ℕ)) (words : List (List ℕ)) (first second : Netlist) (o : Outcome) → IsSought held words first second → IsOfMatch o → Says held words o
 says_match held words first second o is of_match =
     inr (inr (inl (is.sought, is.asks, inr (first, is.first_held, inr (second, is.second_held, of_match)))))
+
+-- what an account says of a check, but that there is a match, it says of a netlist that is to be restored
+
+answer_too : (graphs : Graphs) (bytes : List ℕ) (o : Outcome) → ((matching : Matching) → o ≢ AcceptedMatch matching) → (proved : Verdict) → o ≡ accepted_as graphs proved → Proves graphs bytes proved → IsAnswer restored_as graphs bytes o
+answer_too graphs bytes o other (verdict.Match matching) e proves = absurd (other matching e)
+answer_too graphs bytes o other verdict.None e proves = inl (verdict.None, e, proves)
+
+account_too : (held : List ℕ → Option (List ℕ)) (f g t : List ℕ) (o : Outcome) → ((matching : Matching) → o ≢ AcceptedMatch matching) → SaysAccount accepted_as held f g t o → SaysAccount restored_as held f g t o
+account_too held f g t o other says =
+    elim says [
+      | inl absent ↦ inl absent
+      | inr (graphs, first, second, bytes, there, inl (proved, e, proves)) ↦ inr (graphs, first, second, bytes, there, answer_too graphs bytes o other proved e proves)
+      | inr (graphs, first, second, bytes, there, inr bad) ↦ inr (graphs, first, second, bytes, there, inr bad)
+    ]
+
+three_too : (held : List ℕ → Option (List ℕ)) (f g t : List ℕ) (o : Outcome) → ((matching : Matching) → o ≢ AcceptedMatch matching) → SaysThree accepted_as held f g t o → SaysThree restored_as held f g t o
+three_too held f g t o other says =
+    elim says [
+      | inl end ↦ inl end
+      | inr (first, there, inl end) ↦ inr (first, there, inl end)
+      | inr (first, there, inr (second, also, account)) ↦ inr (first, there, inr (second, also, account_too held f g t o other account))
+    ]
+
+-- what the words of a check say, words that ask for a netlist to be restored say too
+says_restore : (held : List ℕ → Option (List ℕ)) (words : List (List ℕ)) (wished : Wished) (o : Outcome) → AsksRestore words wished → ((matching : Matching) → o ≢ AcceptedMatch matching) → Says held (check_words wished.first wished.second wished.account) o → Says held words o
+says_restore held words wished o asks other says =
+    let checked = check_words wished.first wished.second wished.account in
+    let check = check_of_restore words wished asks in
+    elim says [
+      | inl (e, nothing) ↦ absurd (nothing.no_check wished.first wished.second wished.account check)
+      | inr (inl (k, f, g, t, judge, fact)) ↦
+          let e = judged_one checked accepted_as wished.first wished.second wished.account k f g t (inl (check, refl)) judge in
+          let same : SaysThree accepted_as held wished.first wished.second wished.account o = subst (λ n. SaysThree n held wished.first wished.second wished.account o) e.0 (subst (λ n. SaysThree k held n wished.second wished.account o) e.1 (subst (λ n. SaysThree k held f n wished.account o) e.2 (subst (λ n. SaysThree k held f g n o) e.3 fact))) in
+          inr (inl (restored_as, wished.first, wished.second, wished.account, inr (wished.restored, named_restore words wished asks, refl), three_too held wished.first wished.second wished.account o other same))
+      | inr (inr (inl (sought, asks', fact))) ↦ absurd (check_or_match checked wished.first wished.second wished.account sought check asks')
+      | inr (inr (inr (file, budget, asks', fact))) ↦ absurd (check_or_info checked wished.first wished.second wished.account file budget check asks')
+    ]
+
+-- so what is right as checked is said
+says_checked : (held : List ℕ → Option (List ℕ)) (words : List (List ℕ)) (o : Outcome) (P : List (List ℕ) → Type 0) → ((checked : List (List ℕ)) → P checked → Says held checked o) → ((matching : Matching) → o ≢ AcceptedMatch matching) → AsChecked P words → Says held words o
+says_checked held words o P each other right =
+    elim right [
+      | inl is ↦ each words is
+      | inr (wished, asks, is) ↦ says_restore held words wished o asks other (each (check_words wished.first wished.second wished.account) is)
+    ]
+
+-- a netlist is restored by an account that a check accepts
+says_restored : (held : List ℕ → Option (List ℕ)) (words : List (List ℕ)) (gates : ℕ) → IsRestorable held words gates → Says held words (Restored gates)
+says_restored held words gates is =
+    let wished = is.wished in
+    let has = is.accepted.has in
+    let graphs = is.accepted.graphs in
+    let e = names_one (check_words wished.first wished.second wished.account) wished.first wished.second wished.account has.first_name has.second_name has.account_name (check_of_restore words wished is.asks) has.asks in
+    let first = subst (λ name. HoldsGraph (held name) graphs.first) e.0 has.first_held in
+    let second = subst (λ name. HoldsGraph (held name) graphs.second) e.1 has.second_held in
+    let there = subst (λ name. held name ≡ Some is.accepted.account) e.2 has.there in
+    inr (inl (restored_as, wished.first, wished.second, wished.account, inr (wished.restored, named_restore words wished is.asks, refl), inr (first.netlist, first.holds, inr (second.netlist, second.holds, inr (graphs, first, second, is.accepted.account, there, inl (verdict.Match is.matching, ap Restored is.gates_are, is.accepted.accepted))))))
 
 -- a budget is spent on a file that is a netlist, or on two
 asked_of_spent : (held : List ℕ → Option (List ℕ)) (words : List (List ℕ)) (ledger : Ledgered) → IsSpentOn held words ledger → IsAskedOf held words
@@ -351,8 +474,10 @@ sought_of_spent held words ledger spent = record {
 
 says : (held : List ℕ → Option (List ℕ)) (words : List (List ℕ)) (o : Outcome) → ReadFiles words → IsDecided o → IsRight held words o → Says held words o
 says held words (AcceptedMatch matching) reads decided right = says_answer held words right.graphs right.account (AcceptedMatch matching) right.has (inl (verdict.Match matching, refl, right.accepted))
-says held words AcceptedRefusal reads decided right = says_answer held words right.graphs right.account AcceptedRefusal right.has (inl (verdict.None, refl, right.accepted))
-says held words (Rejected line why) reads decided right = says_answer held words right.graphs right.account (Rejected line why) right.has (inr (line, why, refl, right.rejected))
+says held words AcceptedRefusal reads decided right =
+    says_checked held words AcceptedRefusal (λ checked. IsAccepted held checked verdict.None) (λ checked is. says_answer held checked is.graphs is.account AcceptedRefusal is.has (inl (verdict.None, refl, is.accepted))) (λ matching e. cc) right
+says held words (Rejected line why) reads decided right =
+    says_checked held words (Rejected line why) (λ checked. IsRejected held checked line why) (λ checked is. says_answer held checked is.graphs is.account (Rejected line why) is.has (inr (line, why, refl, is.rejected))) (λ matching e. cc) right
 says held words (Matched matching) reads decided right = says_match held words right.first right.second (Matched matching) right.files (inl (matching, refl))
 says held words NoMatching reads decided right = says_match held words right.first right.second NoMatching right.files (inr (inl refl))
 says held words (Spent ledger) reads decided right =
@@ -363,11 +488,15 @@ says held words (Spent ledger) reads decided right =
     ]
 says held words Informed reads decided right = says_of held words Informed right (inl refl)
 says held words Made reads decided right = absurd (read_or_make words reads right)
+says held words (Restored gates) reads decided right = says_restored held words gates right
 says held words (Tried number account) reads decided right = absurd (read_or_trial words number reads right.asks)
 says held words Usage reads decided right = inl (refl, right)
-says held words (Absent which) reads decided right = elim right [ inl early ↦ says_early held words (Absent which) decided early | inr (e, lacks) ↦ says_absent held words which e lacks ]
-says held words (TooLarge which) reads decided right = says_early held words (TooLarge which) decided right
-says held words (Malformed which kind at) reads decided right = says_early held words (Malformed which kind at) decided right
+says held words (Absent which) reads decided right =
+    says_checked held words (Absent which) (λ checked. IsAbsent held checked which) (λ checked is. elim is [ inl early ↦ says_early held checked (Absent which) decided early | inr (e, lacks) ↦ says_absent held checked which e lacks ]) (λ matching e. cc) right
+says held words (TooLarge which) reads decided right =
+    says_checked held words (TooLarge which) (λ checked. EndsEarly held checked (TooLarge which)) (λ checked is. says_early held checked (TooLarge which) decided is) (λ matching e. cc) right
+says held words (Malformed which kind at) reads decided right =
+    says_checked held words (Malformed which kind at) (λ checked. EndsEarly held checked (Malformed which kind at)) (λ checked is. says_early held checked (Malformed which kind at) decided is) (λ matching e. cc) right
 says held words ReadFault reads decided right = absurd (decided.read refl)
 says held words WriteFault reads decided right = absurd (decided.told.written refl)
 says held words Memory reads decided right = absurd (decided.told.room refl)
@@ -377,14 +506,26 @@ says held words Memory reads decided right = absurd (decided.told.room refl)
 -- what a check says is right
 right_of_check : (held : List ℕ → Option (List ℕ)) (words : List (List ℕ)) (o : Outcome) → IsOfCheck held words o → IsRight held words o
 right_of_check held words (AcceptedMatch matching) is = is
-right_of_check held words AcceptedRefusal is = is
-right_of_check held words (Rejected line why) is = is
-right_of_check held words (Absent which) is = is
-right_of_check held words (TooLarge which) is = is
-right_of_check held words (Malformed which kind at) is = is
+right_of_check held words AcceptedRefusal is = inl is
+right_of_check held words (Rejected line why) is = inl is
+right_of_check held words (Absent which) is = inl is
+right_of_check held words (TooLarge which) is = inl is
+right_of_check held words (Malformed which kind at) is = inl is
 right_of_check held words ReadFault is = tt
 right_of_check held words Memory is = tt
 right_of_check held words other is = absurd is
+
+-- and so is, for words that ask for a netlist to be restored, what a check by the first three names says, but that there is a match
+pub right_of_restore : (held : List ℕ → Option (List ℕ)) (words : List (List ℕ)) (wished : Wished) (o : Outcome) → AsksRestore words wished → ((matching : Matching) → o ≢ AcceptedMatch matching) → IsOfCheck held (check_words wished.first wished.second wished.account) o → IsRight held words o
+right_of_restore held words wished (AcceptedMatch matching) asks other is = absurd (other matching refl)
+right_of_restore held words wished AcceptedRefusal asks other is = inr (wished, asks, is)
+right_of_restore held words wished (Rejected line why) asks other is = inr (wished, asks, is)
+right_of_restore held words wished (Absent which) asks other is = inr (wished, asks, is)
+right_of_restore held words wished (TooLarge which) asks other is = inr (wished, asks, is)
+right_of_restore held words wished (Malformed which kind at) asks other is = inr (wished, asks, is)
+right_of_restore held words wished ReadFault asks other is = tt
+right_of_restore held words wished Memory asks other is = tt
+right_of_restore held words wished o asks other is = absurd is
 
 pub right_at_first : (held : List ℕ → Option (List ℕ)) (words : List (List ℕ)) (f g t : List ℕ) → NameThree words f g t → (o : Outcome) → EndsAt First (held f) o → IsRight held words o
 right_at_first held words f g t asks o ends = right_of_check held words o (at_first held words f g t asks o ends)
@@ -414,6 +555,7 @@ abbrev pub IsExact : Outcome → Type 0
 IsExact (AcceptedMatch matching) = Unit {0}
 IsExact AcceptedRefusal = Unit {0}
 IsExact (Rejected line why) = Unit {0}
+IsExact (Restored gates) = Unit {0}
 IsExact (Absent which) = Unit {0}
 IsExact (TooLarge which) = Unit {0}
 IsExact (Malformed which kind at) = Unit {0}
@@ -430,23 +572,28 @@ early_reads held words o early =
     elim early [
       | inl at ↦ inl (at.first_name, at.second_name, at.account_name, at.asks)
       | inr (inl at) ↦ inl (at.first_name, at.second_name, at.account_name, at.asks)
-      | inr (inr at) ↦ inr (at.file_name, at.budget, at.asks)
+      | inr (inr at) ↦ inr (inl (at.file_name, at.budget, at.asks))
     ]
 
 account_reads : (held : List ℕ → Option (List ℕ)) (words : List (List ℕ)) (graphs : Graphs) (account : List ℕ) → HasAccount held words graphs account → ReadFiles words
 account_reads held words graphs account has = inl (has.first_name, has.second_name, has.account_name, inl has.asks)
 
+-- words that ask for a netlist to be restored name files too
+checked_reads : (P : List (List ℕ) → Type 0) (words : List (List ℕ)) → (P words → ReadFiles words) → AsChecked P words → ReadFiles words
+checked_reads P words reads right = elim right [ inl is ↦ reads is | inr (wished, asks, is) ↦ inr (inr (wished, asks)) ]
+
 -- where such an outcome is right the words name files
 exact_reads : (held : List ℕ → Option (List ℕ)) (words : List (List ℕ)) (o : Outcome) → IsExact o → IsRight held words o → ReadFiles words
 exact_reads held words (AcceptedMatch matching) exact right = account_reads held words right.graphs right.account right.has
-exact_reads held words AcceptedRefusal exact right = account_reads held words right.graphs right.account right.has
-exact_reads held words (Rejected line why) exact right = account_reads held words right.graphs right.account right.has
-exact_reads held words (Absent which) exact right = elim right [
+exact_reads held words AcceptedRefusal exact right = checked_reads (λ checked. IsAccepted held checked verdict.None) words (λ is. account_reads held words is.graphs is.account is.has) right
+exact_reads held words (Rejected line why) exact right = checked_reads (λ checked. IsRejected held checked line why) words (λ is. account_reads held words is.graphs is.account is.has) right
+exact_reads held words (Restored gates) exact right = inr (inr (right.wished, right.asks))
+exact_reads held words (Absent which) exact right = checked_reads (λ checked. IsAbsent held checked which) words (λ is. elim is [
   | inl early ↦ early_reads held words (Absent which) early
   | inr (e, lacks) ↦ inl (lacks.asked.first_name, lacks.asked.second_name, lacks.account_name, inl lacks.asked.asks)
-]
-exact_reads held words (TooLarge which) exact right = early_reads held words (TooLarge which) right
-exact_reads held words (Malformed which kind at) exact right = early_reads held words (Malformed which kind at) right
+]) right
+exact_reads held words (TooLarge which) exact right = checked_reads (λ checked. EndsEarly held checked (TooLarge which)) words (λ is. early_reads held words (TooLarge which) is) right
+exact_reads held words (Malformed which kind at) exact right = checked_reads (λ checked. EndsEarly held checked (Malformed which kind at)) words (λ is. early_reads held words (Malformed which kind at) is) right
 exact_reads held words other exact right = absurd exact
 
 sought_reads : (held : List ℕ → Option (List ℕ)) (words : List (List ℕ)) (first second : Netlist) → IsSought held words first second → ReadFiles words
@@ -475,7 +622,7 @@ module _ (held : List ℕ → Option (List ℕ)) (words : List (List ℕ)) (aske
   pub exactly_informed : ((ledger : Ledgered) → answer ≢ Spent ledger) → (answer ≡ Informed) ↔ IsAskedOf held words
   exactly_informed unspent = (
     λ is. subst (IsRight held words) is stays_right,
-    λ asked. elim (says_one held words answer Informed (stays_said (inr (asked.file_name, asked.budget, asked.asks))) (says_of held words Informed asked (inl refl))) [
+    λ asked. elim (says_one held words answer Informed (stays_said (inr (inl (asked.file_name, asked.budget, asked.asks)))) (says_of held words Informed asked (inl refl))) [
       | inl same ↦ same
       | inr (inl both) ↦ elim both.0 [ inl same ↦ same | inr (ledger, same) ↦ absurd (unspent ledger same) ]
       | inr (inr both) ↦ absurd (informed_of_match both.1)
@@ -516,17 +663,18 @@ reached other is = record { read = λ e. cc; told = record { written = λ e. cc;
 pub told_read : IsTold ReadFault
 told_read = record { written = λ e. cc; room = λ e. cc }
 
--- where no file changes, each outcome that is neither of a match nor a pair leaves what it says
-pub leaves : (before after : List ℕ → Option (List ℕ)) (words : List (List ℕ)) (o : Outcome) → ((matching : Matching) → o ≢ Matched matching) → o ≢ NoMatching → o ≢ Made → ((n : List ℕ) → after n ≡ before n) → Leaves before after words o
-leaves before after words (Matched matching) unmatched no_match no_pair same = absurd (unmatched matching refl)
-leaves before after words NoMatching unmatched no_match no_pair same = absurd (no_match refl)
-leaves before after words Made unmatched no_match no_pair same = absurd (no_pair refl)
-leaves before after words WriteFault unmatched no_match no_pair same = inl same
-leaves before after words Memory unmatched no_match no_pair same = inl same
-leaves before after words other unmatched no_match no_pair same = same
+-- where no file changes, each outcome that is neither of a match nor a pair nor a netlist that is restored leaves what it says
+pub leaves : (before after : List ℕ → Option (List ℕ)) (words : List (List ℕ)) (o : Outcome) → ((matching : Matching) → o ≢ Matched matching) → o ≢ NoMatching → o ≢ Made → ((gates : ℕ) → o ≢ Restored gates) → ((n : List ℕ) → after n ≡ before n) → Leaves before after words o
+leaves before after words (Matched matching) unmatched no_match no_pair no_netlist same = absurd (unmatched matching refl)
+leaves before after words NoMatching unmatched no_match no_pair no_netlist same = absurd (no_match refl)
+leaves before after words Made unmatched no_match no_pair no_netlist same = absurd (no_pair refl)
+leaves before after words (Restored gates) unmatched no_match no_pair no_netlist same = absurd (no_netlist gates refl)
+leaves before after words WriteFault unmatched no_match no_pair no_netlist same = inl same
+leaves before after words Memory unmatched no_match no_pair no_netlist same = inl same
+leaves before after words other unmatched no_match no_pair no_netlist same = same
 
 pub leaves_early : (before after : List ℕ → Option (List ℕ)) (words : List (List ℕ)) (o : Outcome) → IsEarly o → ((n : List ℕ) → after n ≡ before n) → Leaves before after words o
-leaves_early before after words o early same = leaves before after words o (λ matching e. early.line.unmatched matching (inr e)) early.no_match early.no_pair same
+leaves_early before after words o early same = leaves before after words o (λ matching e. early.line.unmatched matching (inr e)) early.no_match early.no_pair early.no_netlist same
 
 -- the files were read up to an outcome that ends the run
 pub stopped : (tells : Bool) (command : Command) (old new : ShelfState) (result : Result Ending Outcome) (o : Outcome) → IsReadingCommand command → result ≡ Err o → ((n : List ℕ) → new.held n ≡ old.held n) → (IsTrue tells → (words : List (List ℕ)) → Ask words command → IsRight old.held words o) → IsOfReading o → NoCallFollows old new → (o ≡ ReadFault → Rose old.faults new.faults) → Decides tells command old new result
@@ -548,6 +696,10 @@ stopped tells command old new result o reader same files right reading last fail
 pub report_of_same : (tells : Bool) (held : List ℕ → Option (List ℕ)) (words : List (List ℕ)) (told asked : Outcome) (text : List ℕ) → told ≡ asked → IsReport tells held words asked text → IsReport tells held words told text
 report_of_same tells held words told asked text same report = subst (λ o. IsReport tells held words o text) (sym same) report
 
+-- what is sound of a check is sound
+pub sound_answer : (held : List ℕ → Option (List ℕ)) (words : List (List ℕ)) (o : Outcome) → IsSound held words o → IsSoundAnswer held words o
+sound_answer held words o sound = record { matches = sound.matches; refuses = λ e. inl (sound.refuses e) }
+
 -- a check decides what its words ask for
 pub check_decides : (tells : Bool) (command : Command) (check : CheckWords) (old new : ShelfState) (result : Result Ending Outcome) → command ≡ asked_check check → Checks tells check old new result → Decides tells command old new result
 check_decides tells command check old new result is checks =
@@ -556,10 +708,10 @@ check_decides tells command check old new result is checks =
     decides : (result : Result Ending Outcome) → Checks tells check old new result → Decides tells (asked_check check) old new result
     decides (Ok ending) checks = record {
       files = λ t n other. checks.files n;
-      left = λ t words asks. leaves old.held new.held words ending.outcome checks.judged.unmatched checks.judged.no_match checks.judged.no_pair checks.files;
+      left = λ t words asks. leaves old.held new.held words ending.outcome checks.judged.unmatched checks.judged.no_match checks.judged.no_pair checks.judged.no_netlist checks.files;
       right = λ t words asks. right_of_check old.held words ending.outcome (checks.right t words asks);
       by_words = λ words asks. follows_files words ending.outcome (reads_of words (asked_check check) tt asks) checks.judged.no_pair checks.judged.no_trial;
-      sound = checks.sound;
+      sound = λ t words asks. sound_answer old.held words ending.outcome (checks.sound t words asks);
       report = λ words asks.
           let report = checks.report words asks in
           inr (inl (record {

@@ -1,10 +1,10 @@
 -- Words have one form, and one reading in it.
 use Rattle.std.proofs.Common.{◌≡◌, ℕ, ◌⊎◌, inl, inr, List, [], length, get_or, refl, sym, ◌∙◌, ap, arith}
-use Rattle.check_steps.specs.Words.{AskForPair, AsksCheck, AsksInfo, AsksMatch, AsksTrial, AskNothing, ReadFiles, Sought, check_words}
-use Rattle.check_steps.specs.Asks.{Ask, sought_by, wanted_by}
+use Rattle.check_steps.specs.Words.{AskForPair, AsksCheck, AsksInfo, AsksMatch, AsksRestore, AsksTrial, AskNothing, ReadFiles, Sought, Wished, check_words}
+use Rattle.check_steps.specs.Asks.{Ask, sought_by, wanted_by, wished_by}
 use Rattle.run_steps.specs.Commands.{IsReadingCommand, IsTrialCommand}
 use Rattle.check_steps.specs.declared.words.Command.{Command}
-use Rattle.check_steps.specs.declared.words.Command.TheVariants.{Check, Match, Info, Make, Trial}
+use Rattle.check_steps.specs.declared.words.Command.TheVariants.{Check, Restore, Match, Info, Make, Trial}
 
 pub names_one : (words : List (List ℕ)) (f g t f' g' t' : List ℕ) → AsksCheck words f g t → AsksCheck words f' g' t' → (f' ≡ f) × (g' ≡ g) × (t' ≡ t)
 names_one words f g t f' g' t' one other = let e = one.form in let e' = other.form in (cc, cc, cc)
@@ -48,20 +48,37 @@ check_or_match words f g t sought check asks =
     let is : 99 ≡ 109 = sym (ap letter check.form) ∙ ap letter asks.form in
     omega (arith, is)
 
+pub restore_or_check : (words : List (List ℕ)) (wished : Wished) (f g t : List ℕ) → AsksRestore words wished → AsksCheck words f g t → ⊥
+restore_or_check words wished f g t restore check = omega (arith, ap length restore.form, ap length check.form)
+
+pub restore_or_info : (words : List (List ℕ)) (wished : Wished) (file : List ℕ) (budget : ℕ) → AsksRestore words wished → AsksInfo words file budget → ⊥
+restore_or_info words wished file budget restore info =
+    elim info.form [
+      | inl (form, is) ↦ omega (arith, ap length restore.form, ap length form)
+      | inr (word, form, is) ↦ omega (arith, ap length restore.form, ap length form)
+    ]
+
+pub restore_or_match : (words : List (List ℕ)) (wished : Wished) (sought : Sought) → AsksRestore words wished → AsksMatch words sought → ⊥
+restore_or_match words wished sought restore asks =
+    let letter = λ (words : List (List ℕ)). get_or (get_or words 0 []) 0 0 in
+    let is : 114 ≡ 109 = sym (ap letter restore.form) ∙ ap letter asks.form in
+    omega (arith, is)
+
 -- words that ask for a pair or for a trial name no file that is read: each form has another third letter
 
 abbrev third : List (List ℕ) → ℕ
 third words = get_or (get_or words 0 []) 2 0
 
-third_of_read : (words : List (List ℕ)) → ReadFiles words → (third words ≡ 101) ⊎ (third words ≡ 116) ⊎ (third words ≡ 102)
+third_of_read : (words : List (List ℕ)) → ReadFiles words → (third words ≡ 101) ⊎ (third words ≡ 116) ⊎ (third words ≡ 102) ⊎ (third words ≡ 115)
 third_of_read words reads =
     elim reads [
       | inl (first, second, account, inl asks) ↦ inl (ap third asks.form)
       | inl (first, second, account, inr (budget, seed, asks)) ↦ inr (inl (ap third asks.form))
-      | inr (file, budget, asks) ↦ elim asks.form [
-        | inl (form, is) ↦ inr (inr (ap third form))
-        | inr (word, form, is) ↦ inr (inr (ap third form))
+      | inr (inl (file, budget, asks)) ↦ elim asks.form [
+        | inl (form, is) ↦ inr (inr (inl (ap third form)))
+        | inr (word, form, is) ↦ inr (inr (inl (ap third form)))
       ]
+      | inr (inr (wished, asks)) ↦ inr (inr (inr (ap third asks.form)))
     ]
 
 pub read_or_make : (words : List (List ℕ)) → ReadFiles words → AskForPair words → ⊥
@@ -70,7 +87,8 @@ read_or_make words reads (wanted, make) =
     elim (third_of_read words reads) [
       | inl e ↦ omega (arith, e, is)
       | inr (inl e) ↦ omega (arith, e, is)
-      | inr (inr e) ↦ omega (arith, e, is)
+      | inr (inr (inl e)) ↦ omega (arith, e, is)
+      | inr (inr (inr e)) ↦ omega (arith, e, is)
     ]
 
 pub read_or_trial : (words : List (List ℕ)) (number : ℕ) → ReadFiles words → AsksTrial words number → ⊥
@@ -79,7 +97,8 @@ read_or_trial words number reads trial =
     elim (third_of_read words reads) [
       | inl e ↦ omega (arith, e, is)
       | inr (inl e) ↦ omega (arith, e, is)
-      | inr (inr e) ↦ omega (arith, e, is)
+      | inr (inr (inl e)) ↦ omega (arith, e, is)
+      | inr (inr (inr e)) ↦ omega (arith, e, is)
     ]
 
 pub make_or_trial : (words : List (List ℕ)) (number : ℕ) → AskForPair words → AsksTrial words number → ⊥
@@ -91,7 +110,8 @@ make_or_trial words number (wanted, make) trial =
 pub reads_of : (words : List (List ℕ)) (command : Command) → IsReadingCommand command → Ask words command → ReadFiles words
 reads_of words (Check check) is asks = inl (check.first.now, check.second.now, check.account.now, inl asks)
 reads_of words (Match sought) is asks = inl (sought.first.now, sought.second.now, sought.account.now, inr (sought.budget, sought.seed, asks))
-reads_of words (Info info) is asks = inr (info.file.now, info.budget, asks)
+reads_of words (Info info) is asks = inr (inl (info.file.now, info.budget, asks))
+reads_of words (Restore asked) is asks = inr (inr (wished_by asked, asks))
 reads_of words (Make asked) is asks = absurd is
 reads_of words (Trial trial) is asks = absurd is
 
@@ -99,6 +119,7 @@ reads_of words (Trial trial) is asks = absurd is
 pub trial_command : (words : List (List ℕ)) (command : Command) (number : ℕ) → Ask words command → AsksTrial words number → IsTrialCommand command
 trial_command words (Check check) number asks trial = absurd (read_or_trial words number (reads_of words (Check check) tt asks) trial)
 trial_command words (Match sought) number asks trial = absurd (read_or_trial words number (reads_of words (Match sought) tt asks) trial)
+trial_command words (Restore asked) number asks trial = absurd (read_or_trial words number (reads_of words (Restore asked) tt asks) trial)
 trial_command words (Info info) number asks trial = absurd (read_or_trial words number (reads_of words (Info info) tt asks) trial)
 trial_command words (Make asked) number asks trial = absurd (make_or_trial words number (wanted_by asked, asks) trial)
 trial_command words (Trial tried) number asks trial = tt
@@ -106,6 +127,7 @@ trial_command words (Trial tried) number asks trial = tt
 -- words that ask for a command are of a known form
 pub known_form : (words : List (List ℕ)) (command : Command) → Ask words command → AskNothing words → ⊥
 known_form words (Check check) asks nothing = nothing.no_check check.first.now check.second.now check.account.now asks
+known_form words (Restore asked) asks nothing = nothing.no_restore (wished_by asked) asks
 known_form words (Match sought) asks nothing = nothing.no_match (sought_by sought) asks
 known_form words (Info info) asks nothing = nothing.no_info info.file.now info.budget asks
 known_form words (Make asked) asks nothing = nothing.no_make (wanted_by asked) asks
@@ -114,6 +136,15 @@ known_form words (Trial trial) asks nothing = nothing.no_trial trial.number asks
 -- the words of the check of what a match named
 pub check_of : (words : List (List ℕ)) (sought : Sought) → AsksMatch words sought → AsksCheck (check_words sought.first sought.second sought.account) sought.first sought.second sought.account
 check_of words sought asks = record {
+  form = refl;
+  first_named = asks.names.first_named;
+  second_named = asks.names.second_named;
+  account_named = asks.names.account_named;
+}
+
+-- and of what names a netlist to be restored
+pub check_of_restore : (words : List (List ℕ)) (wished : Wished) → AsksRestore words wished → AsksCheck (check_words wished.first wished.second wished.account) wished.first wished.second wished.account
+check_of_restore words wished asks = record {
   form = refl;
   first_named = asks.names.first_named;
   second_named = asks.names.second_named;

@@ -5,8 +5,7 @@ use Rattle.net_file.specs.declared.named.Named.{Named}
 use Rattle.shelf_core.specs.State.{ShelfState}
 use Rattle.check_steps.specs.Held.{HoldsGraph}
 use Rattle.shelf_core.proofs.FaultLemmas.{none_failed}
-use Rattle.run_steps.specs.Outcomes.{FollowsWords, IsRight, Leaves}
-use Rattle.check_steps.specs.Checks.{IsSound}
+use Rattle.run_steps.specs.Outcomes.{FollowsWords, IsRight, IsSoundAnswer, Leaves}
 use Rattle.run_steps.proofs.CheckLemmas.{follows_files, stopped}
 use Rattle.run_steps.proofs.OutcomeLemmas.{no_fault, of_stop, stop_line}
 use Rattle.run_steps.specs.Info.{with_itself}
@@ -45,8 +44,8 @@ informs tells info old new named (Ok ending) files clean read is =
         netlist = netlist_of read.circuit named;
         there = read.held t;
       });
-      by_words = λ words asks. subst (FollowsWords words) (sym rows.0) (follows_files words Informed (inr (info.file.now, info.budget, asks)) (λ e. cc) (λ number account e. cc));
-      sound = λ t words asks. subst (IsSound old.held words) (sym rows.0) (record { matches = λ matching e. cc; refuses = λ e. cc });
+      by_words = λ words asks. subst (FollowsWords words) (sym rows.0) (follows_files words Informed (inr (inl (info.file.now, info.budget, asks))) (λ e. cc) (λ number account e. cc));
+      sound = λ t words asks. subst (IsSoundAnswer old.held words) (sym rows.0) (record { matches = λ matching e. cc; refuses = λ e. cc });
       report = λ words asks. inr (inr (
         rows.0,
         record {

@@ -8,8 +8,7 @@ use Rattle.net_print.specs.BlifLines.{blif_text}
 use Rattle.net_print.specs.Files.{aig_text}
 use Rattle.run_steps.specs.Writing.{WritesFile}
 use Rattle.run_steps.specs.Make.{HoldsPair, HoldsPartOfPair, IsDrawn}
-use Rattle.run_steps.specs.Outcomes.{FollowsWords, IsRight, Leaves, MayBeCut}
-use Rattle.check_steps.specs.Checks.{IsSound}
+use Rattle.run_steps.specs.Outcomes.{FollowsWords, IsRight, IsSoundAnswer, Leaves, MayBeCut}
 use Rattle.check_steps.specs.Lines.{IsOneLine, line_of}
 use Rattle.run_steps.specs.Steps.{Decides, IsEnding, IsUnwritten, WritesPair, WritesText}
 use Rattle.run_steps.specs.Commands.{asked_make}
@@ -131,7 +130,7 @@ module _ (tells : Bool) (asked : MakeWords) (pair : GenPair) (drawn : IsDrawn as
 
   left_unwritten : (words : List (List ℕ)) → AsksMake words (wanted_by asked) → (o : Outcome) → WritesPair tells asked.first.now asked.second.now (aig_text pair.first) (blif_text pair.second.graph) old new (Err o) → IsTrue tells → Leaves old.held new.held words o
   left_unwritten words asks o writes t =
-      let part : MayBeCut old.held new.held words = inr (inr (cut words asks o writes t)) in
+      let part : MayBeCut old.held new.held words = inr (inr (inl (cut words asks o writes t))) in
       of_unwritten (Leaves old.held new.held words) o writes.stopped part part
 
   pub pair_made : (ending : Ending) → ending.outcome ≡ Made → ending.report.items ≡ line_of Made → WritesPair tells asked.first.now asked.second.now (aig_text pair.first) (blif_text pair.second.graph) old new (Ok tt) → Decides tells (asked_make asked) old new (Ok ending)
@@ -140,7 +139,7 @@ module _ (tells : Bool) (asked : MakeWords) (pair : GenPair) (drawn : IsDrawn as
     left = λ t words asks. subst (Leaves old.held new.held words) (sym is) (holds words asks (writes.whole t asks.names.apart).0 (writes.whole t asks.names.apart).1);
     right = λ t words asks. subst (IsRight old.held words) (sym is) (wanted_by asked, asks);
     by_words = λ words asks. subst (FollowsWords words) (sym is) (follows_made words asked asks);
-    sound = λ t words asks. subst (IsSound old.held words) (sym is) (record { matches = λ matching e. cc; refuses = λ e. cc });
+    sound = λ t words asks. subst (IsSoundAnswer old.held words) (sym is) (record { matches = λ matching e. cc; refuses = λ e. cc });
     report = λ words asks. inl (
       subst IsOneLine (sym is) (record { unmatched = λ matching has. elim has [ inl e ↦ cc | inr e ↦ cc ]; no_rows = λ e. cc }),
       report ∙ ap line_of (sym is),

@@ -14,9 +14,9 @@ use Rattle.account_check.specs.declared.verdict.Verdict.TheVariants as verdict
 use Rattle.check_steps.specs.Held.{HoldsGraph}
 use Rattle.run_steps.specs.Match.{HoldsPart, IsProved, IsSought, NamesAccount}
 use Rattle.run_steps.specs.Make.{HoldsPair, HoldsPartOfPair, NamesPair, WriteFiles}
-use Rattle.run_steps.specs.Outcomes.{FollowsWords, IsRight, Leaves, LeavesFiles, MayBeCut}
-use Rattle.check_steps.specs.Checks.{IsSound}
-use Rattle.check_steps.specs.Asks.{Ask, sought_by, wanted_by}
+use Rattle.run_steps.specs.Restore.{HoldsPartOfRestored, HoldsRestored, NamesRestored}
+use Rattle.run_steps.specs.Outcomes.{FollowsWords, IsRight, IsSoundAnswer, Leaves, LeavesFiles, MayBeCut}
+use Rattle.check_steps.specs.Asks.{Ask, sought_by, wanted_by, wished_by}
 use Rattle.run_steps.specs.Commands.{IsWritingCommand, IsNotWritten, asked_match}
 use Rattle.run_steps.specs.Steps.{Decides, Finds, IsAnswered, IsCutOf, IsEnding, IsStopOfMatch, IsStopWithin}
 use Rattle.check_steps.specs.Reading.{IsEarly, IsReadFrom, netlist_of}
@@ -24,10 +24,10 @@ use Rattle.check_steps.specs.Judged.{graphs_of}
 use Rattle.check_steps.specs.Words.{AsksMatch, ReadFiles, check_words}
 use Rattle.check_steps.specs.declared.words.Match.{Match as MatchWords}
 use Rattle.check_steps.specs.declared.words.Command.{Command}
-use Rattle.check_steps.specs.declared.words.Command.TheVariants.{Match, Make}
+use Rattle.check_steps.specs.declared.words.Command.TheVariants.{Restore, Match, Make}
 use Rattle.check_steps.specs.declared.outcome.Ending.{Ending}
 use Rattle.check_steps.specs.declared.outcome.Outcome.{Outcome}
-use Rattle.check_steps.specs.declared.outcome.Outcome.TheVariants.{Matched, NoMatching, Informed, Made, ReadFault, WriteFault, Memory}
+use Rattle.check_steps.specs.declared.outcome.Outcome.TheVariants.{Matched, NoMatching, Informed, Made, Restored, ReadFault, WriteFault, Memory}
 use Rattle.run_steps.proofs.CheckLemmas.{follows_files, follows_unwritten, leaves_early}
 use Rattle.run_steps.proofs.PartLemmas.{whole_by_end}
 use Rattle.run_steps.proofs.OutcomeLemmas.{early_unwritten, no_fault, of_answer, of_stop, of_unwritten, stop_line}
@@ -55,6 +55,22 @@ part_of held words proved is =
       unfinished = λ lines last. take_all (length account) account (omega arith);
     }
 
+-- a whole netlist is its first part
+part_of_restored : (before after : List ℕ → Option (List ℕ)) (words : List (List ℕ)) (gates : ℕ) → HoldsRestored before after words gates → HoldsPartOfRestored before after words
+part_of_restored before after words gates is = record {
+  wished = is.wished;
+  asks = is.asks;
+  first = is.first;
+  second = is.second;
+  first_held = is.first_held;
+  second_held = is.second_held;
+  gates = gates;
+  bytes = is.bytes;
+  restored = is.restored;
+  count = length is.bytes;
+  part = is.there ∙ ap Some (sym (take_all (length is.bytes) is.bytes (omega arith)));
+}
+
 -- a whole pair is its first part
 part_of_pair : (before after : List ℕ → Option (List ℕ)) (words : List (List ℕ)) → HoldsPair after words → HoldsPartOfPair before after words
 part_of_pair before after words is =
@@ -70,7 +86,8 @@ part_of_pair before after words is =
 pub may_be_cut : (before after : List ℕ → Option (List ℕ)) (words : List (List ℕ)) (o : Outcome) → Leaves before after words o → MayBeCut before after words
 may_be_cut before after words (Matched matching) left = inr (inl (part_of after words (verdict.Match matching) left))
 may_be_cut before after words NoMatching left = inr (inl (part_of after words verdict.None left))
-may_be_cut before after words Made left = inr (inr (part_of_pair before after words left))
+may_be_cut before after words Made left = inr (inr (inl (part_of_pair before after words left)))
+may_be_cut before after words (Restored gates) left = inr (inr (inr (part_of_restored before after words gates left)))
 may_be_cut before after words WriteFault left = left
 may_be_cut before after words Memory left = left
 may_be_cut before after words other left = inl left
@@ -79,23 +96,26 @@ pub kept : (before after : List ℕ → Option (List ℕ)) (words : List (List �
 kept before after words (Matched matching) none left = absurd (none.unmatched matching refl)
 kept before after words NoMatching none left = absurd (none.no_refusal refl)
 kept before after words Made none left = absurd (none.no_pair refl)
+kept before after words (Restored gates) none left = absurd (none.no_netlist gates refl)
 kept before after words WriteFault none left = absurd (none.told.written refl)
 kept before after words Memory none left = absurd (none.told.room refl)
 kept before after words other none left = left
 
--- a name that is neither the account of a match nor a file of a pair isn't written
-pub not_written : (words : List (List ℕ)) (command : Command) (name : List ℕ) → Ask words command → (NamesAccount words name → ⊥) → (NamesPair words name → ⊥) → IsNotWritten command name
-not_written words (Match asked) name asks other apart = λ same. other (sought_by asked, asks, same)
-not_written words (Make asked) name asks other apart = (λ same. apart (wanted_by asked, asks, inl same), λ same. apart (wanted_by asked, asks, inr same))
-not_written words other name asks apart apart_pair = tt
+-- a name that is neither the account of a match nor a file of a pair nor a netlist's that is restored isn't written
+pub not_written : (words : List (List ℕ)) (command : Command) (name : List ℕ) → Ask words command → (NamesAccount words name → ⊥) → (NamesPair words name → ⊥) → (NamesRestored words name → ⊥) → IsNotWritten command name
+not_written words (Match asked) name asks other apart unrestored = λ same. other (sought_by asked, asks, same)
+not_written words (Make asked) name asks other apart unrestored = (λ same. apart (wanted_by asked, asks, inl same), λ same. apart (wanted_by asked, asks, inr same))
+not_written words (Restore asked) name asks other apart unrestored = λ same. unrestored (wished_by asked, asks, same)
+not_written words other name asks apart apart_pair unrestored = tt
 
 pub writes_of : (words : List (List ℕ)) (command : Command) → Ask words command → IsWritingCommand command → WriteFiles words
 writes_of words (Match asked) asks is = inl (sought_by asked, asks)
-writes_of words (Make asked) asks is = inr (wanted_by asked, asks)
+writes_of words (Make asked) asks is = inr (inl (wanted_by asked, asks))
+writes_of words (Restore asked) asks is = inr (inr (wished_by asked, asks))
 writes_of words other asks is = absurd is
 
 -- where one name holds what it held, and so do all others, nothing changed
-everywhere : (before after : List ℕ → Option (List ℕ)) (name : List ℕ) → ((n : List ℕ) → n ≢ name → after n ≡ before n) → after name ≡ before name → (n : List ℕ) (same : Bool) → bytes_eq n name ≡ same → after n ≡ before n
+pub everywhere : (before after : List ℕ → Option (List ℕ)) (name : List ℕ) → ((n : List ℕ) → n ≢ name → after n ≡ before n) → after name ≡ before name → (n : List ℕ) (same : Bool) → bytes_eq n name ≡ same → after n ≡ before n
 everywhere before after name others here n true is = let e = (bytes_eq-Decides n name).0 is in ap after e ∙ (here ∙ ap before (sym e))
 everywhere before after name others here n false is = others n (λ e. false≢true (sym is ∙ (bytes_eq-Decides n name).1 e))
 
@@ -248,7 +268,7 @@ module _ (tells : Bool) (asked : MatchWords) (old new : ShelfState) (first secon
         left = settles.left;
         right = settles.right;
         by_words = settles.by_words;
-        sound = λ t words asks. of_answer (IsSound old.held words) graphs account ending.outcome answer (λ matching proves matches. record { matches = λ other e. cc; refuses = λ e. cc }) (λ proves unequal. record { matches = λ other e. cc; refuses = λ e. cc });
+        sound = λ t words asks. of_answer (IsSoundAnswer old.held words) graphs account ending.outcome answer (λ matching proves matches. record { matches = λ other e. cc; refuses = λ e. cc }) (λ proves unequal. record { matches = λ other e. cc; refuses = λ e. cc });
         report = λ words asks. inr (inl (record {
           first = netlist_of first_read.circuit first;
           second = netlist_of second_read.circuit second;

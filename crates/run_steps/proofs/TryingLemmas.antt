@@ -21,8 +21,7 @@ use Rattle.shelf_core.proofs.FaultLemmas.{none_failed}
 use Rattle.check_steps.specs.Lines.{line_of, IsOneLine}
 use Rattle.check_steps.specs.Words.{default_budget, AsksTrial}
 use Rattle.run_steps.specs.Commands.{asked_trial}
-use Rattle.check_steps.specs.Checks.{IsSound}
-use Rattle.run_steps.specs.Outcomes.{FollowsWords, IsRight, Leaves}
+use Rattle.run_steps.specs.Outcomes.{FollowsWords, IsRight, IsSoundAnswer, Leaves}
 use Rattle.run_steps.specs.Steps.{Decides, IsAnswered, IsEnding, IsProvedMatch, IsStopOfTrial, IsStopWithin, Tries}
 use Rattle.run_steps.specs.Trial.{IsSpentOnPairOf, IsTrialOf}
 use Rattle.check_steps.specs.declared.words.Trial.{Trial as TrialWords}
@@ -156,7 +155,7 @@ tries_decides tells trial state (Ok ending) tries =
       left = λ t words asks. subst (Leaves state.held state.held words) (sym is) (λ name. refl);
       right = λ t words asks. subst (IsRight state.held words) (sym is) (record { asks = asks; trial = right });
       by_words = λ words asks. subst (FollowsWords words) (sym is) (follows_tried state.held words trial.number account asks right);
-      sound = λ t words asks. subst (IsSound state.held words) (sym is) (record { matches = λ matching e. absurd (cc e); refuses = λ e. absurd (cc e) });
+      sound = λ t words asks. subst (IsSoundAnswer state.held words) (sym is) (record { matches = λ matching e. absurd (cc e); refuses = λ e. absurd (cc e) });
       report = λ words asks. inl (subst IsOneLine (sym is) (record { unmatched = λ matching e. elim e [ inl f ↦ absurd (cc f) | inr f ↦ absurd (cc f) ]; no_rows = λ e. cc }), tries.answer.3);
       ending = subst IsEnding (sym is) (record { asked = λ e. cc; read = λ e. cc; unwritten = λ e. cc });
       early = tt;

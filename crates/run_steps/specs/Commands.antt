@@ -4,12 +4,16 @@ use Rattle.check_steps.specs.declared.words.Check.{Check as CheckWords}
 use Rattle.check_steps.specs.declared.words.Info.{Info as InfoWords}
 use Rattle.check_steps.specs.declared.words.Match.{Match as MatchWords}
 use Rattle.check_steps.specs.declared.words.Make.{Make as MakeWords}
+use Rattle.check_steps.specs.declared.words.Restore.{Restore as RestoreWords}
 use Rattle.check_steps.specs.declared.words.Trial.{Trial as TrialWords}
 use Rattle.check_steps.specs.declared.words.Command.{Command}
-use Rattle.check_steps.specs.declared.words.Command.TheVariants.{Check, Match, Info, Make, Trial}
+use Rattle.check_steps.specs.declared.words.Command.TheVariants.{Check, Restore, Match, Info, Make, Trial}
 
 abbrev pub asked_check : CheckWords → Command
 asked_check check = Check check
+
+abbrev pub asked_restore : RestoreWords → Command
+asked_restore restore_words = Restore restore_words
 
 abbrev pub asked_match : MatchWords → Command
 asked_match match_words = Match match_words
@@ -25,12 +29,14 @@ asked_trial trial = Trial trial
 
 -- a command writes no file of this name
 abbrev pub IsNotWritten : Command → List ℕ → Type 0
+IsNotWritten (Restore restore_words) name = name ≢ restore_words.restored.now
 IsNotWritten (Match match_words) name = name ≢ match_words.account.now
 IsNotWritten (Make make_words) name = (name ≢ make_words.first.now) × (name ≢ make_words.second.now)
 IsNotWritten other name = Unit {0}
 
 -- a command writes a file
 abbrev pub IsWritingCommand : Command → Type 0
+IsWritingCommand (Restore restore_words) = Unit {0}
 IsWritingCommand (Match match_words) = Unit {0}
 IsWritingCommand (Make make_words) = Unit {0}
 IsWritingCommand other = ⊥
@@ -38,6 +44,7 @@ IsWritingCommand other = ⊥
 -- a command reads files
 abbrev pub IsReadingCommand : Command → Type 0
 IsReadingCommand (Check check) = Unit {0}
+IsReadingCommand (Restore restore_words) = Unit {0}
 IsReadingCommand (Match match_words) = Unit {0}
 IsReadingCommand (Info info) = Unit {0}
 IsReadingCommand (Make make_words) = ⊥

@@ -4,12 +4,14 @@ pub mod Make
 pub mod Match
 pub mod Outcomes
 pub mod Report
+pub mod Restore
 pub mod Steps
 pub mod Stops
 pub mod Trial
 pub mod Writing
 pub use Rattle.account_check.specs.Verdicts
 pub use Rattle.account_write.specs.Records
+pub use Rattle.aiger_reader.specs.Aiger
 pub use Rattle.check_steps.specs.Asks
 pub use Rattle.check_steps.specs.Check
 pub use Rattle.check_steps.specs.Checks
@@ -25,7 +27,9 @@ pub use Rattle.gen_pair.specs.Pairs
 pub use Rattle.net_print.specs.BlifLines
 pub use Rattle.net_print.specs.Files as PrintedFiles
 pub use Rattle.oracle_core.specs.Work
+pub use Rattle.port_moves.specs.Restored
 pub use Rattle.port_report.specs.Infos
 pub use Rattle.port_report.specs.Reports
+pub use Rattle.print_laws.specs.Printable
 pub use Rattle.query_core.specs.Ledgers
 pub use Rattle.work_bound.specs.Enough

@@ -10,7 +10,7 @@ use Rattle.gen_pair.specs.Pairs.{ArePairOf, HasSizes}
 use Rattle.net_print.specs.BlifLines.{blif_text}
 use Rattle.net_print.specs.Files.{aig_text}
 use Rattle.check_steps.specs.Held.{Netlist, HoldsNetlist}
-use Rattle.check_steps.specs.Words.{AsksMake, AsksMatch, Sought, Wanted}
+use Rattle.check_steps.specs.Words.{AsksMake, AsksMatch, AsksRestore, Sought, Wanted, Wished}
 
 -- The pair of a number: two graphs of 64 inputs, 32 outputs and 2,000 gates, and a match of them.
 pub record IsPairOf (number : ℕ) (first second : Net) (matching : Matching) : Type 0 where
@@ -62,9 +62,12 @@ pub record HoldsPartOfPair (before after : List ℕ → Option (List ℕ)) (word
       ⊎ ((after wanted.first ≡ Some (aig_text pair.first))
       × IsCutFrom (blif_text pair.second.graph) (before wanted.second) (after wanted.second))
 
--- the words ask for a match or for a pair, which are written
+-- the words ask for a match, for a pair or for a netlist to be restored, which are written
 abbrev pub WriteFiles : List (List ℕ) → Type 0
-WriteFiles words = ((sought : Sought) × AsksMatch words sought) ⊎ ((wanted : Wanted) × AsksMake words wanted)
+WriteFiles words =
+    ((sought : Sought) × AsksMatch words sought)
+    ⊎ ((wanted : Wanted) × AsksMake words wanted)
+    ⊎ ((wished : Wished) × AsksRestore words wished)
 
 -- the words ask for a pair, of which one file has this name
 abbrev pub NamesPair : List (List ℕ) → List ℕ → Type 0

@@ -4,15 +4,16 @@ use Rattle.circuits.specs.Netlists.{Net}
 use Rattle.account_check.specs.declared.verdict.Verdict.TheVariants as verdict
 use Rattle.net_core.specs.declared.matching.Matching.{Matching}
 use Rattle.query_core.specs.Ledgers.{Ledgered}
-use Rattle.check_steps.specs.Check.{IsAccepted, IsRejected}
+use Rattle.check_steps.specs.Check.{IsAccepted, IsMatchOfFiles, IsRejected, LacksMatch}
 use Rattle.check_steps.specs.Held.{Netlist, HoldsNetlist, HoldsGraph}
 use Rattle.run_steps.specs.Info.{IsSpentOf, with_itself}
 use Rattle.run_steps.specs.Match.{HasNoMatch, HoldsPart, IsMatchFound, IsProved, IsSpentOnTwo}
 use Rattle.run_steps.specs.Make.{HoldsPair, HoldsPartOfPair}
+use Rattle.run_steps.specs.Restore.{AsChecked, HoldsPartOfRestored, HoldsRestored, IsRestorable}
 use Rattle.run_steps.specs.Trial.{IsSpentOnPair, IsSpentOnPairOf, IsTried}
 use Rattle.check_steps.specs.Words.{AskForPair, AsksInfo, AskNothing, AsksTrial, ReadFiles}
 use Rattle.check_steps.specs.declared.outcome.Outcome.{Outcome}
-use Rattle.check_steps.specs.declared.outcome.Outcome.TheVariants.{AcceptedMatch, AcceptedRefusal, Rejected, Matched, NoMatching, Spent, Usage, Absent, TooLarge, Malformed, Informed, Made, Tried, ReadFault, WriteFault, Memory}
+use Rattle.check_steps.specs.declared.outcome.Outcome.TheVariants.{AcceptedMatch, AcceptedRefusal, Rejected, Matched, NoMatching, Spent, Usage, Absent, TooLarge, Malformed, Informed, Made, Restored, Tried, ReadFault, WriteFault, Memory}
 use Rattle.check_steps.specs.Ends.{EndsEarly, IsAbsent}
 
 -- The words ask for what is known of a file that is a netlist.
@@ -54,17 +55,24 @@ abbrev pub IsRight : (List ℕ → Option (List ℕ)) → List (List ℕ) → Ou
 IsRight held words (Matched matching) = IsMatchFound held words matching
 IsRight held words NoMatching = HasNoMatch held words
 IsRight held words (AcceptedMatch matching) = IsAccepted held words (verdict.Match matching)
-IsRight held words AcceptedRefusal = IsAccepted held words verdict.None
-IsRight held words (Rejected line why) = IsRejected held words line why
+IsRight held words AcceptedRefusal = AsChecked (λ checked. IsAccepted held checked verdict.None) words
+IsRight held words (Rejected line why) = AsChecked (λ checked. IsRejected held checked line why) words
 IsRight held words Informed = IsAskedOf held words
 IsRight held words (Spent ledger) = IsSpentOn held words ledger ⊎ IsSpentOnTwo held words ledger ⊎ IsSpentOnPair words ledger
 IsRight held words Made = AskForPair words
+IsRight held words (Restored gates) = IsRestorable held words gates
 IsRight held words (Tried number account) = IsTried words number account
 IsRight held words Usage = AskNothing words
-IsRight held words (Absent which) = IsAbsent held words which
-IsRight held words (TooLarge which) = EndsEarly held words (TooLarge which)
-IsRight held words (Malformed which kind at) = EndsEarly held words (Malformed which kind at)
+IsRight held words (Absent which) = AsChecked (λ checked. IsAbsent held checked which) words
+IsRight held words (TooLarge which) = AsChecked (λ checked. EndsEarly held checked (TooLarge which)) words
+IsRight held words (Malformed which kind at) = AsChecked (λ checked. EndsEarly held checked (Malformed which kind at)) words
 IsRight held words other = Unit {0}
+
+-- Whoever wrote the account, a matching that is accepted is a match of the files' netlists, and where a refusal is accepted, by
+-- a check or before a netlist is restored, they have no match.
+pub record IsSoundAnswer (held : List ℕ → Option (List ℕ)) (words : List (List ℕ)) (outcome : Outcome) : Type 0 where
+  pub matches : (matching : Matching) → outcome ≡ AcceptedMatch matching → IsMatchOfFiles held words matching
+  pub refuses : outcome ≡ AcceptedRefusal → AsChecked (LacksMatch held) words
 
 -- the report was put whole
 pub record IsTold (outcome : Outcome) : Type 0 where
@@ -86,6 +94,7 @@ pub record LeavesFiles (outcome : Outcome) : Type 0 where
   pub unmatched : (matching : Matching) → outcome ≢ Matched matching
   pub no_refusal : outcome ≢ NoMatching
   pub no_pair : outcome ≢ Made
+  pub no_netlist : (gates : ℕ) → outcome ≢ Restored gates
   pub told : IsTold outcome
 
 -- What the words alone say of an outcome, whatever the files have.
@@ -96,15 +105,21 @@ pub record FollowsWords (words : List (List ℕ)) (outcome : Outcome) : Type 0 w
   pub trial : (number : ℕ) → AsksTrial words number → IsTold outcome → IsOfTrial number outcome
   pub read : outcome ≡ ReadFault → ReadFiles words
 
--- a fault came or memory ran out, which leaves no file changed, or a first part of the account or of a pair
+-- a fault came or memory ran out, which leaves no file changed, or a first part of the account, of a pair or of a netlist that is
+-- restored
 abbrev pub MayBeCut : (List ℕ → Option (List ℕ)) → (List ℕ → Option (List ℕ)) → List (List ℕ) → Type 0
-MayBeCut before after words = ((name : List ℕ) → after name ≡ before name) ⊎ HoldsPart after words ⊎ HoldsPartOfPair before after words
+MayBeCut before after words =
+    ((name : List ℕ) → after name ≡ before name)
+    ⊎ HoldsPart after words
+    ⊎ HoldsPartOfPair before after words
+    ⊎ HoldsPartOfRestored before after words
 
 -- what an outcome says of the files before and afterwards
 abbrev pub Leaves : (List ℕ → Option (List ℕ)) → (List ℕ → Option (List ℕ)) → List (List ℕ) → Outcome → Type 0
 Leaves before after words (Matched matching) = IsProved after words (verdict.Match matching)
 Leaves before after words NoMatching = IsProved after words verdict.None
 Leaves before after words Made = HoldsPair after words
+Leaves before after words (Restored gates) = HoldsRestored before after words gates
 Leaves before after words WriteFault = MayBeCut before after words
 Leaves before after words Memory = MayBeCut before after words
 Leaves before after words other = (name : List ℕ) → after name ≡ before name

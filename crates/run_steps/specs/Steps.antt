@@ -18,10 +18,10 @@ use Rattle.run_steps.specs.Writing.{HoldsFirst}
 use Rattle.run_steps.specs.Info.{IsInfoText, IsSpentOf, with_itself}
 use Rattle.run_steps.specs.Make.{IsCutFrom}
 use Rattle.run_steps.specs.Trial.{IsSpentOnPairOf, IsTrialOf}
-use Rattle.run_steps.specs.Outcomes.{FollowsWords, IsRight, IsTold, Leaves}
+use Rattle.run_steps.specs.Outcomes.{FollowsWords, IsRight, IsSoundAnswer, IsTold, Leaves}
 use Rattle.check_steps.specs.Lines.{line_of, report_on}
 use Rattle.run_steps.specs.Report.{IsReport}
-use Rattle.check_steps.specs.Checks.{IsSound, ended}
+use Rattle.check_steps.specs.Checks.{ended}
 use Rattle.check_steps.specs.declared.outcome.Outcome.{Outcome}
 use Rattle.check_steps.specs.declared.outcome.Outcome.TheVariants.{Matched, NoMatching, Spent, Usage, Informed, Tried, ReadFault, WriteFault, Memory}
 use Rattle.check_steps.specs.declared.words.Command.{Command}
@@ -152,7 +152,7 @@ pub record IsEnding (outcome : Outcome) : Type 0 where
 
 -- Deciding by the files that a command names.
 pub record Decides (tells : Bool) (command : Command) (old new : ShelfState) (result : Result Ending Outcome) : Type 0 where
-  -- no file changes but the account of a match, and the two of a pair
+  -- no file changes but the account of a match, the two of a pair, and a netlist that is restored
   pub files : IsTrue tells → (n : List ℕ) → IsNotWritten command n → new.held n ≡ old.held n
   pub left : IsTrue tells
       → (words : List (List ℕ))
@@ -169,7 +169,7 @@ pub record Decides (tells : Bool) (command : Command) (old new : ShelfState) (re
   pub sound : IsTrue tells
       → (words : List (List ℕ))
       → Ask words command
-      → IfOk result (λ ending. IsSound old.held words ending.outcome)
+      → IfOk result (λ ending. IsSoundAnswer old.held words ending.outcome)
   pub report : (words : List (List ℕ))
       → Ask words command
       → IfOk result (λ ending. IsReport tells old.held words ending.outcome ending.report.items)

@@ -6,5 +6,5 @@ mod making;
 mod writing;
 
 pub use concluding::conclude;
-pub use making::make_files;
+pub use making::{make_files, write_named};
 pub use writing::{write_account, write_text};

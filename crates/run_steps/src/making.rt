@@ -64,8 +64,8 @@ fn write_pair<S: Shelf>(
     write_named(alloc, shelf, asked.second, &mut second)
 }
 
-// Writes a text under a name, or says how the run ends without it.
-fn write_named<S: Shelf, P: Parts>(
+/// Writes a text under a name, or says how the run ends without it.
+pub fn write_named<S: Shelf, P: Parts>(
     alloc: Global,
     shelf: &mut S,
     name: &str,

@@ -3,7 +3,7 @@
 ghost use Rattle.std.specs.Prelude.{◌≡◌, ◌≤◌, IfOk};
 ghost use Rattle.shelf_core.specs.State.{Closed};
 
-use crate::files::{A, AND, B, C17, C17_MOVED, EMPTY, THREE, TWO, XOR};
+use crate::files::{A, AND, B, C17, C17_MOVED, EMPTY, TABLE, THREE, TWO, XOR};
 use crate::runs::{CHECK, MATCH, files_of, words_of};
 use explain::{
     EndedRun, FileFault, FolderFault, Notice, Warning, explain, fault_of_words, folder_of,
@@ -281,7 +281,7 @@ fn tells_less_where_files_cannot_be_read_again(rt: HostRuntime) -> Result<(), Fa
 }
 
 /// Words of no form, and what is told of them before the forms.
-static USAGE: [(&[&str], &str); 14] = [
+static USAGE: [(&[&str], &str); 16] = [
     (&[], "no command is given"),
     (&["mach", "A", "B", "t"], "`mach` is no command"),
     (&["ma\x1btch"], "`ma?tch` is no command"),
@@ -310,6 +310,11 @@ static USAGE: [(&[&str], &str); 14] = [
     (
         &["make", "7", "A", "A"],
         "SECOND is the same word as FIRST, and would be written over it",
+    ),
+    (&["restore", "A", "B", "t"], "NEW is missing"),
+    (
+        &["restore", "A", "B", "t", "t"],
+        "NEW is the same word as ACCOUNT, and would be written over it",
     ),
 ];
 
@@ -364,8 +369,18 @@ fn tells_that_the_report_failed(rt: HostRuntime) -> Result<(), Fail> {
 
 #[test]
 fn tells_nothing_where_the_report_says_it(rt: HostRuntime) -> Result<(), Fail> {
-    let told = told_of_run(rt.alloc(), MATCH, [A, B], None)?;
+    let told = told_of_run(rt.alloc(), CHECK, [A, B], Some(TABLE))?;
     assert_eq!(rt; told.as_str(), "");
+    Ok(())
+}
+
+#[test]
+fn tells_how_names_are_given_back(rt: HostRuntime) -> Result<(), Fail> {
+    let told = told_of_run(rt.alloc(), MATCH, [A, B], None)?;
+    assert_eq!(rt;
+        told.as_str(),
+        "npnp: `npnp restore A B t NEW` gives the names back: NEW is B behind the ports of A\n"
+    );
     Ok(())
 }
 

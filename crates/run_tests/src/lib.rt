@@ -18,6 +18,8 @@ mod pairs;
 #[cfg(test)]
 mod refusals;
 #[cfg(test)]
+mod restores;
+#[cfg(test)]
 mod runs;
 #[cfg(test)]
 mod watching;

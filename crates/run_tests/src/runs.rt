@@ -64,7 +64,7 @@ pub(crate) fn words_of(alloc: Global, words: &[&str]) -> Result<Vec<String>, All
     Ok(list)
 }
 
-fn file(alloc: Global, name: &str, bytes: &[u8]) -> Result<(String, Vec<u8>), AllocError>
+pub(crate) fn file(alloc: Global, name: &str, bytes: &[u8]) -> Result<(String, Vec<u8>), AllocError>
     ensures { IfOk result (λ file. string_bytes file.0 ≡ name.now) }
 {
     let name = String::from_str(alloc, name)?;
@@ -174,7 +174,7 @@ pub(crate) const NONE: Failing = Failing {
     cut: 64,
 };
 
-fn shelf_failing(
+pub(crate) fn shelf_failing(
     alloc: Global,
     files: Vec<(String, Vec<u8>)>,
     failing: Failing,

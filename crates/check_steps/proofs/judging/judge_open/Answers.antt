@@ -2,8 +2,8 @@
 use Rattle.std.proofs.Common.{rules, arith, ◌∙◌}
 use Rattle.check_steps.proofs.judging.judge_open.Goals as goal
 
-pub returns : goal.returns
-returns g c =
+pub returns-clause-judges : goal.returns-clause-judges
+returns-clause-judges g c =
     let judged = c.in_ok-outcome.ensures.judges in
     record {
       files = λ n. c.close.ensures.files n ∙ c.judge_by.ensures.judges.files n;

@@ -1,7 +1,6 @@
 -- The words name the files that were read.
 use Rattle.std.proofs.Common.{inl, inr, Err, ap, sym, ◌∙◌}
-use Rattle.run_steps.specs.Outcomes.{FollowsWords, IsRight, Leaves}
-use Rattle.check_steps.specs.Checks.{IsSound}
+use Rattle.run_steps.specs.Outcomes.{FollowsWords, IsRight, IsSoundAnswer, Leaves}
 use Rattle.run_steps.proofs.MatchLemmas.{may_be_cut, not_written, writes_of}
 use Rattle.run_steps.proofs.CheckLemmas.{follows_memory, follows_nothing}
 use Rattle.run_steps.proofs.FormLemmas.{known_form, trial_command}
@@ -20,7 +19,7 @@ returns-in-Ok-clause-sound g c = λ tells. c.in-Ok.ensures.decides.sound tells _
 
 pub returns-in-Err-clause-sound : goal.returns-in-Err-clause-sound
 returns-in-Err-clause-sound g c = λ tells.
-    by_line (IsSound _ _) c.end_by_line-in-Err.result c.end_by_line-in-Err.ensures (record {
+    by_line (IsSoundAnswer _ _) c.end_by_line-in-Err.result c.end_by_line-in-Err.ensures (record {
       matches = λ matching is. absurd (c.in-Err.ensures.decides.early.line.unmatched matching (inl is));
       refuses = λ is. absurd (c.in-Err.ensures.decides.early.no_refusal is);
     }) sound_memory
@@ -32,10 +31,10 @@ pub returns-in-Err-clause-no_form : goal.returns-in-Err-clause-no_form
 returns-in-Err-clause-no_form g c = λ nothing. absurd (known_form _ _ c.in-Some.ensures.asked nothing)
 
 pub returns-in-Ok-clause-files : goal.returns-in-Ok-clause-files
-returns-in-Ok-clause-files g c = λ tells name other apart. c.in-Ok.ensures.decides.files tells name (not_written _ _ name c.in-Some.ensures.asked other apart)
+returns-in-Ok-clause-files g c = λ tells name other apart unrestored. c.in-Ok.ensures.decides.files tells name (not_written _ _ name c.in-Some.ensures.asked other apart unrestored)
 
 pub returns-in-Err-clause-files : goal.returns-in-Err-clause-files
-returns-in-Err-clause-files g c = λ tells name other apart. c.in-Err.ensures.decides.files tells name (not_written _ _ name c.in-Some.ensures.asked other apart)
+returns-in-Err-clause-files g c = λ tells name other apart unrestored. c.in-Err.ensures.decides.files tells name (not_written _ _ name c.in-Some.ensures.asked other apart unrestored)
 
 pub returns-in-Ok-clause-left : goal.returns-in-Ok-clause-left
 returns-in-Ok-clause-left g c = λ tells. c.in-Ok.ensures.decides.left tells _ c.in-Some.ensures.asked

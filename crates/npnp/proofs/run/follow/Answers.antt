@@ -8,6 +8,9 @@ use Rattle.npnp.proofs.run.follow.Goals as goal
 pub returns-in-Check-clause-decides : goal.returns-in-Check-clause-decides
 returns-in-Check-clause-decides g c = check_decides _ _ c.in-Check.check _ _ _ c.in-Check.is c.check_files.ensures
 
+pub returns-in-Restore-clause-decides : goal.returns-in-Restore-clause-decides
+returns-in-Restore-clause-decides g c = subst (λ command. Decides g.S.Shelf.tells command (g.S.Shelf.state c.args.shelf.now) (g.S.Shelf.state c.restore_files.new.shelf) c.restore_files.result) (sym c.in-Restore.is) c.restore_files.ensures
+
 pub returns-in-Match-clause-decides : goal.returns-in-Match-clause-decides
 returns-in-Match-clause-decides g c = subst (λ command. Decides g.S.Shelf.tells command (g.S.Shelf.state c.args.shelf.now) (g.S.Shelf.state c.find.new.shelf) c.find.result) (sym c.in-Match.is) c.find.ensures
 

@@ -2,7 +2,7 @@
 use Rattle.std.proofs.Common.{inl, inr, refl, sym, subst, ◌∙◌}
 use Rattle.run_steps.specs.Outcomes.{IsOfTrial, IsRight, IsTold, Leaves}
 use Rattle.check_steps.specs.Lines.{line_of}
-use Rattle.check_steps.specs.declared.outcome.Outcome.TheVariants.{AcceptedMatch, AcceptedRefusal, Rejected, Matched, NoMatching, Spent, Made, Tried, Absent, TooLarge, Malformed, Memory}
+use Rattle.check_steps.specs.declared.outcome.Outcome.TheVariants.{AcceptedMatch, AcceptedRefusal, Rejected, Matched, NoMatching, Spent, Made, Restored, Tried, Absent, TooLarge, Malformed, Memory}
 use Rattle.run_steps.proofs.MatchLemmas.{kept, may_be_cut}
 use Rattle.run_steps.proofs.CheckLemmas.{exactly, exactly_informed, exactly_none, of_match, reached, told_read, report_of_same}
 use Rattle.npnp.proofs.TellingLemmas.{answered_as, sound_memory}
@@ -58,6 +58,12 @@ returns-clause-made g c = λ told.
 
 pub returns-clause-pair : goal.returns-clause-pair
 returns-clause-pair g c = λ tells is. subst (Leaves _ _ _) (answered_as c.tell.ensures.same (reached Made tt).told is) (c.answer-ending.ensures.left tells)
+
+pub returns-clause-restored : goal.returns-clause-restored
+returns-clause-restored g c = λ tells decided gates. exactly _ _ _ _ (c.answer-ending.ensures.right tells) c.tell.ensures.same decided (Restored gates) (reached (Restored gates) tt) tt
+
+pub returns-clause-restored_file : goal.returns-clause-restored_file
+returns-clause-restored_file g c = λ tells gates is. subst (Leaves _ _ _) (answered_as c.tell.ensures.same (reached (Restored gates) tt).told is) (c.answer-ending.ensures.left tells)
 
 pub returns-clause-tried : goal.returns-clause-tried
 returns-clause-tried g c = λ number account is. c.answer-ending.ensures.by_words.tried number account (answered_as c.tell.ensures.same (reached (Tried number account) tt).told is)

@@ -1,10 +1,10 @@
 use Rattle.std.proofs.Common.{map, sym, ap, subst, ◌∙◌}
 use Rattle.std.proofs.lemmas.Bool.{false≢true}
 use Rattle.circuits.specs.Netlists.{Net}
-use Rattle.gen_pair.specs.Moved.{moved_gate, AreMovedOutputs}
-use Rattle.gen_pair.proofs.MovedMatch.{moved_match}
-use Rattle.gen_pair.proofs.Orders.{moved_ordered}
-use Rattle.gen_pair.proofs.moving.moved_graph.Goals as goal
+use Rattle.port_moves.specs.Moved.{moved_gate, AreMovedOutputs}
+use Rattle.port_moves.proofs.MovedMatch.{moved_match}
+use Rattle.port_moves.proofs.Orders.{moved_ordered}
+use Rattle.port_moves.proofs.moving.moved_graph.Goals as goal
 
 pub unreachable-requires : goal.unreachable-requires
 unreachable-requires c =

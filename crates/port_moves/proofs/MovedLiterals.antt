@@ -7,7 +7,7 @@ use Rattle.circuits.specs.declared.netlist.Gate.{Gate}
 use Rattle.circuits.specs.Literals.{bit, differ, signal_of, is_negated, literal_bit}
 use Rattle.circuits.specs.Netlists.{gate_bit}
 use Rattle.circuits.specs.Bijections.{Moves, place_of, sign_of}
-use Rattle.gen_pair.specs.Moved.{input_literal, moved_literal, moved_gate}
+use Rattle.port_moves.specs.Moved.{input_literal, moved_literal, moved_gate}
 use Rattle.std.proofs.Math.Bool.{and_comm}
 use Rattle.circuits.proofs.Expansions.{differ_both}
 

@@ -4,17 +4,18 @@ ghost use Rattle.std.specs.Prelude.{◌≡◌, ◌+◌, ◌-◌, ◌<◌, ◌^�
 ghost use Rattle.circuits.specs.Bijections.{IsSignedBijection};
 ghost use Rattle.circuits.specs.Matches.{IsMatchOfFunctions};
 ghost use Rattle.net_core.specs.Graph.{IsGraph};
-ghost use Rattle.gen_pair.specs.Moved.{signed, moved_literal, moved_gate, AreMovedOutputs};
+ghost use Rattle.port_moves.specs.Moved.{signed, moved_literal, moved_gate, AreMovedOutputs};
 
 use net_core::{Gate, Graph, Lit, Matching};
 use std::alloc::{AllocError, Global};
 
-/// The graph whose ports are those of `graph`, moved as the matching says, which is a match of the two.
-pub(crate) fn moved_graph(
-    alloc: Global,
-    graph: &Graph,
-    matching: &Matching,
-) -> Result<Graph, AllocError>
+/// The graph whose ports are those of `graph`, moved as the matching says, which is a match of the two. The operands of each
+/// gate are exchanged.
+///
+/// # Errors
+///
+/// `AllocError` when out of memory.
+pub fn moved_graph(alloc: Global, graph: &Graph, matching: &Matching) -> Result<Graph, AllocError>
     requires inputs { IsSignedBijection graph.now.inputs matching.now.inputs }
     requires outputs { IsSignedBijection (length graph.now.outputs) matching.now.outputs }
     ensures matches { IfOk result
@@ -67,7 +68,7 @@ fn moved_literal(inputs: &[(u32, bool)], literal: Lit) -> Lit
 }
 
 /// A literal, inverted or not.
-pub(crate) fn signed(literal: Lit, inverted: bool) -> Lit
+pub fn signed(literal: Lit, inverted: bool) -> Lit
     ensures { result ≡ signed inverted literal }
 {
     if inverted { literal.inverse() } else { literal }

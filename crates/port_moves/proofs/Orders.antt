@@ -8,8 +8,8 @@ use Rattle.circuits.specs.Literals.{signal_of, is_negated, differ, false_literal
 use Rattle.circuits.specs.Netlists.{Net, IsOrdered, signals_of}
 use Rattle.circuits.specs.Bijections.{IsSignedBijection, place_of, sign_of}
 use Rattle.circuits.proofs.Places.{IsSignedBijection-onto}
-use Rattle.gen_pair.specs.Moved.{signed, moved_literal, moved_gate, AreMovedOutputs}
-use Rattle.gen_pair.proofs.MovedLiterals.{moved_constant, moved_later, moved_input, input_signal}
+use Rattle.port_moves.specs.Moved.{signed, moved_literal, moved_gate, AreMovedOutputs}
+use Rattle.port_moves.proofs.MovedLiterals.{moved_constant, moved_later, moved_input, input_signal}
 
 moved_below : (p : List (ℕ × Bool)) (bound : ℕ) (lit : Lit) → All (λ entry. entry.0 < length p) p → length p < bound → signal_of lit < bound → signal_of (moved_literal p lit) < bound
 moved_below p bound lit places room h =

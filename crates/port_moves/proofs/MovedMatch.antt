@@ -10,8 +10,8 @@ use Rattle.circuits.specs.Matches.{IsMatchOfFunctions}
 use Rattle.circuits.proofs.Expansions.{literal_bit-inverse}
 use Rattle.circuits.proofs.Places.{moved-moves}
 use Rattle.circuits.proofs.Valuations.{ReadsBelow, ReadsBelow-tail, first_operand, second_operand, length-with_gates}
-use Rattle.gen_pair.specs.Moved.{signed, moved_literal, moved_gate, AreMovedOutputs}
-use Rattle.gen_pair.proofs.MovedLiterals.{AreAlike, alike_inputs, alike_gate, alike_more}
+use Rattle.port_moves.specs.Moved.{signed, moved_literal, moved_gate, AreMovedOutputs}
+use Rattle.port_moves.proofs.MovedLiterals.{AreAlike, alike_inputs, alike_gate, alike_more}
 
 alike_gates : (p : List (ℕ × Bool)) (v w : List Bool) (gates : List Gate) → AreAlike p v w → ReadsBelow (length v) first_operand gates → ReadsBelow (length v) second_operand gates → AreAlike p (with_gates v gates) (with_gates w (map (moved_gate p) gates))
 alike_gates p v w [] alike a b = alike
@@ -36,7 +36,7 @@ signed_bit v false lit = plain (literal_bit v lit)
     plain true = refl
     plain false = refl
 
-undone : (b s : Bool) → b ≡ differ (differ b s) s
+pub undone : (b s : Bool) → b ≡ differ (differ b s) s
 undone true true = refl
 undone true false = refl
 undone false true = refl

@@ -2,8 +2,8 @@ use Rattle.std.proofs.Common.{[], ◌∷◌, ◌++◌, get_or, map, take, ap, sy
 use Rattle.std.proofs.lemmas.List.{map_push, take_more}
 use Rattle.circuits.specs.declared.netlist.Gate.{Gate}
 use Rattle.circuits.specs.Literals.{false_literal}
-use Rattle.gen_pair.specs.Moved.{moved_gate, moved_literal}
-use Rattle.gen_pair.proofs.moving.moved_gates.Goals as goal
+use Rattle.port_moves.specs.Moved.{moved_gate, moved_literal}
+use Rattle.port_moves.proofs.moving.moved_gates.Goals as goal
 
 pub loop-gate-preserved : goal.loop-gate-preserved
 loop-gate-preserved c =

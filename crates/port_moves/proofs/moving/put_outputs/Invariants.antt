@@ -2,8 +2,8 @@
 use Rattle.std.proofs.Common.{◌≡◌, ℕ, ◌<◌, length, get_or}
 use Rattle.circuits.specs.declared.netlist.Lit.{Lit}
 use Rattle.circuits.specs.Bijections.{place_of, sign_of}
-use Rattle.gen_pair.specs.Moved.{signed, moved_literal}
-use Rattle.gen_pair.proofs.moving.put_outputs.Given as goal
+use Rattle.port_moves.specs.Moved.{signed, moved_literal}
+use Rattle.port_moves.proofs.moving.put_outputs.Given as goal
 
 abbrev pub invariant-loop-k : goal.invariant-loop-k
 invariant-loop-k l =

@@ -1,0 +1,5 @@
+pub mod EqualCircuits
+pub mod Inverted
+pub mod MovedLiterals
+pub mod MovedMatch
+pub mod Orders

@@ -1,0 +1,4 @@
+mod GateLemmas
+mod NameLemmas
+mod RestoreLemmas
+mod WrittenLemmas

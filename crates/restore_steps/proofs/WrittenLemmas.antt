@@ -1,0 +1,106 @@
+-- The netlist that is printed is a file of one that has the first netlist's ports and computes what it does.
+use Rattle.std.proofs.Common.{◌≡◌, ◌⊎◌, ℕ, inl, inr, Bool, IsTrue, List, length, map, All, Option, Some, Result, Ok, Err, refl, sym, ap, subst, ◌∙◌, arith}
+use Rattle.std.proofs.lemmas.List.{length-map}
+use Rattle.circuits.specs.Circuits.{Circuit}
+use Rattle.circuits.specs.Functions.{Computes, as_circuit, gate_def}
+use Rattle.net_file.specs.declared.named.Named.{Named}
+use Rattle.net_print.specs.Files.{aig_text}
+use Rattle.aiger_reader.specs.Aiger.{IsAiger}
+use Rattle.print_laws.specs.Ordered.{greater_first, with_greater_first}
+use Rattle.print_laws.specs.Printable.{IsPrintable, IsSymbolName, symbol_name}
+use Rattle.print_laws.proofs.Aig.{aig_is}
+use Rattle.print_laws.proofs.OperandOrder.{computes_too}
+use Rattle.print_laws.proofs.ReadNames.{IsNameOnLine, aiger_names, blif_names, symbol_names_good}
+use Rattle.port_moves.proofs.EqualCircuits.{equal_circuits}
+use Rattle.shelf_core.specs.State.{ShelfState}
+use Rattle.shelf_core.proofs.FaultLemmas.{none_failed}
+use Rattle.check_steps.specs.Circuits.{IsCircuit}
+use Rattle.check_steps.specs.Held.{HoldsGraph, HoldsNetlist}
+use Rattle.check_steps.specs.Lines.{line_of}
+use Rattle.check_steps.specs.Reading.{netlist_of}
+use Rattle.check_steps.specs.declared.outcome.Ending.{Ending}
+use Rattle.check_steps.specs.declared.outcome.Outcome.{Outcome}
+use Rattle.check_steps.specs.declared.outcome.Outcome.TheVariants.{Restored, Memory}
+use Rattle.check_steps.proofs.CircuitLemmas.{few_ports, ports_named}
+use Rattle.run_steps.specs.Restore.{IsRestored}
+use Rattle.run_steps.specs.Steps.{WritesText}
+use Rattle.restore_steps.specs.Restoring.{IsBehindPorts, Restores}
+use Rattle.restore_steps.proofs.GateLemmas.{few_gates}
+
+-- the names of a file's ports stand on lines
+names_on_lines : (bytes : List ℕ) (circuit : Circuit) (i o : List (List ℕ)) → IsCircuit bytes circuit i o → All IsNameOnLine i × All IsNameOnLine o
+names_on_lines bytes circuit i o is =
+    elim is [ inl (begins, aiger) ↦ aiger_names bytes circuit i o aiger | inr (not, blif) ↦ blif_names bytes circuit i o blif ]
+
+-- two files were read, and this is the second netlist behind the first one's ports
+module _ (content other : Option (List ℕ)) (circuit : Circuit) (first second restored : Named)
+    (holds : HoldsNetlist content (netlist_of circuit first)) (computes : Computes first.graph circuit) (graph : HoldsGraph other second.graph)
+    (behind : IsBehindPorts first second restored) where
+  good : IsPrintable restored
+  good =
+      let few = few_ports holds.bytes circuit first.input_names first.output_names holds.is in
+      let named = ports_named holds.bytes circuit first.input_names first.output_names holds.is in
+      let names = names_on_lines holds.bytes circuit first.input_names first.output_names holds.is in
+      let net = graph.netlist in
+      let gates = few_gates graph.holds.bytes net.circuit second.graph net.input_names net.output_names graph.holds.is graph.numbered in
+      record {
+        within = record {
+          ordered = behind.sound.ordered;
+          inputs = omega (arith, few.0, computes.inputs, behind.equal.inputs);
+          outputs = omega (arith, few.1, computes.outputs, behind.equal.outputs);
+          gates = omega (arith, gates, behind.gates);
+        };
+        inputs_named = ap length behind.input_names ∙ (length-map first.input_names symbol_name ∙ (named.0 ∙ (sym computes.inputs ∙ sym behind.equal.inputs)));
+        outputs_named = ap length behind.output_names ∙ (length-map first.output_names symbol_name ∙ (named.1 ∙ (sym computes.outputs ∙ sym behind.equal.outputs)));
+        input_names = subst (All IsSymbolName) (sym behind.input_names) (symbol_names_good first.input_names names.0);
+        output_names = subst (All IsSymbolName) (sym behind.output_names) (symbol_names_good first.output_names names.1);
+      }
+
+  pub is_restored : IsRestored (netlist_of circuit first) second.graph (length restored.graph.gates) (aig_text restored)
+  is_restored =
+      let net = restored.graph in
+      let printed = as_circuit (with_greater_first net) in
+      record {
+        circuit = printed;
+        binary = refl;
+        file = subst (λ names. IsAiger (aig_text restored) printed names (map symbol_name first.output_names)) behind.input_names
+            (subst (IsAiger (aig_text restored) printed restored.input_names) behind.output_names (aig_is restored good));
+        same = equal_circuits circuit printed first.graph net computes (computes_too net behind.sound.ordered) behind.equal;
+        gates_are = length-map (map greater_first net.gates) gate_def ∙ length-map net.gates greater_first;
+        no_more = omega (arith, behind.gates);
+      }
+
+-- there was no memory for the netlist
+pub no_room : (tells : Bool) (first second : Named) (name : List ℕ) (state : ShelfState) (result : Result Ending Outcome) → result ≡ Err Memory → Restores tells first second name state state result
+no_room tells first second name state result is =
+    subst (λ r. Restores tells first second name state state r) (sym is) (record {
+      others = λ t n other. refl;
+      answer = tt;
+      stopped = inr refl;
+      part = λ t. inl refl;
+      last = none_failed state state refl;
+      failed = λ e. cc;
+    })
+
+-- it was written
+pub written : (tells : Bool) (first second restored : Named) (name : List ℕ) (old new : ShelfState) (ending : Ending) → IsBehindPorts first second restored → ending.outcome ≡ Restored (length restored.graph.gates) → ending.report.items ≡ line_of ending.outcome → WritesText tells name (aig_text restored) old new (Ok tt) → Restores tells first second name old new (Ok ending)
+written tells first second restored name old new ending behind is report writes = record {
+  others = writes.others;
+  answer = (restored, behind, is, report, writes.whole);
+  stopped = tt;
+  part = λ t. tt;
+  last = writes.last;
+  failed = λ e. cc;
+}
+
+-- or it wasn't
+pub unwritten_netlist : (tells : Bool) (first second restored : Named) (name : List ℕ) (old new : ShelfState) (o : Outcome) (result : Result Ending Outcome) → result ≡ Err o → IsBehindPorts first second restored → WritesText tells name (aig_text restored) old new (Err o) → Restores tells first second name old new result
+unwritten_netlist tells first second restored name old new o result is behind writes =
+    subst (λ r. Restores tells first second name old new r) (sym is) (record {
+      others = writes.others;
+      answer = tt;
+      stopped = writes.stopped;
+      part = λ t. elim (writes.part t) [ inl same ↦ inl same | inr first_part ↦ inr (restored, behind, first_part) ];
+      last = writes.last;
+      failed = λ e. writes.failed (ap Err (cc e));
+    })
