@@ -151,9 +151,9 @@ pub fn run<S: Shelf, K: Sink>(
     // ports, in their order and by their names, and computes what that does, with no more gates than the second's graph.
     ensures restored { IsTrue S.tells → IsDecided result → (gates : ℕ)
         → ((result ≡ Outcome.Restored gates)
-        ↔ IsRestorable (S.state shelf.old).held (map string_bytes words.now) gates) }
+        ↔ IsRestorable (S.state shelf.old).held (bytes_of words.now) gates) }
     ensures restored_file { IsTrue S.tells → (gates : ℕ) → result ≡ Outcome.Restored gates
-        → HoldsRestored (S.state shelf.old).held (S.state shelf.new).held (map string_bytes words.now) gates }
+        → HoldsRestored (S.state shelf.old).held (S.state shelf.new).held (bytes_of words.now) gates }
 
     // A pair was tried only where its number is that of the words and the account, which the outcome has, is accepted
     // for it: it proves a matching that is a match. Nothing else comes of a trial, but that the budget is spent on the
