@@ -78,8 +78,7 @@ impl<'a> Model for Checker<'a> {
     ghost invariant = { λ a. IsStage a.evaluator a.stage };
 }
 
-// By hand, and so one call wherever a value ends: a derived drop is expanded there, field by field, and makes proofs
-// long.
+// By hand: a derived drop is expanded, field by field, wherever a value ends, and makes proofs long.
 impl Drop for Checker<'_> {
     fn drop(self) {
         let Checker {

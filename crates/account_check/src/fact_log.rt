@@ -34,8 +34,7 @@ impl<'a> Model for FactLog<'a> {
     ghost invariant = { λ a. IsFactLog a.claim a.log };
 }
 
-// By hand, and so one call wherever a value ends: a derived drop is expanded there, field by field, and makes proofs
-// long.
+// By hand: a derived drop is expanded, field by field, wherever a value ends, and makes proofs long.
 impl Drop for FactLog<'_> {
     fn drop(self) {
         let FactLog {

@@ -40,8 +40,7 @@ impl<'a> Model for Logs<'a> {
     ghost invariant = { λ a. IsProof a.graphs.now a.matching a.closed a.log };
 }
 
-// By hand, and so one call wherever a value ends: a derived drop is expanded there, field by field, and makes proofs
-// long.
+// By hand: a derived drop is expanded, field by field, wherever a value ends, and makes proofs long.
 impl Drop for Logs<'_> {
     fn drop(self) {
         let Logs {

@@ -37,8 +37,7 @@ impl<'a> Model for OpenLog<'a> {
     ghost invariant = { λ a. IsLogSoFar a.refuter.base.graphs a.refuter.base.query a.refuter.taken };
 }
 
-// By hand, and so one call wherever a value ends: a derived drop is expanded there, field by field, and makes proofs
-// long.
+// By hand: a derived drop is expanded, field by field, wherever a value ends, and makes proofs long.
 impl Drop for OpenLog<'_> {
     fn drop(self) {
         let OpenLog { refuter: _refuter } = self;

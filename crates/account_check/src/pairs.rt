@@ -3,7 +3,8 @@
 ghost use Rattle.std.specs.Prelude.{◌≡◌, ◌+◌, ◌≤◌, ◌↔◌, IsTrue, IfOk, OnOk, Err, None, Some, length, map};
 ghost use Rattle.circuits.specs.Matches.{HavePorts};
 ghost use Rattle.net_core.specs.Graph.{IsGraph};
-ghost use Rattle.account_check.specs.Conclusions.{entry_of, matching_of, AreInOrder, AreOfKind, EmptyBanTests, OtherPortsTest, PairTests, PortsTest};
+ghost use Rattle.account_check.specs.Conclusions.{entry_of, matching_of, AreInOrder, AreOfKind, EmptyBanTests};
+ghost use Rattle.account_check.specs.Conclusions.{OtherPortsTest, PairTests, PortsTest};
 ghost use Rattle.account_check.specs.declared.reject.RecordStop.TheVariants as stop;
 ghost use Rattle.account_check.specs.declared.reject.Reject.{Reject as AnyReject};
 

@@ -1,6 +1,7 @@
 //! The check of an account whose bytes come in pieces.
 
-ghost use Rattle.std.specs.Prelude.{Bool, ℕ, List, ◌≡◌, ◌+◌, ◌<◌, ◌^◌, ◌++◌, [], true, false, IfOk, IsSome, Ok, Some, length};
+ghost use Rattle.std.specs.Prelude.{Bool, ℕ, List, ◌≡◌, ◌+◌, ◌<◌, ◌^◌, ◌++◌, [], true, false, IfOk, IsSome, Ok, Some};
+ghost use Rattle.std.specs.Prelude.{length};
 ghost use Rattle.circuits.specs.Matches.{IsMatchOfFunctions};
 ghost use Rattle.net_core.specs.Sides.{Graphs as TwoGraphs};
 ghost use Rattle.net_core.specs.declared.matching.Matching.{Matching as AnyMatching};
@@ -8,7 +9,8 @@ ghost use Rattle.account_file.specs.declared.place.Place.TheVariants.{Ended};
 ghost use Rattle.account_file.specs.Order.{next_place};
 ghost use Rattle.account_check.specs.declared.verdict.Verdict.TheVariants as verdict;
 ghost use Rattle.account_check.specs.Accounts.{verdict_of, Takes};
-ghost use Rattle.account_check.specs.Checking.{refused, unread, Feeds, Goes, HasTaken, IsChecking, IsUnderCheck, IsUnderWay, TakesAll};
+ghost use Rattle.account_check.specs.Checking.{refused, unread, Feeds, Goes, HasTaken, IsChecking, IsUnderCheck};
+ghost use Rattle.account_check.specs.Checking.{IsUnderWay, TakesAll};
 ghost use Rattle.account_check.specs.Verdicts.{IsVerdict};
 
 use crate::checker::Checker;
@@ -34,8 +36,7 @@ impl<'a> Model for AccountCheck<'a> {
     ghost view = { λ a. record { reading = a.reader; account = a.checker } };
 }
 
-// By hand, and so one call wherever a value ends: a derived drop is expanded there, field by field, and makes proofs
-// long.
+// By hand: a derived drop is expanded, field by field, wherever a value ends, and makes proofs long.
 impl Drop for AccountCheck<'_> {
     fn drop(self) {
         let AccountCheck {

@@ -16,7 +16,7 @@ pub enum Evidence {
     Holds(Log),
 }
 
-// By hand, and so one call wherever a value ends: a derived drop is expanded there, field by field, and makes proofs long.
+// By hand: a derived drop is expanded, field by field, wherever a value ends, and makes proofs long.
 impl Drop for Evidence {
     fn drop(self) {
         match self {

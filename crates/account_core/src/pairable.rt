@@ -10,8 +10,8 @@ use circuits::PortKind;
 use net_core::{Graph, Graphs, Side};
 use std::marker::Model;
 
-/// Two graphs whose ports can be paired: they have as many inputs, and as many outputs. Where they haven't there is no match,
-/// and nothing to search. Contracts see it as the two graphs.
+/// Two graphs whose ports can be paired: they have as many inputs, and as many outputs. Where they haven't there is no
+/// match, and nothing to search. Contracts see it as the two graphs.
 #[derive(Drop)]
 pub struct PairableGraphs<'a> {
     graphs: &'a Graphs<'a>,

@@ -10,8 +10,8 @@ use net_core::SignalValue;
 use std::alloc::{AllocError, Global};
 use word_sim::Tri;
 
-/// What the inputs of the second circuit get: an input's value where it is paired, by the pair's sign, and X elsewhere. Of two
-/// pairs that go to one input the earlier one counts.
+/// What the inputs of the second circuit get: an input's value where it is paired, by the pair's sign, and X elsewhere.
+/// Of two pairs that go to one input the earlier one counts.
 ///
 /// # Errors
 ///

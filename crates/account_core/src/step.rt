@@ -44,7 +44,7 @@ pub enum Step {
     },
 }
 
-// By hand, and so one call wherever a value ends: a derived drop is expanded there, field by field, and makes proofs long.
+// By hand: a derived drop is expanded, field by field, wherever a value ends, and makes proofs long.
 impl Drop for Step {
     fn drop(self) {
         match self {

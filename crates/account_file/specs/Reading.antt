@@ -1,5 +1,6 @@
 -- How far a text was read.
-use Rattle.std.specs.Prelude.{◌≡◌, ℕ, ◌+◌, ◌-◌, ◌*◌, ◌≤◌, Bool, List, [], ◌∷◌, ◌++◌, length, drop, All, Option, None, Some, IfSome, is_some, Result, Ok, Err, if◌then◌else◌}
+use Rattle.std.specs.Prelude.{◌≡◌, ℕ, ◌+◌, ◌-◌, ◌*◌, ◌≤◌, Bool, List, [], ◌∷◌, ◌++◌, length, drop, All, Option, None, Some, IfSome, is_some, Result, Ok, Err}
+use Rattle.std.specs.Prelude.{if◌then◌else◌}
 use Rattle.std.specs.List.{flat_map, position_or_len}
 use Rattle.text_core.specs.Bytes.{is_line_feed}
 use Rattle.account_file.specs.declared.record.Record.{Record}

@@ -1,6 +1,7 @@
 //! The words of an account's lines that are names.
 
-ghost use Rattle.account_file.specs.Forms.{kind_of, none_name_of, record_name_of, shape_name_of, side_of, step_name_of, tallied_of};
+ghost use Rattle.account_file.specs.Forms.{kind_of, none_name_of, record_name_of, shape_name_of, side_of, step_name_of};
+ghost use Rattle.account_file.specs.Forms.{tallied_of};
 
 use crate::fault::RecordFault;
 use crate::words::Word;

@@ -1,6 +1,7 @@
 //! The reader of an account's text.
 
-ghost use Rattle.std.specs.Prelude.{ℕ, ◌≡◌, ◌≢◌, ◌+◌, ◌<◌, ◌≤◌, ◌^◌, ◌++◌, [], List, true, false, None, Some, Ok, Err, OnOk, OnErr, length, drop};
+ghost use Rattle.std.specs.Prelude.{ℕ, ◌≡◌, ◌≢◌, ◌+◌, ◌<◌, ◌≤◌, ◌^◌, ◌++◌, [], List, true, false, None, Some, Ok, Err};
+ghost use Rattle.std.specs.Prelude.{OnOk, OnErr, length, drop};
 ghost use Rattle.account_file.specs.declared.record.Record.{Record as Entry};
 ghost use Rattle.account_file.specs.declared.fault.RecordFault.{RecordFault as AnyFault};
 ghost use Rattle.account_file.specs.Accounts.{SaysNext};

@@ -20,7 +20,7 @@ pub enum Record {
     End,
 }
 
-// By hand, and so one call wherever a value ends: a derived drop is expanded there, field by field, and makes proofs long.
+// By hand: a derived drop is expanded, field by field, wherever a value ends, and makes proofs long.
 impl Drop for Record {
     fn drop(self) {
         match self {

@@ -2,8 +2,11 @@
 
 ghost use Rattle.std.specs.Prelude.{◌≡◌, ℕ, List, [], ◌∷◌, ◌++◌, codes, All, OnOk, OnErr, map};
 ghost use Rattle.std.specs.Fmt.{decimal as digits_of_number};
-ghost use Rattle.account_file.specs.Spelling.{BanHasNumbers, ClaimHasPorts, HasNumbers, HasPorts, IsNumber, IsPort, IsReference, IsWritable, ShapeHasPorts, StepHasNumbers};
-ghost use Rattle.account_file.specs.Spelling.{bit_digit, bits_word, claim_words, kind_letter, kind_word, line_text, pair_word, record_line, reference_word, shape_words, side_word, sign_of, spaced, step_words, tallied_word, tri_digit, tris_word};
+ghost use Rattle.account_file.specs.Spelling.{BanHasNumbers, ClaimHasPorts, HasNumbers, HasPorts, IsNumber, IsPort};
+ghost use Rattle.account_file.specs.Spelling.{IsReference, IsWritable, ShapeHasPorts, StepHasNumbers};
+ghost use Rattle.account_file.specs.Spelling.{bit_digit, bits_word, claim_words, kind_letter, kind_word, line_text};
+ghost use Rattle.account_file.specs.Spelling.{pair_word, record_line, reference_word, shape_words, side_word, sign_of};
+ghost use Rattle.account_file.specs.Spelling.{spaced, step_words, tallied_word, tri_digit, tris_word};
 
 use crate::record::Record;
 use account_core::{Ban, Conclusion, FactHead, Step, Tallied};
@@ -33,10 +36,11 @@ pub fn put_record(entry: &Record, out: &mut Vec<u8>) -> Result<(), AllocError>
     out.extend_from_slice(&line)
 }
 
-/// Writes the line of a claim that fails, and of the bits that break it. Where memory runs out, a first part may stand in
-/// `out`, here and below.
+/// Writes the line of a claim that fails, and of the bits that break it. Where memory runs out, a first part may stand
+/// in `out`, here and below.
 pub fn put_fails(claim: Claim, bits: &Bits, out: &mut Vec<u8>) -> Result<(), AllocError>
-    ensures line { OnOk result (out.new.items ≡ out.old.items ++ record_line (Record.Fact (FactHead.Fails claim bits.now))) }
+    ensures line { OnOk result (out.new.items
+        ≡ out.old.items ++ record_line (Record.Fact (FactHead.Fails claim bits.now))) }
     ensures writable { OnOk result (IsWritable (Record.Fact (FactHead.Fails claim bits.now))) }
 {
     put_fails_text(claim, bits, out)?;
@@ -87,7 +91,8 @@ fn put_text(entry: &Record, out: &mut Vec<u8>) -> Result<(), AllocError>
 }
 
 fn put_fails_text(claim: Claim, bits: &Bits, out: &mut Vec<u8>) -> Result<(), AllocError>
-    ensures text { OnOk result (out.new.items ≡ out.old.items ++ line_text (Record.Fact (FactHead.Fails claim bits.now))) }
+    ensures text { OnOk result (out.new.items
+        ≡ out.old.items ++ line_text (Record.Fact (FactHead.Fails claim bits.now))) }
     ensures ports { OnOk result (ClaimHasPorts claim) }
 {
     out.extend_from_slice(b"fails")?;

@@ -1,7 +1,9 @@
 //! The words of an account's lines that are numbers, pairs of ports or bits.
 
 ghost use Rattle.std.specs.Prelude.{◌≡◌, ◌^◌};
-ghost use Rattle.account_file.specs.Forms.{bad_number, bit_of, bits_of, flip_of_sign, is_plain, kind_of_letter, literal_of, number_below, number_of, pair_after, pair_in, pair_of, port_of, reference_of, tri_of, tris_of, two_bits_of};
+ghost use Rattle.account_file.specs.Forms.{bad_number, bit_of, bits_of, flip_of_sign, is_plain, kind_of_letter};
+ghost use Rattle.account_file.specs.Forms.{literal_of, number_below, number_of, pair_after, pair_in, pair_of, port_of};
+ghost use Rattle.account_file.specs.Forms.{reference_of, tri_of, tris_of, two_bits_of};
 ghost use Rattle.account_file.specs.Texts.{Answers, GivesDigits};
 
 use crate::fault::{FileStop, RecordFault};

@@ -4,8 +4,8 @@ ghost use Rattle.std.specs.Prelude.{◌≡◌, ◌+◌, ◌<◌, ◌≤◌, cond
 ghost use Rattle.std.specs.List.{swap};
 ghost use Rattle.account_trim.specs.Trims.{kept};
 
-/// Keeps those of a list that are marked, in their order. They stay in the list's memory: a copy of the bans of a long search
-/// would take as much as the search.
+/// Keeps those of a list that are marked, in their order. They stay in the list's memory: a copy of the bans of a long
+/// search would take as much as the search.
 pub(crate) fn keep_marked<T: Drop>(list: &mut Vec<T>, marks: &[bool])
     requires { length marks.now ≡ vec_len list.old }
     ensures { list.new.items ≡ kept marks.now list.old.items }
@@ -17,7 +17,8 @@ pub(crate) fn keep_marked<T: Drop>(list: &mut Vec<T>, marks: &[bool])
     list.truncate(count);
 }
 
-// Moves what stands at a place to the end of the first ones, which are kept, if it is marked. Answers how many are kept then.
+// Moves what stands at a place to the end of the first ones, which are kept, if it is marked. Answers how many are kept
+// then.
 fn keep_one<T>(list: &mut Vec<T>, count: usize, place: usize, mark: bool) -> usize
     requires later { count ≤ place }
     requires there { place < vec_len list.old }

@@ -1,5 +1,5 @@
-//! What a ban without pairs rests on. A search comes to more facts and bans than its last ban needs; here those are found that
-//! it does need, and numbered anew.
+//! What a ban without pairs rests on. A search comes to more facts and bans than its last ban needs; here those are
+//! found that it does need, and numbered anew.
 #![tactic(auto)]
 
 mod keeping;

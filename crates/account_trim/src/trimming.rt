@@ -22,8 +22,8 @@ pub struct Core {
     pub number: u64,
 }
 
-/// Keeps of facts and bans what the ban of a number rests on: that ban, what its step names, what the steps of these bans
-/// name, and so on, in their order and numbered anew. What is kept stays in memory where it is.
+/// Keeps of facts and bans what the ban of a number rests on: that ban, what its step names, what the steps of these
+/// bans name, and so on, in their order and numbered anew. What is kept stays in memory where it is.
 ///
 /// # Errors
 ///
@@ -56,7 +56,8 @@ fn core_of(
     requires bans { All (λ ban. All (λ k. k < length numbers.now.bans) (bans_named ban.step)) bans }
     requires held { number < length numbers.now.bans }
     ensures facts { result.facts ≡ kept marks.now.facts.items facts }
-    ensures bans { result.bans ≡ map (numbered_ban numbers.now.facts numbers.now.bans) (kept marks.now.bans.items bans) }
+    ensures bans { result.bans
+        ≡ map (numbered_ban numbers.now.facts numbers.now.bans) (kept marks.now.bans.items bans) }
     ensures number { result.number ≡ at numbers.now.bans number }
 {
     let mut facts = facts.into_vec();

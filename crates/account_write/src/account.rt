@@ -4,7 +4,8 @@ ghost use Rattle.std.specs.Prelude.{◌≡◌, ◌++◌, [], ◌∷◌, ◌<◌,
 ghost use Rattle.account_file.specs.Spelling.{IsWritable};
 ghost use Rattle.account_file.specs.declared.record.Record.TheVariants as AnyRecord;
 ghost use Rattle.account_core.specs.declared.conclusion.Conclusion.TheVariants as AnyConclusion;
-ghost use Rattle.account_write.specs.Records.{match_records, none_ports_records, pairs_from, pairs_of_matching, records_left, records_of, refusal_records};
+ghost use Rattle.account_write.specs.Records.{match_records, none_ports_records, pairs_from, pairs_of_matching};
+ghost use Rattle.account_write.specs.Records.{records_left, records_of, refusal_records};
 
 use crate::lines::AccountLines;
 use account_core::{Ban, Conclusion, Fact};
@@ -28,7 +29,7 @@ pub struct Account {
     back: Items<Record>,
 }
 
-// By hand, and so one call wherever a value ends: a derived drop is expanded there, field by field, and makes proofs long.
+// By hand: a derived drop is expanded, field by field, wherever a value ends, and makes proofs long.
 impl Drop for Account {
     fn drop(self) {
         let Account {

@@ -111,7 +111,8 @@ fn log_lines(fact: &Fact) -> &[LogLine]
 
 // Prints the line of a fact, which the lines of its log follow.
 fn put_head(fact: &Fact, out: &mut Vec<u8>) -> Result<(), AllocError>
-    ensures line { OnOk result (out.new.items ≡ out.old.items ++ record_line (head_of fact.now.claim fact.now.evidence)) }
+    ensures line { OnOk result (out.new.items
+        ≡ out.old.items ++ record_line (head_of fact.now.claim fact.now.evidence)) }
     ensures writable { OnOk result (IsWritable (head_of fact.now.claim fact.now.evidence)) }
 {
     match &fact.evidence {

@@ -1,6 +1,7 @@
 -- The lines after the header of an AIGER file (AIGER 1.9): inputs, outputs and AND gates of the ASCII form, whose
 -- gates may stand in any order; of the binary form only the outputs.
-use Rattle.std.specs.Prelude.{◌≡◌, ◌≢◌, ℕ, ◌+◌, ◌*◌, ◌/◌, ◌%◌, ◌<◌, ◌≤◌, ◌==◌, Bool, true, false, IsTrue, List, [], ◌∷◌, ◌++◌, length, map, take, drop, All, AllPairs, Contains, Some, slice_index_or, replicate, if◌then◌else◌}
+use Rattle.std.specs.Prelude.{◌≡◌, ◌≢◌, ℕ, ◌+◌, ◌*◌, ◌/◌, ◌%◌, ◌<◌, ◌≤◌, ◌==◌, Bool, true, false, IsTrue, List, [], ◌∷◌, ◌++◌, length, map, take, drop, All}
+use Rattle.std.specs.Prelude.{AllPairs, Contains, Some, slice_index_or, replicate, if◌then◌else◌}
 use Rattle.std.specs.List.{position_or_len}
 use Rattle.text_core.specs.Lines.{lines, text_of_lines}
 use Rattle.circuits.specs.declared.netlist.Lit.{Lit}

@@ -1,5 +1,6 @@
 -- The first line of an AIGER file (AIGER 1.9): `aag` or `aig`, the numbers M I L O A, and at most four more, B C J F.
-use Rattle.std.specs.Prelude.{◌≡◌, ℕ, ◌+◌, ◌≤◌, ◌||◌, Bool, IsTrue, List, [], ◌∷◌, length, map, take, drop, Option, None, Some, nat_lt, codes, slice_index_or, if◌then◌else◌}
+use Rattle.std.specs.Prelude.{◌≡◌, ℕ, ◌+◌, ◌≤◌, ◌||◌, Bool, IsTrue, List, [], ◌∷◌, length, map, take, drop, Option, None, Some, nat_lt, codes, slice_index_or}
+use Rattle.std.specs.Prelude.{if◌then◌else◌}
 use Rattle.std.specs.List.{list_any}
 use Rattle.text_core.specs.Lines.{lines}
 use Rattle.net_file.specs.declared.fault.NetKind.{NetKind}

@@ -1,5 +1,6 @@
 -- The symbols after the body of an AIGER file (AIGER 1.9): a line for each port that has a name, then a comment.
-use Rattle.std.specs.Prelude.{◌≡◌, ◌≢◌, ℕ, ◌+◌, ◌<◌, ◌⊎◌, ◌==◌, Bool, true, false, not, List, [], ◌∷◌, ◌++◌, length, take, All, Option, None, Some, slice_index_or, slice_set, take_while}
+use Rattle.std.specs.Prelude.{◌≡◌, ◌≢◌, ℕ, ◌+◌, ◌<◌, ◌⊎◌, ◌==◌, Bool, true, false, not, List, [], ◌∷◌, ◌++◌, length, take, All, Option, None, Some}
+use Rattle.std.specs.Prelude.{slice_index_or, slice_set, take_while}
 use Rattle.std.specs.Fmt.{decimal}
 use Rattle.circuits.specs.Literals.{EachAt}
 use Rattle.circuits.specs.declared.port.PortKind.{PortKind}

@@ -1,11 +1,13 @@
 //! The lines after the header: of the ASCII form the inputs, outputs and gates, of the binary form the outputs.
 
-ghost use Rattle.std.specs.Prelude.{true, ◌≡◌, ℕ, ◌+◌, ◌<◌, ◌++◌, List, [], ◌∷◌, length, IfOk, IfErr, OnOk, vec_len, slice_index_or, slice_set};
+ghost use Rattle.std.specs.Prelude.{true, ◌≡◌, ℕ, ◌+◌, ◌<◌, ◌++◌, List, [], ◌∷◌, length, IfOk, IfErr, OnOk, vec_len};
+ghost use Rattle.std.specs.Prelude.{slice_index_or, slice_set};
 ghost use Rattle.std.specs.Bool.{OnTrue, OnFalse};
 ghost use Rattle.aiger_reader.specs.Numbers.{header_of};
 ghost use Rattle.aiger_reader.specs.Bodies.{line_offset, AreLines};
 ghost use Rattle.aiger_reader.specs.Numbered.{IsSound};
-ghost use Rattle.aiger_reader.specs.Reading.{rows_of, input_lines_of, gate_lines_of, IsAtLine, IsReading, IsBodyReading, IsWanted, HasCounts, IsRowRead, IsStop};
+ghost use Rattle.aiger_reader.specs.Reading.{rows_of, input_lines_of, gate_lines_of, IsAtLine, IsReading};
+ghost use Rattle.aiger_reader.specs.Reading.{IsBodyReading, IsWanted, HasCounts, IsRowRead, IsStop};
 
 use crate::limits::Header;
 use crate::literals::read_line;

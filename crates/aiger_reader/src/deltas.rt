@@ -1,8 +1,10 @@
 //! The AND gates of the binary AIGER form, each as two deltas.
 
-ghost use Rattle.std.specs.Prelude.{◌≡◌, ℕ, ◌+◌, ◌-◌, ◌^◌, ◌<◌, ◌≤◌, List, [], ◌∷◌, length, IfSome, IfNone, IfOk, IfErr, vec_len};
+ghost use Rattle.std.specs.Prelude.{◌≡◌, ℕ, ◌+◌, ◌-◌, ◌^◌, ◌<◌, ◌≤◌, List, [], ◌∷◌, length, IfSome, IfNone, IfOk};
+ghost use Rattle.std.specs.Prelude.{IfErr, vec_len};
 ghost use Rattle.std.specs.Option.{SomeIff};
-ghost use Rattle.aiger_reader.specs.Deltas.{BeginsGroups, BeginsDelta, BeginsNoDelta, BeginsOperand, BeginsFirst, BeginsSecond, BeginsGates, IsBadPair, IsPairStop};
+ghost use Rattle.aiger_reader.specs.Deltas.{BeginsGroups, BeginsDelta, BeginsNoDelta, BeginsOperand, BeginsFirst};
+ghost use Rattle.aiger_reader.specs.Deltas.{BeginsSecond, BeginsGates, IsBadPair, IsPairStop};
 
 use net_file::{NetFault, NetKind, NetStop};
 use std::alloc::Global;

@@ -1,10 +1,13 @@
 //! The first line of a file in either form.
 
-ghost use Rattle.std.specs.Prelude.{◌≡◌, ℕ, ◌≤◌, ◌↔◌, Bool, List, length, map, take, IsTrue, Some, None, IfOk, IfErr, IfSome, IfNone, nat_lt};
+ghost use Rattle.std.specs.Prelude.{◌≡◌, ℕ, ◌≤◌, ◌↔◌, Bool, List, length, map, take, IsTrue, Some, None, IfOk, IfErr};
+ghost use Rattle.std.specs.Prelude.{IfSome, IfNone, nat_lt};
 ghost use Rattle.std.specs.List.{list_any};
 ghost use Rattle.aiger_reader.specs.Words.{numbers_on, AreSmall};
-ghost use Rattle.aiger_reader.specs.Headers.{AigerHeader, keyword, line_after, WritesHeader, HasHeader, Begins, header_fault};
-ghost use Rattle.aiger_reader.specs.Numbers.{header_of, header_from, WritesNumbers, HasNumbers, IsCounted, IsHeaderFault};
+ghost use Rattle.aiger_reader.specs.Headers.{AigerHeader, keyword, line_after, WritesHeader, HasHeader, Begins};
+ghost use Rattle.aiger_reader.specs.Headers.{header_fault};
+ghost use Rattle.aiger_reader.specs.Numbers.{header_of, header_from, WritesNumbers, HasNumbers, IsCounted};
+ghost use Rattle.aiger_reader.specs.Numbers.{IsHeaderFault};
 
 pub(crate) use crate::limits::Header;
 use crate::limits::{MOST_GATES, MOST_INPUTS, MOST_OUTPUTS, MOST_VARIABLES};

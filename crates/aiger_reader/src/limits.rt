@@ -1,7 +1,8 @@
 //! How large a file may be that is read.
 
 ghost use Rattle.std.specs.Prelude.{◌≤◌};
-ghost use Rattle.aiger_reader.specs.declared.limits.TheConstants.{MOST_INPUTS, MOST_OUTPUTS, MOST_GATES, MOST_VARIABLES};
+ghost use Rattle.aiger_reader.specs.declared.limits.TheConstants.{MOST_INPUTS, MOST_OUTPUTS, MOST_GATES};
+ghost use Rattle.aiger_reader.specs.declared.limits.TheConstants.{MOST_VARIABLES};
 
 /// The most inputs that are accepted.
 pub(crate) const MOST_INPUTS: u32 = 1024;

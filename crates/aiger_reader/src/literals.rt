@@ -1,6 +1,7 @@
 //! The literals on a line.
 
-ghost use Rattle.std.specs.Prelude.{◌≡◌, ℕ, ◌%◌, ◌^◌, ◌<◌, ◌≤◌, ◌↔◌, min, List, length, map, All, IsTrue, Some, IfOk, IfErr, IfNone, OnSome, OnOk};
+ghost use Rattle.std.specs.Prelude.{◌≡◌, ℕ, ◌%◌, ◌^◌, ◌<◌, ◌≤◌, ◌↔◌, min, List, length, map, All, IsTrue, Some, IfOk};
+ghost use Rattle.std.specs.Prelude.{IfErr, IfNone, OnSome, OnOk};
 ghost use Rattle.std.specs.Option.{option_map};
 ghost use Rattle.text_core.specs.Numbers.{number};
 ghost use Rattle.net_file.specs.Stops.{IsStopBy};

@@ -1,10 +1,13 @@
 //! The symbols after the body of an AIGER file: lines that name its ports.
 
-ghost use Rattle.std.specs.Prelude.{◌≡◌, ◌≢◌, ℕ, ◌+◌, ◌<◌, ◌^◌, List, [], ◌∷◌, ◌++◌, length, Option, IfSome, IfNone, IfOk, IfErr, OnOk, replicate, slice_index_or};
+ghost use Rattle.std.specs.Prelude.{◌≡◌, ◌≢◌, ℕ, ◌+◌, ◌<◌, ◌^◌, List, [], ◌∷◌, ◌++◌, length, Option, IfSome, IfNone};
+ghost use Rattle.std.specs.Prelude.{IfOk, IfErr, OnOk, replicate, slice_index_or};
 ghost use Rattle.std.specs.Fmt.{decimal as digits_of_number};
 ghost use Rattle.circuits.specs.declared.port.PortKind.{PortKind};
 ghost use Rattle.circuits.specs.declared.port.PortKind.TheVariants.{Input, Output};
-ghost use Rattle.aiger_reader.specs.Symbols.{is_comment, IsWithoutReturn, Port, Entry, NamesPort, BeginsPosition, letter_of, port_at, AreSlots, ArePortSlots, IsPut, TakesName, TakesLine, ArePortNames, name_or, AreSymbols, IsSymbolStop, AreNames};
+ghost use Rattle.aiger_reader.specs.Symbols.{is_comment, IsWithoutReturn, Port, Entry, NamesPort, BeginsPosition};
+ghost use Rattle.aiger_reader.specs.Symbols.{letter_of, port_at, AreSlots, ArePortSlots, IsPut, TakesName, TakesLine};
+ghost use Rattle.aiger_reader.specs.Symbols.{ArePortNames, name_or, AreSymbols, IsSymbolStop, AreNames};
 
 use crate::words::has_no_word;
 use circuits::PortKind;

@@ -1,6 +1,7 @@
 //! The cones of a circuit's outputs, kept for the next question about the same output.
 
-ghost use Rattle.std.specs.Prelude.{◌≡◌, ◌==◌, ◌<◌, ℕ, [], IfOk, IfSome, OnErr, OnOk, Some as There, if◌then◌else◌, length};
+ghost use Rattle.std.specs.Prelude.{◌≡◌, ◌==◌, ◌<◌, ℕ, [], IfOk, IfSome, OnErr, OnOk, Some as There, if◌then◌else◌};
+ghost use Rattle.std.specs.Prelude.{length};
 ghost use Rattle.ban_check.specs.Cones.{cone_kept, AreCones, IsConeOf};
 
 use indexmap::IndexMap;

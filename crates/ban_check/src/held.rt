@@ -1,6 +1,7 @@
 //! Pairs that are held, found by their ports.
 
-ghost use Rattle.std.specs.Prelude.{◌≡◌, ◌↔◌, ◌⊎◌, ◌+◌, ◌<◌, Any, IfOk, IsTrue, OnOk, Some as There, if◌then◌else◌, length};
+ghost use Rattle.std.specs.Prelude.{◌≡◌, ◌↔◌, ◌⊎◌, ◌+◌, ◌<◌, Any, IfOk, IsTrue, OnOk, Some as There, if◌then◌else◌};
+ghost use Rattle.std.specs.Prelude.{length};
 ghost use Rattle.account_core.specs.Covers.{IsImpossible};
 ghost use Rattle.account_core.specs.Ports.{AreOrdered};
 ghost use Rattle.ban_check.specs.Held.{found_at, port_of, IsAnothers, IsIndexOf, IsIndexOfFirst};

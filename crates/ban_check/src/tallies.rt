@@ -2,7 +2,8 @@
 
 ghost use Rattle.std.specs.Prelude.{◌≡◌, ◌↔◌, ℕ, ◌+◌, ◌≤◌, Any, IfSome, IsTrue, Some};
 ghost use Rattle.account_core.specs.Tallies.{shapes_of, IsTally, SayOf};
-ghost use Rattle.ban_check.specs.Counted.{one_input, twin_input, ArePaired, AreTooMany, GoOverInputs, GoOverTwice, HaveTooMany, IsNext, SaysOf};
+ghost use Rattle.ban_check.specs.Counted.{one_input, twin_input, ArePaired, AreTooMany, GoOverInputs, GoOverTwice};
+ghost use Rattle.ban_check.specs.Counted.{HaveTooMany, IsNext, SaysOf};
 
 use crate::given::Given;
 use account_core::{Tallied, port_on};

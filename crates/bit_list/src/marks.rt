@@ -1,14 +1,15 @@
 //! Marks of numbers.
 
-ghost use Rattle.std.specs.Prelude.{◌≡◌, ◌<◌, true, false, All, IfOk, IfSome, OnOk, OnErr, length, replicate, slice_index_or, slice_set, if◌then◌else◌};
+ghost use Rattle.std.specs.Prelude.{◌≡◌, ◌<◌, true, false, All, IfOk, IfSome, OnOk, OnErr, length, replicate};
+ghost use Rattle.std.specs.Prelude.{slice_index_or, slice_set, if◌then◌else◌};
 ghost use Rattle.bit_list.specs.Marking.{AreBelow, listed_marks, marks_in};
 
 use indexmap::IndexSet;
 use std::alloc::{AllocError, Global};
 use std::marker::Model;
 
-/// A table costs a byte for each number, all zeroed at once, and a set a hash and some 40 bytes for each mark. With one mark for
-/// this many numbers both are reckoned, not measured, to cost as much.
+/// A table costs a byte for each number, all zeroed at once, and a set a hash and some 40 bytes for each mark. With one
+/// mark for this many numbers both are reckoned, not measured, to cost as much.
 const NUMBERS_A_MARK: usize = 1024;
 
 /// Which of the numbers below a count are marked. Contracts see a list with a bit for each of these numbers.
@@ -41,7 +42,7 @@ impl Model for Marks {
     ghost invariant = { λ a. AreBelow a.form };
 }
 
-// By hand, and so one call wherever a value ends: a derived drop is expanded there, field by field, and makes proofs long.
+// By hand: a derived drop is expanded, field by field, wherever a value ends, and makes proofs long.
 impl Drop for Marks {
     fn drop(self) {
         let Marks { form: _form } = self;

@@ -1,6 +1,7 @@
 -- Rows of a cover (Berkeley Logic Interchange Format, 1992): a byte for each operand, `0` for complemented, `1` for not
 -- complemented, `-` for not used; and the byte of the output, `1` in the on-set and `0` in the off-set.
-use Rattle.std.specs.Prelude.{ℕ, ◌-◌, ◌==◌, ◌&&◌, ◌||◌, not, Bool, List, [], ◌∷◌, length, map, reverse, take_while, Option, None, Some, slice_index_or, if◌then◌else◌}
+use Rattle.std.specs.Prelude.{ℕ, ◌-◌, ◌==◌, ◌&&◌, ◌||◌, not, Bool, List, [], ◌∷◌, length, map, reverse, take_while, Option, None, Some, slice_index_or}
+use Rattle.std.specs.Prelude.{if◌then◌else◌}
 use Rattle.std.specs.List.{list_all, list_any}
 use Rattle.std.specs.Str.{bytes_eq}
 use Rattle.text_core.specs.Piece.{Piece}

@@ -1,6 +1,7 @@
 //! A second pass over the lines: the covers and the outputs, by the numbers of their names.
 
-ghost use Rattle.std.specs.Prelude.{◌≡◌, ◌≢◌, ◌+◌, ◌-◌, ◌<◌, ◌^◌, ◌==◌, ◌&&◌, ◌∷◌, [], ◌++◌, length, map, All, None, false, slice_index_or, MatchOption, IsOk, OnOk, IfOk, IfErr};
+ghost use Rattle.std.specs.Prelude.{◌≡◌, ◌≢◌, ◌+◌, ◌-◌, ◌<◌, ◌^◌, ◌==◌, ◌&&◌, ◌∷◌, [], ◌++◌, length, map, All, None};
+ghost use Rattle.std.specs.Prelude.{false, slice_index_or, MatchOption, IsOk, OnOk, IfOk, IfErr};
 ghost use Rattle.std.specs.List.{list_any, position_or_len};
 ghost use Rattle.std.specs.Str.{bytes_eq};
 ghost use Rattle.circuits.specs.declared.netlist.Lit.{Lit};

@@ -3,7 +3,8 @@
 ghost use Rattle.std.specs.Prelude.{◌≡◌, ◌+◌, ◌<◌, ◌≤◌, [], length, reverse, take, true, false, IfNone, if◌then◌else◌};
 ghost use Rattle.std.specs.List.{before_first, position_or_len, prefix_len};
 ghost use Rattle.text_core.specs.Bytes.{is_blank};
-ghost use Rattle.blif_reader.specs.JoinedLines.{lines_at, words_at, joined, line_words, content, trimmed, is_comment_sign, ends_with_backslash, without_backslash, goes_on};
+ghost use Rattle.blif_reader.specs.JoinedLines.{lines_at, words_at, joined, line_words, content, trimmed};
+ghost use Rattle.blif_reader.specs.JoinedLines.{is_comment_sign, ends_with_backslash, without_backslash, goes_on};
 ghost use Rattle.blif_reader.specs.Reading.{words_left, lines_left, size_left, TakesWord, TakesLine};
 
 use text_core::{Cursor, Span, is_blank, next_word};

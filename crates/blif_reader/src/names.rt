@@ -5,7 +5,8 @@ ghost use Rattle.std.specs.List.{list_any, position_or_len};
 ghost use Rattle.std.specs.Str.{bytes_eq};
 ghost use Rattle.text_core.specs.Piece.{Piece};
 ghost use Rattle.net_file.specs.Stops.{IsStopBy};
-ghost use Rattle.blif_reader.specs.Numbers.{names_of, bytes_of, IsAdded, AreNamed, AreDefined, IsRepeatedPort, IsRepeatedName};
+ghost use Rattle.blif_reader.specs.Numbers.{names_of, bytes_of, IsAdded, AreNamed, AreDefined, IsRepeatedPort};
+ghost use Rattle.blif_reader.specs.Numbers.{IsRepeatedName};
 
 use crate::survey::Port;
 use circuits::PortKind;

@@ -1,9 +1,11 @@
 //! Rows of covers.
 
-ghost use Rattle.std.specs.Prelude.{◌≡◌, ◌+◌, ◌<◌, ◌∷◌, ◌&&◌, ◌||◌, not, true, false, None, Some, length, slice_index_or, MatchOption, IfOk, IfErr};
+ghost use Rattle.std.specs.Prelude.{◌≡◌, ◌+◌, ◌<◌, ◌∷◌, ◌&&◌, ◌||◌, not, true, false, None, Some, length};
+ghost use Rattle.std.specs.Prelude.{slice_index_or, MatchOption, IfOk, IfErr};
 ghost use Rattle.std.specs.List.{list_all};
 ghost use Rattle.text_core.specs.Piece.{Piece};
-ghost use Rattle.blif_reader.specs.Rows.{is_bit_byte, is_literal_byte, literal_bytes, output_byte, has_widths, has_good_bytes};
+ghost use Rattle.blif_reader.specs.Rows.{is_bit_byte, is_literal_byte, literal_bytes, output_byte, has_widths};
+ghost use Rattle.blif_reader.specs.Rows.{has_good_bytes};
 ghost use Rattle.blif_reader.specs.Reading.{words_left, lines_left};
 ghost use Rattle.blif_reader.specs.Surveys.{words_in_row, is_mixed, fault_by_cover};
 

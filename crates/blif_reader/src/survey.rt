@@ -1,6 +1,7 @@
 //! A first pass over the lines: their faults, the ports, and the names that covers define.
 
-ghost use Rattle.std.specs.Prelude.{◌≡◌, ◌≢◌, ℕ, ◌∷◌, ◌++◌, List, [], length, map, true, false, None, Some, OnOk, IsOk, IfOk, IfErr};
+ghost use Rattle.std.specs.Prelude.{◌≡◌, ◌≢◌, ℕ, ◌∷◌, ◌++◌, List, [], length, map, true, false, None, Some, OnOk, IsOk};
+ghost use Rattle.std.specs.Prelude.{IfOk, IfErr};
 ghost use Rattle.text_core.specs.Piece.{Piece};
 ghost use Rattle.net_file.specs.Stops.{IsStopBy};
 ghost use Rattle.blif_reader.specs.Blif.{blif_lines};

@@ -1,5 +1,6 @@
 -- Signed bijections, and what they do to a vector (permutations with negations: Katebi and Markov, DATE 2010).
-use Rattle.std.specs.Prelude.{ℕ, zero, suc, ◌/◌, ◌%◌, ◌<◌, ◌≡◌, ◌≢◌, ◌==◌, Bool, false, List, [], ◌∷◌, length, map, All, AllPairs, slice_index_or, drop, if◌then◌else◌}
+use Rattle.std.specs.Prelude.{ℕ, zero, suc, ◌/◌, ◌%◌, ◌<◌, ◌≡◌, ◌≢◌, ◌==◌, Bool, false, List, [], ◌∷◌, length, map, All, AllPairs, slice_index_or, drop}
+use Rattle.std.specs.Prelude.{if◌then◌else◌}
 use Rattle.std.specs.List.{range_with_len}
 use Rattle.circuits.specs.Literals.{bit, differ}
 

@@ -1,12 +1,14 @@
 //! The definitions of this crate as programs: slow and obvious, for circuits of a few ports. Each contract
 //! is the definition itself, so that what a test computes here is what the definition says.
 
-ghost use Rattle.std.specs.Prelude.{◌≡◌, ◌≢◌, ◌<◌, ◌≤◌, ◌+◌, ◌↔◌, All, AllPairs, Any, IfOk, IsTrue, OnOk, length, map, vec_len};
+ghost use Rattle.std.specs.Prelude.{◌≡◌, ◌≢◌, ◌<◌, ◌≤◌, ◌+◌, ◌↔◌, All, AllPairs, Any, IfOk, IsTrue, OnOk, length, map};
+ghost use Rattle.std.specs.Prelude.{vec_len};
 ghost use Rattle.circuits.specs.Literals.{EachAt, signal_of, literal_bit, vector_of};
 ghost use Rattle.circuits.specs.Netlists.{IsOrdered, Fits, gate_bit, with_gates, valuation_of, function_of};
 ghost use Rattle.circuits.specs.Bijections.{IsSignedBijection, moved, entries_of};
 ghost use Rattle.circuits.specs.Functions.{as_circuit};
-ghost use Rattle.circuits.specs.Matches.{OutputsAgree, HavePorts, AgreeOn, AgreeOnAll, IsMatch, IsMatchOfFunctions, IsPartOfMatch, AreNpnpEqual, HaveNpnpEqualFunctions};
+ghost use Rattle.circuits.specs.Matches.{OutputsAgree, HavePorts, AgreeOn, AgreeOnAll, IsMatch, IsMatchOfFunctions};
+ghost use Rattle.circuits.specs.Matches.{IsPartOfMatch, AreNpnpEqual, HaveNpnpEqualFunctions};
 
 use crate::netlist::{Gate, Lit, Netlist};
 use std::alloc::{AllocError, Global};

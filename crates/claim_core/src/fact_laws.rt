@@ -6,7 +6,8 @@ ghost use Rattle.circuits.specs.Netlists.{Net};
 ghost use Rattle.claim_core.specs.declared.claims.Shape.{Shape};
 ghost use Rattle.claim_core.specs.declared.claims.Shape.TheVariants.{Up, Down, Swap};
 ghost use Rattle.claim_core.specs.Claims.{output_bit, IsPlaced, ShapeHolds, ShapeFails};
-ghost use Rattle.claim_core.specs.Facts.{InSupport, OutsideSupport, IsPositive, IsNegative, IsBinate, IsSymmetric, IsSkew};
+ghost use Rattle.claim_core.specs.Facts.{InSupport, OutsideSupport, IsPositive, IsNegative, IsBinate, IsSymmetric};
+ghost use Rattle.claim_core.specs.Facts.{IsSkew};
 
 /// Each well-placed claim holds, or a vector breaks it; never both.
 pub fn broken_or_holding()
@@ -33,7 +34,8 @@ pub fn support_by_claims()
 /// An output is positive or negative unate in an input where one claim holds, and binate exactly where both fail.
 pub fn unateness_by_claims()
     ensures positive { (net : Net) (k i : ℕ) → (IsPositive net.inputs (output_bit net k) i ↔ ShapeHolds net k (Up i)) }
-    ensures negative { (net : Net) (k i : ℕ) → (IsNegative net.inputs (output_bit net k) i ↔ ShapeHolds net k (Down i)) }
+    ensures negative { (net : Net) (k i : ℕ)
+        → (IsNegative net.inputs (output_bit net k) i ↔ ShapeHolds net k (Down i)) }
     ensures binate { (net : Net) (k i : ℕ)
         → i < net.inputs
         → (IsBinate net.inputs (output_bit net k) i ↔ (ShapeFails net k (Up i) × ShapeFails net k (Down i))) }
@@ -42,7 +44,9 @@ pub fn unateness_by_claims()
 /// Two inputs are symmetric, or skew symmetric, exactly where two swaps hold.
 pub fn symmetry_by_claims()
     ensures symmetric { (net : Net) (k i j : ℕ)
-        → (IsSymmetric net.inputs (output_bit net k) i j ↔ (ShapeHolds net k (Swap i j false true) × ShapeHolds net k (Swap i j true false))) }
+        → (IsSymmetric net.inputs (output_bit net k) i j
+        ↔ (ShapeHolds net k (Swap i j false true) × ShapeHolds net k (Swap i j true false))) }
     ensures skew { (net : Net) (k i j : ℕ)
-        → (IsSkew net.inputs (output_bit net k) i j ↔ (ShapeHolds net k (Swap i j false false) × ShapeHolds net k (Swap i j true true))) }
+        → (IsSkew net.inputs (output_bit net k) i j
+        ↔ (ShapeHolds net k (Swap i j false false) × ShapeHolds net k (Swap i j true true))) }
 {}

@@ -49,7 +49,7 @@ impl Model for Feeds {
     ghost view = { λ a. feeds_in a.form };
 }
 
-// By hand, and so one call wherever a value ends: a derived drop is expanded there, field by field, and makes proofs long.
+// By hand: a derived drop is expanded, field by field, wherever a value ends, and makes proofs long.
 impl Drop for Feeds {
     fn drop(self) {
         let Feeds { form: _form } = self;

@@ -2,7 +2,8 @@
 
 ghost use Rattle.std.specs.Prelude.{◌≡◌, ◌⊎◌, ◌↔◌, IsNone};
 ghost use Rattle.circuits.specs.declared.port.PortKind.TheVariants.{Output as AnyOutput};
-ghost use Rattle.claim_core.specs.Images.{Lacks, LacksInput, image_of, is_of, moved_one, moved_shape, moved_two, moved_value, pair_of};
+ghost use Rattle.claim_core.specs.Images.{Lacks, LacksInput, image_of, is_of, moved_one, moved_shape, moved_two};
+ghost use Rattle.claim_core.specs.Images.{moved_value, pair_of};
 
 use crate::claims::{Claim, Shape};
 use net_core::{Pair, PortKind, Side};
@@ -34,8 +35,8 @@ fn moved_claim(pairs: &[Pair], claim: &Claim) -> Option<Claim>
     })
 }
 
-/// The first of these pairs that is of this port of the first circuit. A scan: the pairs are those of a ban, two of nearly each,
-/// and in the check of 21,941 bans it takes 0.4 percent of the instructions.
+/// The first of these pairs that is of this port of the first circuit. A scan: the pairs are those of a ban, two of
+/// nearly each, and in the check of 21,941 bans it takes 0.4 percent of the instructions.
 pub fn pair_of(pairs: &[Pair], kind: PortKind, port: u32) -> Option<Pair>
     ensures { result ≡ pair_of pairs.now kind port }
 {

@@ -12,8 +12,8 @@ use items::Items;
 use net_core::{Graphs, Matching, Side};
 use std::alloc::{AllocError, Global};
 
-/// Whether output `output` of the first circuit can have this value where the output that it goes to, inverted where the
-/// matching says so, has not. The matching is right where no vector meets the query of any output and either value.
+/// Whether output `output` of the first circuit can have this value where the output that it goes to, inverted where
+/// the matching says so, has not. The matching is right where no vector meets the query of any output and either value.
 pub fn of_match(
     alloc: Global,
     graphs: &Graphs<'_>,

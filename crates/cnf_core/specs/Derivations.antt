@@ -1,6 +1,7 @@
 -- Derivation of clauses by hinted unit propagation (reverse unit propagation, Goldberg and Novikov, DATE 2003; with hints as
 -- in LRAT, Cruz-Filipe and others, CADE 2017; the kinds of fault and their order are this project's).
-use Rattle.std.specs.Prelude.{◌≡◌, ℕ, ◌==◌, ◌&&◌, ◌||◌, not, Bool, true, false, List, [], ◌∷◌, ◌++◌, length, map, filter, take, Option, None, Some, nat_lt, if◌then◌else◌}
+use Rattle.std.specs.Prelude.{◌≡◌, ℕ, ◌==◌, ◌&&◌, ◌||◌, not, Bool, true, false, List, [], ◌∷◌, ◌++◌, length, map, filter, take, Option, None, Some, nat_lt}
+use Rattle.std.specs.Prelude.{if◌then◌else◌}
 use Rattle.std.specs.List.{list_any, list_all}
 use Rattle.circuits.specs.Literals.{EachAt}
 use Rattle.cnf_core.specs.declared.literal.SatLit.{SatLit}

@@ -9,7 +9,8 @@ use crate::literal::SatLit;
 use std::alloc::{AllocError, Global};
 use std::marker::Model;
 
-/// A partial assignment, by the literals that were made true. The opposites of these are false, and all others are open.
+/// A partial assignment, by the literals that were made true. The opposites of these are false, and all others are
+/// open.
 pub trait Assignment {
     /// The literals that were made true.
     ghost made: { Self → List AnyLiteral };

@@ -6,8 +6,8 @@ ghost use Rattle.cnf_core.specs.Charges.{Charging, IsCharged, IsRefused};
 use crate::log::LogLine;
 use crate::stop::Stop;
 
-/// What learned lines are charged to. The lines are added to the entry that is open, and each of them costs one unit of a
-/// budget.
+/// What learned lines are charged to. The lines are added to the entry that is open, and each of them costs one unit of
+/// a budget.
 pub trait Charge {
     /// What there is beside the lines of the open entry. No charge changes it.
     ghost Others: { Type 0 };

@@ -57,7 +57,8 @@ fn with_signs(
     places: &[u32],
 ) -> Result<Items<(u32, bool)>, AllocError>
     ensures places { IfOk result (λ ports. map (λ port. port.0) ports ≡ places.now) }
-    ensures drawn { IfOk result (λ ports. (ports, random.new) ≡ signed_places places.now (length places.now) random.old) }
+    ensures drawn { IfOk result (λ ports. (ports, random.new)
+        ≡ signed_places places.now (length places.now) random.old) }
 {
     let mut ports = Items::new(alloc);
     for place in places.iter() {

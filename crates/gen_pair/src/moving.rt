@@ -20,7 +20,8 @@ pub(crate) fn moved_graph(
     ensures matches { IfOk result
         (λ second. IsMatchOfFunctions graph.now second matching.now.inputs matching.now.outputs) }
     ensures gates { IfOk result (λ second. second.gates ≡ map (moved_gate matching.now.inputs) graph.now.gates) }
-    ensures outputs { IfOk result (λ second. AreMovedOutputs matching.now.inputs matching.now.outputs graph.now.outputs second.outputs) }
+    ensures outputs { IfOk result (λ second.
+        AreMovedOutputs matching.now.inputs matching.now.outputs graph.now.outputs second.outputs) }
     ensures sound { IfOk result IsGraph }
 {
     let gates = moved_gates(alloc, graph.gates(), &matching.inputs)?;

@@ -82,7 +82,8 @@ fn first_graph(alloc: Global, random: &mut Lcg64Xsh32) -> Result<Graph, AllocErr
 fn hidden_matching(alloc: Global, random: &mut Lcg64Xsh32) -> Result<Matching, AllocError>
     ensures inputs { IfOk result (λ matching. IsSignedBijection 64 matching.inputs) }
     ensures outputs { IfOk result (λ matching. IsSignedBijection 32 matching.outputs) }
-    ensures drawn { IfOk result (λ matching. ((matching.inputs, matching.outputs), random.new) ≡ hidden_matching random.old) }
+    ensures drawn { IfOk result (λ matching.
+        ((matching.inputs, matching.outputs), random.new) ≡ hidden_matching random.old) }
 {
     let inputs = hidden_ports(alloc, random, INPUTS)?;
     let outputs = hidden_ports(alloc, random, OUTPUTS)?;

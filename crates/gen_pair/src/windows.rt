@@ -1,11 +1,13 @@
 //! The first netlist of a pair: for each output a window of inputs, mixed by multiplexers, and the AND of a few of its
 //! literals.
 
-ghost use Rattle.std.specs.Prelude.{◌≡◌, [], ◌+◌, ◌*◌, ◌-◌, ◌<◌, ◌≤◌, ◌^◌, min, All, IfOk, OnOk, length, nat_lt, if◌then◌else◌};
+ghost use Rattle.std.specs.Prelude.{◌≡◌, [], ◌+◌, ◌*◌, ◌-◌, ◌<◌, ◌≤◌, ◌^◌, min, All, IfOk, OnOk, length, nat_lt};
+ghost use Rattle.std.specs.Prelude.{if◌then◌else◌};
 ghost use Rattle.circuits.specs.Literals.{signal_of};
 ghost use Rattle.net_core.specs.Graph.{AreInOrder};
 ghost use Rattle.gen_pair.specs.Growing.{IsThere, Grows};
-ghost use Rattle.gen_pair.specs.Mixing.{with_and, with_multiplexer, mixing, mixed_once, mixed, joining, joined, window_of, making, with_output, made};
+ghost use Rattle.gen_pair.specs.Mixing.{with_and, with_multiplexer, mixing, mixed_once, mixed, joining, joined};
+ghost use Rattle.gen_pair.specs.Mixing.{window_of, making, with_output, made};
 
 use crate::drawing::{draw, draw_bit};
 use crate::moving::signed;
@@ -141,7 +143,8 @@ fn multiplexer(select: Lit, low: Lit, high: Lit, gates: &mut Vec<Gate>) -> Resul
     requires high { IsThere gates.old.items high }
     ensures gates { OnOk result (Grows 3 gates.old.items gates.new.items) }
     ensures there { IfOk result (IsThere gates.new.items) }
-    ensures made { IfOk result (λ literal. (gates.new.items, literal) ≡ with_multiplexer select low high gates.old.items) }
+    ensures made { IfOk result (λ literal. (gates.new.items, literal)
+        ≡ with_multiplexer select low high gates.old.items) }
 {
     let chosen = and(select, low, gates)?;
     let rest = and(select.inverse(), high, gates)?;

@@ -1,5 +1,6 @@
 //! The list type and the standard traits at it. Comparisons and hashes are those of the slice.
-ghost use Rattle.std.specs.Prelude.{◌≡◌, ◌^◌, ◌-◌, ◌<◌, ◌==◌, ◌↔◌, ◌∷◌, [], ◌++◌, length, take, slice_index_or, slice_set, option_to_list, IsSome, IfOk, OnOk, OnErr, IfErr};
+ghost use Rattle.std.specs.Prelude.{◌≡◌, ◌^◌, ◌-◌, ◌<◌, ◌==◌, ◌↔◌, ◌∷◌, [], ◌++◌, length, take, slice_index_or};
+ghost use Rattle.std.specs.Prelude.{slice_set, option_to_list, IsSome, IfOk, OnOk, OnErr, IfErr};
 ghost use Rattle.std.specs.List.{AllZip};
 ghost use Rattle.std.specs.Borrow.{sem};
 ghost use Rattle.std.specs.Cmp.Lexicographic.{pointwise, lists_per, lists_equiv};
@@ -210,7 +211,8 @@ impl<T: Drop> IntoIterator for Items<T> {
 
     type IntoIter = vec::IntoIter<T>;
 
-    ghost into_iter_gives = { λ items iter. (into_iter_items iter ≡ items) × (into_iter_len iter ≡ length items) × (into_iter_len iter < 2 ^ 64)
+    ghost into_iter_gives = { λ items iter. (into_iter_items iter ≡ items) × (into_iter_len iter ≡ length items)
+        × (into_iter_len iter < 2 ^ 64)
         × EveryRun (into_iter_steps {X = T} {Z = Global}) (λ p. ItemsAre p (into_iter_items p.from)) };
 
     fn into_iter(self) -> vec::IntoIter<T> {

@@ -1,5 +1,6 @@
 -- The cone of an output: the gates that it reaches through operands (the transitive fan-in of textbooks of logic synthesis).
-use Rattle.std.specs.Prelude.{◌≡◌, ◌⊎◌, ◌↔◌, ℕ, ◌+◌, ◌-◌, ◌<◌, ◌≤◌, eqb, Bool, true, false, List, [], ◌∷◌, ◌++◌, length, All, Contains, slice_index_or, slice_set}
+use Rattle.std.specs.Prelude.{◌≡◌, ◌⊎◌, ◌↔◌, ℕ, ◌+◌, ◌-◌, ◌<◌, ◌≤◌, eqb, Bool, true, false, List, [], ◌∷◌, ◌++◌, length, All, Contains, slice_index_or}
+use Rattle.std.specs.Prelude.{slice_set}
 use Rattle.std.specs.List.{IsDistinct}
 use Rattle.circuits.specs.declared.netlist.Gate.{Gate}
 use Rattle.circuits.specs.Literals.{EachAt, bit, signal_of}

@@ -1,6 +1,7 @@
 //! Cones of outputs.
 
-ghost use Rattle.std.specs.Prelude.{◌≡◌, ◌+◌, ◌<◌, ◌↔◌, ℕ, [], false, All, AllPairs, Contains, IfOk, OnOk, length, replicate};
+ghost use Rattle.std.specs.Prelude.{◌≡◌, ◌+◌, ◌<◌, ◌↔◌, ℕ, [], false, All, AllPairs, Contains, IfOk, OnOk, length};
+ghost use Rattle.std.specs.Prelude.{replicate};
 ghost use Rattle.net_core.specs.Graph.{AreInOrder};
 ghost use Rattle.net_core.specs.Cones.{AreReachedFrom, IsFoundBy, ReachesGate};
 
@@ -44,7 +45,8 @@ fn reached(alloc: Global, gates: &[Gate], first: u32, signal: u32) -> Result<Vec
     Ok(found)
 }
 
-/// Finds the gates that a signal reaches, breadth first: its own one, then those of the operands of each that was found.
+/// Finds the gates that a signal reaches, breadth first: its own one, then those of the operands of each that was
+/// found.
 fn find_all(
     alloc: Global,
     gates: &[Gate],

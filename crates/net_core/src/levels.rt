@@ -3,7 +3,8 @@
 
 ghost use Rattle.std.specs.Prelude.{◌≡◌, ◌+◌, ◌-◌, ◌<◌, [], ◌∷◌, ◌++◌, length, take, vec_len, slice_set, IfOk, IfErr};
 ghost use Rattle.circuits.specs.Circuits.{signals_in};
-ghost use Rattle.net_core.specs.Search.{IsUnderWay, IsReady, IsLooked, Knows, IsSeen, IsNextEvent, IsFaultAt, IsFaultOf, AreAllFound, left, positions};
+ghost use Rattle.net_core.specs.Search.{IsUnderWay, IsReady, IsLooked, Knows, IsSeen, IsNextEvent, IsFaultAt};
+ghost use Rattle.net_core.specs.Search.{IsFaultOf, AreAllFound, left, positions};
 ghost use Rattle.net_core.specs.Orders.{AreLevels};
 
 use crate::order_fault::OrderFault;
@@ -43,7 +44,8 @@ enum Seen {
 
 /// What the search meets next at a definition on the stack.
 enum SearchEvent {
-    /// A name that leads on: the definition at this place is looked at first, and then this one from where the frame says.
+    /// A name that leads on: the definition at this place is looked at first, and then this one from where the frame
+    /// says.
     Enter { place: usize, looked: Frame },
     /// The end of its names: the definition has this level, and is left.
     Close(u32),

@@ -4,7 +4,8 @@ ghost use Rattle.std.specs.Prelude.{◌≡◌, ℕ, ◌+◌, ◌<◌, ◌^◌, L
 ghost use Rattle.std.specs.Fmt.{decimal};
 ghost use Rattle.circuits.specs.Literals.{signal_of};
 ghost use Rattle.text_core.specs.Extends.{Extends};
-ghost use Rattle.net_print.specs.BlifLines.{covers_from, gate_lines, operands_text, output_lines, row_byte, signal_name, words_text};
+ghost use Rattle.net_print.specs.BlifLines.{covers_from, gate_lines, operands_text, output_lines, row_byte};
+ghost use Rattle.net_print.specs.BlifLines.{signal_name, words_text};
 
 use crate::ports::put_name;
 use net_core::{Gate, Lit};

@@ -1,7 +1,8 @@
 //! The report of a circuit's functions.
 
 ghost use Rattle.std.specs.Prelude.{◌≡◌, ◌<◌, ◌≤◌, [], ◌∷◌, ◌++◌, length, All, OnOk, OnErr};
-ghost use Rattle.port_report.specs.Infos.{IsInRange, count_line, info_text, input_line, input_lines, output_line, output_text, output_texts, pair_line, pair_lines, sym_word, unate_word};
+ghost use Rattle.port_report.specs.Infos.{IsInRange, count_line, info_text, input_line, input_lines, output_line};
+ghost use Rattle.port_report.specs.Infos.{output_text, output_texts, pair_line, pair_lines, sym_word, unate_word};
 ghost use Rattle.port_report.specs.Reports.{names_of};
 ghost use Rattle.text_core.specs.Extends.{Extends};
 
@@ -76,7 +77,8 @@ fn put_output(
 ) -> Result<(), AllocError>
     requires port { port < length outputs.now }
     requires inputs { IsInRange (length inputs.now) row.now }
-    ensures ok { OnOk result (out.new.items ≡ out.old.items ++ output_text (record { inputs = inputs.now; outputs = outputs.now }) port row.now) }
+    ensures ok { OnOk result (out.new.items
+        ≡ out.old.items ++ output_text (record { inputs = inputs.now; outputs = outputs.now }) port row.now) }
     ensures kept { Extends out.old.items out.new.items }
 {
     put_output_line(outputs, port, row.support.len(), out)?;

@@ -18,7 +18,8 @@ pub fn put_rejected(line: u64, word: &str, out: &mut Vec<u8>) -> Result<(), Allo
 
 // Writes a line of a text, a number and a word.
 fn put_line(text: &[u8], number: u64, word: &[u8], out: &mut Vec<u8>) -> Result<(), AllocError>
-    ensures ok { OnOk result (out.new.items ≡ out.old.items ++ (text.now ++ decimal number ++ 32 ∷ word.now ++ 10 ∷ [])) }
+    ensures ok { OnOk result (out.new.items
+        ≡ out.old.items ++ (text.now ++ decimal number ++ 32 ∷ word.now ++ 10 ∷ [])) }
     ensures kept { Extends out.old.items out.new.items }
 {
     put_text(text, out)?;

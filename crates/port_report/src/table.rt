@@ -21,7 +21,8 @@ pub fn put_match(
     requires outputs { length second.now.graph.outputs ≡ length first.now.graph.outputs }
     requires inputs_placed { IsSignedBijection first.now.graph.inputs matching.now.inputs }
     requires outputs_placed { IsSignedBijection (length first.now.graph.outputs) matching.now.outputs }
-    ensures ok { OnOk result (out.new.items ≡ out.old.items ++ table_text (names_of first.now) (names_of second.now) matching.now) }
+    ensures ok { OnOk result (out.new.items
+        ≡ out.old.items ++ table_text (names_of first.now) (names_of second.now) matching.now) }
     ensures kept { OnErr result (Extends out.old.items out.new.items) }
 {
     put_entries(
@@ -50,7 +51,8 @@ fn put_entries(
 ) -> Result<(), AllocError>
     requires ports { length entries.now ≤ length firsts.now }
     requires places { All (λ entry. entry.0 < length seconds.now) entries.now }
-    ensures ok { OnOk result (out.new.items ≡ out.old.items ++ entry_lines kind.now firsts.now seconds.now 0 entries.now) }
+    ensures ok { OnOk result (out.new.items
+        ≡ out.old.items ++ entry_lines kind.now firsts.now seconds.now 0 entries.now) }
     ensures kept { Extends out.old.items out.new.items }
 {
     for (port, entry) in entries.iter().enumerate() {
@@ -85,7 +87,8 @@ fn put_place(
     out: &mut Vec<u8>,
 ) -> Result<(), AllocError>
     requires { entry.0 < length seconds.now }
-    ensures ok { OnOk result (out.new.items ≡ out.old.items ++ ((if entry.1 then codes "not " else []) ++ (port_among kind.now seconds.now entry.0 ++ 10 ∷ []))) }
+    ensures ok { OnOk result (out.new.items ≡ out.old.items
+        ++ ((if entry.1 then codes "not " else []) ++ (port_among kind.now seconds.now entry.0 ++ 10 ∷ []))) }
     ensures kept { Extends out.old.items out.new.items }
 {
     let (place, inverted) = entry;

@@ -42,8 +42,8 @@ pub fn blif_reads_back()
         → Computes net (printed_circuit net) }
 {}
 
-/// What is printed is no longer than what is read: a netlist within the limits as BLIF, and in the binary form of AIGER where
-/// no name has more than 20,000 bytes.
+/// What is printed is no longer than what is read: a netlist within the limits as BLIF, and in the binary form of AIGER
+/// where no name has more than 20,000 bytes.
 #[tactic(auto, using(crate::proofs::SizeLemmas::aig_short, crate::proofs::SizeLemmas::blif_short))]
 pub fn printed_is_short()
     ensures blif { (net : Net)

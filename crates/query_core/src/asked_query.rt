@@ -7,8 +7,8 @@ use std::fmt;
 use std::marker::Model;
 use std::snapshot::Snapshot;
 
-/// The query of an entry. Contracts see it as the query; when the program runs it has no bytes, since a snapshot has none.
-/// Nothing reads it again: whoever asked has it.
+/// The query of an entry. Contracts see it as the query; when the program runs it has no bytes, since a snapshot has
+/// none. Nothing reads it again: whoever asked has it.
 pub struct AskedQuery {
     inside: Snapshot<Query>,
 }
@@ -21,7 +21,7 @@ impl Model for AskedQuery {
     ghost view = { λ a. a.inside.value };
 }
 
-// By hand, and so one call wherever a value ends: a derived drop is expanded there, field by field, and makes proofs long.
+// By hand: a derived drop is expanded, field by field, wherever a value ends, and makes proofs long.
 impl Drop for AskedQuery {
     fn drop(self) {
         let AskedQuery { inside: _inside } = self;

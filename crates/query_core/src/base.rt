@@ -34,7 +34,7 @@ impl<'a> Model for QueryBase<'a> {
     ghost invariant = { λ a. IsAsking a.graphs.now a.query a.left a.right };
 }
 
-// By hand, and so one call wherever a value ends: a derived drop is expanded there, field by field, and makes proofs long.
+// By hand: a derived drop is expanded, field by field, wherever a value ends, and makes proofs long.
 impl Drop for QueryBase<'_> {
     fn drop(self) {
         let QueryBase {
@@ -47,8 +47,8 @@ impl Drop for QueryBase<'_> {
 }
 
 impl<'a> QueryBase<'a> {
-    /// The clauses of a query that fits two circuits. Where both its cones are of one circuit it takes a byte for each of the
-    /// circuit's signals.
+    /// The clauses of a query that fits two circuits. Where both its cones are of one circuit it takes a byte for each
+    /// of the circuit's signals.
     pub fn new(
         alloc: Global,
         graphs: &'a Graphs<'a>,

@@ -4,7 +4,8 @@ ghost use Rattle.std.specs.Prelude.{◌≡◌, ◌+◌, ◌*◌, ◌<◌, ◌≤
 ghost use Rattle.circuits.specs.Literals.{signal_of};
 ghost use Rattle.cnf_core.specs.Clauses.{clause_at, literals_of};
 ghost use Rattle.claim_core.specs.ConeClauses.{left_gates, right_gates};
-ghost use Rattle.claim_core.specs.Formulas.{and_clauses, clauses_by, feed_literal, formula_of, half_clauses, output_literal, query_clauses, stand_in, stands_for};
+ghost use Rattle.claim_core.specs.Formulas.{and_clauses, clauses_by, feed_literal, formula_of, half_clauses};
+ghost use Rattle.claim_core.specs.Formulas.{output_literal, query_clauses, stand_in, stands_for};
 ghost use Rattle.claim_core.specs.Queries.{IsQuery};
 ghost use Rattle.query_core.specs.Variables.{AreFor, IsHalf, clauses_over, literals_by};
 
@@ -65,8 +66,8 @@ pub(crate) fn clause_over(
     clause_of(&left, &right, id)
 }
 
-/// One of a query's two circuits, with what its inputs get, the variables of its gates, and the output that is to have a
-/// value.
+/// One of a query's two circuits, with what its inputs get, the variables of its gates, and the output that is to have
+/// a value.
 #[derive(Clone, Copy, Drop)]
 struct Half<'a> {
     graph: &'a Graph,

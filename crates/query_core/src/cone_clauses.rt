@@ -39,7 +39,7 @@ impl<'a> Model for ConeClauses<'a> {
     ghost invariant = { λ a. IsConing a.graphs.now a.query a.left a.right a.ids.items };
 }
 
-// By hand, and so one call wherever a value ends: a derived drop is expanded there, field by field, and makes proofs long.
+// By hand: a derived drop is expanded, field by field, wherever a value ends, and makes proofs long.
 impl Drop for ConeClauses<'_> {
     fn drop(self) {
         let ConeClauses {

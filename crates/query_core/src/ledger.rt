@@ -1,7 +1,9 @@
 //! What was asked in a run, and the budget of learned lines.
 
-ghost use Rattle.std.specs.Prelude.{◌≡◌, ◌+◌, ◌-◌, ◌<◌, ◌≤◌, [], ◌∷◌, ◌++◌, false, IfOk, IfErr, OnOk, OnErr, All, length, vec_len, vec_capacity};
-ghost use Rattle.query_core.specs.Ledgers.{IsRefused, charged_front, entry_of, last_asked, learned_in, opened, with_line};
+ghost use Rattle.std.specs.Prelude.{◌≡◌, ◌+◌, ◌-◌, ◌<◌, ◌≤◌, [], ◌∷◌, ◌++◌, false, IfOk, IfErr, OnOk, OnErr, All};
+ghost use Rattle.std.specs.Prelude.{length, vec_len, vec_capacity};
+ghost use Rattle.query_core.specs.Ledgers.{IsRefused, charged_front, entry_of, last_asked, learned_in, opened};
+ghost use Rattle.query_core.specs.Ledgers.{with_line};
 
 use crate::asked_query::AskedQuery;
 use crate::lines::Lines;
@@ -10,7 +12,8 @@ use cnf_core::{Charge, LogLine, Stop};
 use std::alloc::{AllocError, Global};
 use std::marker::Model;
 
-/// A query that was asked, with the lines that were derived for it: first lemmas, which cost nothing, then learned lines.
+/// A query that was asked, with the lines that were derived for it: first lemmas, which cost nothing, then learned
+/// lines.
 #[derive(Debug, Drop)]
 pub struct Asked {
     pub query: AskedQuery,
@@ -36,10 +39,11 @@ impl Model for Ledger {
 
     ghost view = { λ a. record { budget = a.budget; asked = a.asked.items; spent = a.spent } };
 
-    ghost invariant = { λ a. IsLedger (record { budget = a.budget; asked = a.asked.items; spent = a.spent }) a.learned };
+    ghost invariant = { λ a.
+        IsLedger (record { budget = a.budget; asked = a.asked.items; spent = a.spent }) a.learned };
 }
 
-// By hand, and so one call wherever a value ends: a derived drop is expanded there, field by field, and makes proofs long.
+// By hand: a derived drop is expanded, field by field, wherever a value ends, and makes proofs long.
 impl Drop for Ledger {
     fn drop(self) {
         let Ledger {
@@ -64,8 +68,8 @@ impl Ledger {
         }
     }
 
-    /// Adds a query, whose lines are so far its lemmas. It takes the place of a last query for which nothing was learned.
-    /// A refusal changes nothing.
+    /// Adds a query, whose lines are so far its lemmas. It takes the place of a last query for which nothing was
+    /// learned. A refusal changes nothing.
     pub fn open(
         &mut self,
         alloc: Global,
@@ -86,8 +90,8 @@ impl Ledger {
         Ok(())
     }
 
-    /// Adds a learned line to the last query, for one unit of the budget. Where the budget is spent, the line is kept as
-    /// the refused one. Running out of memory changes nothing.
+    /// Adds a learned line to the last query, for one unit of the budget. Where the budget is spent, the line is kept
+    /// as the refused one. Running out of memory changes nothing.
     pub fn charge(&mut self, line: &LogLine) -> Result<(), Stop>
         requires asked { 0 < length self.old.asked }
         requires not_spent { self.old.spent ≡ false }

@@ -1,5 +1,5 @@
-//! The clauses of what is asked of two circuits, of all their gates or of the two cones alone; and what was asked in a run, with
-//! the lines learned for it.
+//! The clauses of what is asked of two circuits, of all their gates or of the two cones alone; and what was asked in a
+//! run, with the lines learned for it.
 #![tactic(auto)]
 
 mod asked_query;

@@ -8,8 +8,8 @@ use std::fmt;
 use std::marker::Model;
 use std::snapshot::Snapshot;
 
-/// The lines of a question. Contracts see it as the list of the lines; when the program runs it is how many there are, since
-/// a snapshot has no bytes. Nothing reads the lines of a question again: whoever derives them has them.
+/// The lines of a question. Contracts see it as the list of the lines; when the program runs it is how many there are,
+/// since a snapshot has no bytes. Nothing reads the lines of a question again: whoever derives them has them.
 pub struct Lines {
     inside: Vec<Snapshot<LogLine>>,
 }
@@ -23,7 +23,7 @@ impl Model for Lines {
     ghost view = { λ a. map (λ line. line.value) a.inside.items };
 }
 
-// By hand, and so one call wherever a value ends: a derived drop is expanded there, field by field, and makes proofs long.
+// By hand: a derived drop is expanded, field by field, wherever a value ends, and makes proofs long.
 impl Drop for Lines {
     fn drop(self) {
         let Lines { inside: _inside } = self;

@@ -24,8 +24,8 @@ pub(crate) fn reaches(alloc: Global, query: &Query, gates: &[Gate]) -> Result<Ve
     Ok(signals)
 }
 
-/// Whether each of these gates, which the right output reaches, reaches an input whose two feeds differ. What is said of
-/// the other gates is nothing.
+/// Whether each of these gates, which the right output reaches, reaches an input whose two feeds differ. What is said
+/// of the other gates is nothing.
 pub(crate) fn reaches_in_cone(
     alloc: Global,
     query: &Query,
@@ -54,7 +54,8 @@ fn marked_inputs(
 ) -> Result<Marks, AllocError>
     requires feeds { length left.now ≡ length right.now }
     requires room { length left.now < signals }
-    ensures start { IfOk result (λ marked. take (length left.now + 1) marked ≡ false ∷ feeds_differ left.now right.now) }
+    ensures start { IfOk result (λ marked. take (length left.now + 1) marked
+        ≡ false ∷ feeds_differ left.now right.now) }
     ensures rest { IfOk result (λ marked. (s : ℕ) → length left.now < s → bit marked s ≡ false) }
     ensures size { IfOk result (λ marked. length marked ≡ signals) }
 {
@@ -113,7 +114,8 @@ fn mark_cone(
     requires room { length marked.old ≡ graph.now.inputs + 1 + length graph.now.gates }
     requires unmarked { (s : ℕ) → graph.now.inputs < s → bit marked.old s ≡ false }
     ensures marks { OnOk result (let first = graph.now.inputs + 1
-        in All (λ t. bit marked.new (first + t) ≡ bit (reaching (take first marked.old) graph.now.gates) (first + t)) gates.now) }
+        in All (λ t. bit marked.new (first + t)
+        ≡ bit (reaching (take first marked.old) graph.now.gates) (first + t)) gates.now) }
     ensures size { OnOk result (length marked.new ≡ length marked.old) }
 {
     let first = graph.inputs() as usize + 1;

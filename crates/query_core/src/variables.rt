@@ -17,8 +17,8 @@ use std::alloc::{AllocError, Global};
 pub(crate) enum Variables {
     /// Gate t has the t-th variable from this one on.
     Own(u64),
-    /// Gate t has the t-th variable from `own` on where signal `first + t`, which is its own, is marked, and else the t-th
-    /// one from `first` on, which stands for the same gate of the left circuit.
+    /// Gate t has the t-th variable from `own` on where signal `first + t`, which is its own, is marked, and else the
+    /// t-th one from `first` on, which stands for the same gate of the left circuit.
     Shared { first: u64, own: u64, marked: Marks },
 }
 
@@ -70,8 +70,8 @@ pub(crate) fn right_variables(
     })
 }
 
-/// The variables of the right circuit's gates, right for these, which its output reaches. It takes a step for each of these
-/// and each input, whatever else the circuit has.
+/// The variables of the right circuit's gates, right for these, which its output reaches. It takes a step for each of
+/// these and each input, whatever else the circuit has.
 pub(crate) fn cone_variables(
     alloc: Global,
     graphs: &Graphs<'_>,

@@ -1,12 +1,14 @@
 //! The derivation of one line.
 
-ghost use Rattle.std.specs.Prelude.{◌≡◌, ◌<◌, ◌++◌, [], false, All, length, map, nat_lt, None, Some, OnOk, if◌then◌else◌};
+ghost use Rattle.std.specs.Prelude.{◌≡◌, ◌<◌, ◌++◌, [], false, All, length, map, nat_lt, None, Some, OnOk};
+ghost use Rattle.std.specs.Prelude.{if◌then◌else◌};
 ghost use Rattle.std.specs.List.{list_any, list_all};
 ghost use Rattle.cnf_core.specs.declared.effect.Effect.TheVariants.{Conflict};
 ghost use Rattle.cnf_core.specs.declared.fault.LineFault.TheVariants as fault;
 ghost use Rattle.cnf_core.specs.declared.literal.SatLit.{SatLit as AnyLiteral};
 ghost use Rattle.cnf_core.specs.Clauses.{clause_at, opposite, variable_of, AreKnown};
-ghost use Rattle.cnf_core.specs.Derivations.{effect_of, fault_after, hint_fault, is_empty, line_fault, repeats_variable};
+ghost use Rattle.cnf_core.specs.Derivations.{effect_of, fault_after, hint_fault, is_empty, line_fault};
+ghost use Rattle.cnf_core.specs.Derivations.{repeats_variable};
 ghost use Rattle.refute_check.specs.Refutations.{answer_of};
 ghost use Rattle.refute_check.specs.Values.{CanBeMade};
 
@@ -101,7 +103,8 @@ fn effect_at<B: Base>(base: &B, taken: &ClauseStore, values: &Values, id: u64) -
     requires known { All (AreKnown (B.formula base.now).variables) taken.now.clauses }
     ensures makes { (literal : AnyLiteral) → result ≡ Some (Effect.Makes literal) → CanBeMade values.now literal }
     ensures effect { let clauses = (B.formula base.now).clauses ++ taken.now.clauses
-        in result ≡ (if nat_lt id (length clauses) then Some (effect_of values.now.made (clause_at clauses id)) else None) }
+        in result ≡ (if nat_lt id (length clauses)
+        then Some (effect_of values.now.made (clause_at clauses id)) else None) }
 {
     let count = base.count();
     if id < count {

@@ -77,7 +77,8 @@ impl<B: Base> Refuter<B> {
         (base, values)
     }
 
-    /// Makes room for a line of at least n literals. The lines stay, a larger room stays, and a refusal changes nothing.
+    /// Makes room for a line of at least n literals. The lines stay, a larger room stays, and a refusal changes
+    /// nothing.
     pub fn reserve(&mut self, literals: usize) -> Result<(), AllocError>
         ensures base { self.new.base ≡ self.old.base }
         ensures taken { self.new.taken ≡ self.old.taken }
@@ -88,8 +89,8 @@ impl<B: Base> Refuter<B> {
         self.taken.reserve(literals)
     }
 
-    /// Takes a line, for which there is room, exactly where it is derived, and answers its first fault otherwise. A line
-    /// that is taken uses up the room; one that is refused changes nothing. Neither takes memory.
+    /// Takes a line, for which there is room, exactly where it is derived, and answers its first fault otherwise. A
+    /// line that is taken uses up the room; one that is refused changes nothing. Neither takes memory.
     pub fn line(&mut self, line: &LogLine) -> Result<(), LineFault>
         requires { HasRoom self.old.room (length line.now.clause) }
         ensures answer { result ≡ answer_of (line_fault (B.formula self.old.base) self.old.taken line.now) }

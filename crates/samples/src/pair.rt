@@ -29,7 +29,8 @@ impl GraphPair {
         second: (&[(u32, u32)], u32),
     ) -> Result<GraphPair, SampleFault>
         ensures first { IfOk result (λ pair. pair.first ≡ net_numbered inputs first.entry.0.now (first.entry.1 ∷ [])) }
-        ensures second { IfOk result (λ pair. pair.second ≡ net_numbered inputs second.entry.0.now (second.entry.1 ∷ [])) }
+        ensures second { IfOk result (λ pair. pair.second
+            ≡ net_numbered inputs second.entry.0.now (second.entry.1 ∷ [])) }
         ensures sound { IfOk result (λ pair. IsGraph pair.first × IsGraph pair.second) }
     {
         Ok(GraphPair {

@@ -19,13 +19,14 @@ const STREAM_BOUND: usize = 67_108_864;
 /// The most bytes that are taken from one of which more are expected: 1 GiB.
 const LONG_STREAM_BOUND: usize = 1 << 30;
 
-/// The machine's files, by their paths. It does not tell what they hold. What is neither a file nor a directory, as a pipe
-/// or a device, is read to its end when it is opened, since its length isn't known before. One that goes on past
-/// 67,108,864 bytes, or where more are expected past 1 GiB, opens with a length of one byte more than that, and fails at its
-/// first read. A directory opens, and fails at its first read. A regular file that was read or made isn't made anew, nor is the file
-/// that standard output goes to, whatever names lead to them: to create one is a fault, and leaves it as it is. A file that
-/// would grow past the limit that the system sets to the size of a file is a fault. A file that was written is closed once
-/// the device holds it. Each error of the machine is a fault, but that a path to be read leads to nothing.
+/// The machine's files, by their paths. It does not tell what they hold. What is neither a file nor a directory, as a
+/// pipe or a device, is read to its end when it is opened, since its length isn't known before. One that goes on past
+/// 67,108,864 bytes, or where more are expected past 1 GiB, opens with a length of one byte more than that, and fails
+/// at its first read. A directory opens, and fails at its first read. A regular file that was read or made isn't made
+/// anew, nor is the file that standard output goes to, whatever names lead to them: to create one is a fault, and
+/// leaves it as it is. A file that would grow past the limit that the system sets to the size of a file is a fault. A
+/// file that was written is closed once the device holds it. Each error of the machine is a fault, but that a path to
+/// be read leads to nothing.
 #[derive(Drop)]
 pub struct DiskShelf<R: Runtime> {
     rt: R,
@@ -58,7 +59,7 @@ enum Room {
     Unbounded,
 }
 
-// By hand, and so one call wherever a value ends: a derived drop is expanded there, field by field, and makes proofs long.
+// By hand: a derived drop is expanded, field by field, wherever a value ends, and makes proofs long.
 impl<F: Drop, A: Allocator> Drop for Opened<F, A> {
     fn drop(self) {
         match self {
@@ -167,8 +168,8 @@ impl<R: Runtime> Shelf for DiskShelf<R> {
     }
 }
 
-/// The file of a path, open for reading, with the number of its bytes; `None` where the path leads to nothing. A regular
-/// file is noted as one that is used. Of a pipe or a device at most `bound` bytes are kept.
+/// The file of a path, open for reading, with the number of its bytes; `None` where the path leads to nothing. A
+/// regular file is noted as one that is used. Of a pipe or a device at most `bound` bytes are kept.
 fn open_to_read<R: Files + Alloc>(
     rt: &R,
     name: &str,
@@ -193,8 +194,8 @@ fn open_to_read<R: Files + Alloc>(
     Ok(Some((Opened::Reading { file, left }, left)))
 }
 
-/// A pipe or a device, read to its end, with the number of its bytes; one that goes on past `bound` has one byte more than
-/// that, and nothing of it is kept.
+/// A pipe or a device, read to its end, with the number of its bytes; one that goes on past `bound` has one byte more
+/// than that, and nothing of it is kept.
 fn open_stream<F: Read, A: Allocator>(
     alloc: A,
     file: &mut F,
@@ -214,9 +215,9 @@ fn open_stream<F: Read, A: Allocator>(
     }
 }
 
-/// The file of a path, empty and open for writing; it is made where the path leads to nothing. A regular file that is used
-/// already is an error, and so is the file of standard output; either is left as it is. So the file is opened with its
-/// bytes, and emptied once it is known to be none of those.
+/// The file of a path, empty and open for writing; it is made where the path leads to nothing. A regular file that is
+/// used already is an error, and so is the file of standard output; either is left as it is. So the file is opened with
+/// its bytes, and emptied once it is known to be none of those.
 fn open_to_write<R: Files + Alloc>(
     rt: &R,
     name: &str,

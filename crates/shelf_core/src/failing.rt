@@ -7,8 +7,8 @@ ghost use Rattle.shelf_core.specs.Failing.{FailsNext, IsCounted};
 use crate::outside::ShelfStop;
 use std::marker::Model;
 
-/// The numbers of the calls that fail, from 0, and how many calls and failures there were, each up to 2^64 - 1, and failures
-/// before the last call.
+/// The numbers of the calls that fail, from 0, and how many calls and failures there were, each up to 2^64 - 1, and
+/// failures before the last call.
 #[derive(Debug, Drop)]
 pub(crate) struct Failing {
     numbers: Vec<u64>,
@@ -23,7 +23,8 @@ impl Model for Failing {
 
     ghost Value = { Failures };
 
-    ghost view = { λ a. record { numbers = a.numbers.items; calls = a.calls; faults = a.faults; latest = a.faults - a.before } };
+    ghost view = { λ a.
+        record { numbers = a.numbers.items; calls = a.calls; faults = a.faults; latest = a.faults - a.before } };
 }
 
 impl Failing {

@@ -27,8 +27,8 @@ impl FileId {
     }
 }
 
-/// The file that standard output goes to, where bytes of another writer would mix with those of the report; `None` where
-/// standard output is closed, the system doesn't tell its file, or it is the null device, which keeps nothing.
+/// The file that standard output goes to, where bytes of another writer would mix with those of the report; `None`
+/// where standard output is closed, the system doesn't tell its file, or it is the null device, which keeps nothing.
 pub(crate) fn output_file<R: Files>(rt: &R) -> Option<FileId> {
     match fs::metadata(rt, OUTPUT) {
         Ok(metadata) if !is_null_device(&metadata) => Some(FileId::of(&metadata)),

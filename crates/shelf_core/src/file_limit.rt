@@ -19,8 +19,8 @@ pub(crate) fn file_size_limit<R: Files + Alloc>(rt: &R) -> u64 {
     }
 }
 
-/// The soft limit on the size of a file, in bytes, of a table of limits as `/proc/self/limits`; `None` where the table has
-/// none, or says `unlimited`.
+/// The soft limit on the size of a file, in bytes, of a table of limits as `/proc/self/limits`; `None` where the table
+/// has none, or says `unlimited`.
 pub fn size_in(limits: &str) -> Option<u64> {
     limits.lines().find_map(size_of_line)
 }

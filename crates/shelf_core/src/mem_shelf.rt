@@ -1,6 +1,7 @@
 //! A shelf in memory of which some calls are told to fail.
 
-ghost use Rattle.std.specs.Prelude.{◌≡◌, ◌≢◌, ◌↔◌, ℕ, ◌≤◌, min, List, map, true, None, Some, Ok, Err, IfOk, MatchOption, string_bytes, AllPairs, length};
+ghost use Rattle.std.specs.Prelude.{◌≡◌, ◌≢◌, ◌↔◌, ℕ, ◌≤◌, min, List, map, true, None, Some, Ok, Err, IfOk};
+ghost use Rattle.std.specs.Prelude.{MatchOption, string_bytes, AllPairs, length};
 ghost use Rattle.shelf_core.specs.State.{Closed, Reading, Writing};
 ghost use Rattle.shelf_core.specs.Calls.{Opens, Reads, Creates, Appends, Closes};
 ghost use Rattle.shelf_core.specs.Safe.{look_up};
@@ -13,8 +14,8 @@ use crate::safe_shelf::SafeShelf;
 use std::alloc::{AllocError, Global};
 
 /// A shelf in memory of which some calls fail, to try what a program does then. Its calls are numbered from 0. A call
-/// whose number is among those to fail counts a fault and changes no file; a `close` that fails still closes. Each other
-/// call does what it does on a [`SafeShelf`].
+/// whose number is among those to fail counts a fault and changes no file; a `close` that fails still closes. Each
+/// other call does what it does on a [`SafeShelf`].
 #[derive(Debug, Drop)]
 pub struct MemShelf {
     inside: SafeShelf,
@@ -36,7 +37,8 @@ impl MemShelf {
         ensures files { IfOk result (λ shelf. (name : List ℕ) → (⟦<MemShelf as Shelf>⟧.state shelf).held name ≡
             look_up (map (λ file. (string_bytes file.0, file.1.items)) files.items) name) }
         ensures cut { IfOk result (λ shelf. most_read shelf ≡ cut) }
-        ensures fail { IfOk result (λ shelf. failing_of shelf ≡ record { numbers = fail.items; calls = 0; faults = 0; latest = 0 }) }
+        ensures fail { IfOk result (λ shelf. failing_of shelf
+            ≡ record { numbers = fail.items; calls = 0; faults = 0; latest = 0 }) }
     {
         Ok(MemShelf {
             inside: SafeShelf::new(alloc, files, cut)?,
@@ -69,7 +71,8 @@ impl Shelf for MemShelf {
 
     fn open(&mut self, name: &str) -> Result<Option<u64>, ShelfStop>
         requires { (⟦<MemShelf as Shelf>⟧.state self.old).mode ≡ Closed }
-        ensures opens { Opens true name.now (⟦<MemShelf as Shelf>⟧.state self.old) (⟦<MemShelf as Shelf>⟧.state self.new) result }
+        ensures opens { Opens true name.now (⟦<MemShelf as Shelf>⟧.state self.old)
+            (⟦<MemShelf as Shelf>⟧.state self.new) result }
         ensures fails { (result ≡ Err ShelfStop.Failed) ↔ FailsNext (failing_of self.old) }
         ensures no_memory { result ≢ Err ShelfStop.Memory }
         ensures counted { IsCounted (failing_of self.old) (failing_of self.new) }
@@ -81,8 +84,10 @@ impl Shelf for MemShelf {
 
     fn read(&mut self, buf: &mut [u8]) -> Result<usize, ShelfStop>
         requires { (⟦<MemShelf as Shelf>⟧.state self.old).mode ≡ Reading }
-        ensures reads { Reads true (⟦<MemShelf as Shelf>⟧.state self.old) (⟦<MemShelf as Shelf>⟧.state self.new) buf.old buf.new result }
-        ensures amount { IfOk result (λ count. count ≡ min (min (most_read self.old) (⟦<MemShelf as Shelf>⟧.state self.old).left) (length buf.old)) }
+        ensures reads { Reads true (⟦<MemShelf as Shelf>⟧.state self.old)
+            (⟦<MemShelf as Shelf>⟧.state self.new) buf.old buf.new result }
+        ensures amount { IfOk result (λ count. count
+            ≡ min (min (most_read self.old) (⟦<MemShelf as Shelf>⟧.state self.old).left) (length buf.old)) }
         ensures fails { (result ≡ Err ShelfStop.Failed) ↔ FailsNext (failing_of self.old) }
         ensures no_memory { result ≢ Err ShelfStop.Memory }
         ensures counted { IsCounted (failing_of self.old) (failing_of self.new) }
@@ -94,7 +99,8 @@ impl Shelf for MemShelf {
 
     fn create(&mut self, name: &str) -> Result<(), ShelfStop>
         requires { (⟦<MemShelf as Shelf>⟧.state self.old).mode ≡ Closed }
-        ensures creates { Creates true name.now (⟦<MemShelf as Shelf>⟧.state self.old) (⟦<MemShelf as Shelf>⟧.state self.new) result }
+        ensures creates { Creates true name.now (⟦<MemShelf as Shelf>⟧.state self.old)
+            (⟦<MemShelf as Shelf>⟧.state self.new) result }
         ensures fails { (result ≡ Err ShelfStop.Failed) ↔ FailsNext (failing_of self.old) }
         ensures kept { result ≡ Err ShelfStop.Failed → (n : List ℕ)
             → (⟦<MemShelf as Shelf>⟧.state self.new).held n ≡ (⟦<MemShelf as Shelf>⟧.state self.old).held n }
@@ -107,7 +113,8 @@ impl Shelf for MemShelf {
 
     fn append(&mut self, piece: &[u8]) -> Result<(), ShelfStop>
         requires { (⟦<MemShelf as Shelf>⟧.state self.old).mode ≡ Writing }
-        ensures appends { Appends true piece.now (⟦<MemShelf as Shelf>⟧.state self.old) (⟦<MemShelf as Shelf>⟧.state self.new) result }
+        ensures appends { Appends true piece.now (⟦<MemShelf as Shelf>⟧.state self.old)
+            (⟦<MemShelf as Shelf>⟧.state self.new) result }
         ensures fails { (result ≡ Err ShelfStop.Failed) ↔ FailsNext (failing_of self.old) }
         ensures kept { result ≡ Err ShelfStop.Failed → (n : List ℕ)
             → (⟦<MemShelf as Shelf>⟧.state self.new).held n ≡ (⟦<MemShelf as Shelf>⟧.state self.old).held n }
@@ -120,7 +127,8 @@ impl Shelf for MemShelf {
 
     fn close(&mut self) -> Result<(), ShelfStop>
         requires { (⟦<MemShelf as Shelf>⟧.state self.old).mode ≢ Closed }
-        ensures closes { Closes true (⟦<MemShelf as Shelf>⟧.state self.old) (⟦<MemShelf as Shelf>⟧.state self.new) result }
+        ensures closes { Closes true (⟦<MemShelf as Shelf>⟧.state self.old)
+            (⟦<MemShelf as Shelf>⟧.state self.new) result }
         ensures fails { (result ≡ Err ShelfStop.Failed) ↔ FailsNext (failing_of self.old) }
         ensures no_memory { result ≢ Err ShelfStop.Memory }
         ensures counted { IsCounted (failing_of self.old) (failing_of self.new) }

@@ -43,10 +43,12 @@ impl MemSink {
 impl Sink for MemSink {
     ghost tells = { true };
 
-    ghost state = { λ sink. record { written = sink.inside; faults = sink.failing.faults; latest = sink.failing.latest } };
+    ghost state = { λ sink.
+        record { written = sink.inside; faults = sink.failing.faults; latest = sink.failing.latest } };
 
     fn put(&mut self, piece: &[u8]) -> Result<(), ShelfStop>
-        ensures puts { Puts true piece.now (⟦<MemSink as Sink>⟧.state self.old) (⟦<MemSink as Sink>⟧.state self.new) result }
+        ensures puts { Puts true piece.now (⟦<MemSink as Sink>⟧.state self.old)
+            (⟦<MemSink as Sink>⟧.state self.new) result }
         ensures fails { (result ≡ Err ShelfStop.Failed) ↔ FailsNext (failing_puts self.old) }
         ensures kept { result ≡ Err ShelfStop.Failed
             → (⟦<MemSink as Sink>⟧.state self.new).written ≡ (⟦<MemSink as Sink>⟧.state self.old).written }

@@ -23,11 +23,12 @@ pub enum ShelfStop {
 /// A place for files, each a name and its bytes, of which at most one is open at a time. `ShelfStop::Memory` may come
 /// from any call.
 pub trait Shelf {
-    /// Whether the shelf tells its files. Where it doesn't, as a disk, nothing is claimed of names and bytes, and `held`,
-    /// `name` and `unread` of its state mean nothing.
+    /// Whether the shelf tells its files. Where it doesn't, as a disk, nothing is claimed of names and bytes, and
+    /// `held`, `name` and `unread` of its state mean nothing.
     ghost tells: { Bool };
 
-    /// The files, which of them is open, and the counts of faults: all of them, which never falls, and those of the last call.
+    /// The files, which of them is open, and the counts of faults: all of them, which never falls, and those of the
+    /// last call.
     ghost state: { Self → ShelfState };
 
     /// Opens a file for reading, and answers its length in bytes, or `None` where there is no such file. None is open
@@ -61,13 +62,14 @@ pub trait Shelf {
         ensures { Closes tells (state self.old) (state self.new) result };
 }
 
-/// A stream of bytes that goes out of the program, as its standard output. It is told what the run is at, too; that changes
-/// nothing of what it is to contracts.
+/// A stream of bytes that goes out of the program, as its standard output. It is told what the run is at, too; that
+/// changes nothing of what it is to contracts.
 pub trait Sink: Watch {
     /// Whether the sink tells the bytes that it took. Where it doesn't, `written` of its state means nothing.
     ghost tells: { Bool };
 
-    /// The bytes that were written, and the counts of faults: all of them, which never falls, and those of the last call.
+    /// The bytes that were written, and the counts of faults: all of them, which never falls, and those of the last
+    /// call.
     ghost state: { Self → SinkState };
 
     /// Writes a piece after all that was written. A refused call may have written some first part of it.

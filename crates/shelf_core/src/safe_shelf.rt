@@ -1,7 +1,10 @@
-ghost use Rattle.std.specs.Prelude.{◌≡◌, ◌≢◌, ℕ, ◌+◌, ◌-◌, ◌<◌, ◌≤◌, min, List, [], ◌∷◌, ◌++◌, length, take, drop, map, true, None, Some, Ok, IsOk, OnOk, OnErr, IfOk, IfSome, IfNone, MatchOption, string_bytes, vec_len, AllPairs};
+ghost use Rattle.std.specs.Prelude.{◌≡◌, ◌≢◌, ℕ, ◌+◌, ◌-◌, ◌<◌, ◌≤◌, min, List, [], ◌∷◌, ◌++◌, length, take, drop, map};
+ghost use Rattle.std.specs.Prelude.{true, None, Some, Ok, IsOk, OnOk, OnErr, IfOk, IfSome, IfNone, MatchOption};
+ghost use Rattle.std.specs.Prelude.{string_bytes, vec_len, AllPairs};
 ghost use Rattle.shelf_core.specs.State.{Closed, Reading, Writing};
 ghost use Rattle.shelf_core.specs.Calls.{Opens, Reads, Creates, Appends, Closes};
-ghost use Rattle.shelf_core.specs.Safe.{look_up, IsPlace, file_at, grow_first, safe_shelf, places_needed, bytes_needed, open_bytes};
+ghost use Rattle.shelf_core.specs.Safe.{look_up, IsPlace, file_at, grow_first, safe_shelf, places_needed, bytes_needed};
+ghost use Rattle.shelf_core.specs.Safe.{open_bytes};
 
 use crate::copy::copy_some;
 use crate::outside::{Shelf, ShelfStop};
@@ -93,7 +96,8 @@ impl Shelf for SafeShelf {
 
     fn open(&mut self, name: &str) -> Result<Option<u64>, ShelfStop>
         requires { (⟦<SafeShelf as Shelf>⟧.state self.old).mode ≡ Closed }
-        ensures opens { Opens true name.now (⟦<SafeShelf as Shelf>⟧.state self.old) (⟦<SafeShelf as Shelf>⟧.state self.new) result }
+        ensures opens { Opens true name.now (⟦<SafeShelf as Shelf>⟧.state self.old)
+            (⟦<SafeShelf as Shelf>⟧.state self.new) result }
         ensures answers { IsOk result }
         ensures cut { cut_of self.new ≡ cut_of self.old }
         ensures calls { calls_of self.new ≡ one_more (calls_of self.old) }
@@ -109,8 +113,10 @@ impl Shelf for SafeShelf {
 
     fn read(&mut self, buf: &mut [u8]) -> Result<usize, ShelfStop>
         requires { (⟦<SafeShelf as Shelf>⟧.state self.old).mode ≡ Reading }
-        ensures reads { Reads true (⟦<SafeShelf as Shelf>⟧.state self.old) (⟦<SafeShelf as Shelf>⟧.state self.new) buf.old buf.new result }
-        ensures amount { result ≡ Ok (min (min (cut_of self.old) (⟦<SafeShelf as Shelf>⟧.state self.old).left) (length buf.old)) }
+        ensures reads { Reads true (⟦<SafeShelf as Shelf>⟧.state self.old)
+            (⟦<SafeShelf as Shelf>⟧.state self.new) buf.old buf.new result }
+        ensures amount { result
+            ≡ Ok (min (min (cut_of self.old) (⟦<SafeShelf as Shelf>⟧.state self.old).left) (length buf.old)) }
         ensures cut { cut_of self.new ≡ cut_of self.old }
         ensures calls { calls_of self.new ≡ one_more (calls_of self.old) }
     {
@@ -128,7 +134,8 @@ impl Shelf for SafeShelf {
 
     fn create(&mut self, name: &str) -> Result<(), ShelfStop>
         requires { (⟦<SafeShelf as Shelf>⟧.state self.old).mode ≡ Closed }
-        ensures creates { Creates true name.now (⟦<SafeShelf as Shelf>⟧.state self.old) (⟦<SafeShelf as Shelf>⟧.state self.new) result }
+        ensures creates { Creates true name.now (⟦<SafeShelf as Shelf>⟧.state self.old)
+            (⟦<SafeShelf as Shelf>⟧.state self.new) result }
         ensures cut { cut_of self.new ≡ cut_of self.old }
         ensures calls { calls_of self.new ≡ one_more (calls_of self.old) }
     {
@@ -140,7 +147,8 @@ impl Shelf for SafeShelf {
 
     fn append(&mut self, piece: &[u8]) -> Result<(), ShelfStop>
         requires { (⟦<SafeShelf as Shelf>⟧.state self.old).mode ≡ Writing }
-        ensures appends { Appends true piece.now (⟦<SafeShelf as Shelf>⟧.state self.old) (⟦<SafeShelf as Shelf>⟧.state self.new) result }
+        ensures appends { Appends true piece.now (⟦<SafeShelf as Shelf>⟧.state self.old)
+            (⟦<SafeShelf as Shelf>⟧.state self.new) result }
         ensures cut { cut_of self.new ≡ cut_of self.old }
         ensures calls { calls_of self.new ≡ one_more (calls_of self.old) }
     {
@@ -151,7 +159,8 @@ impl Shelf for SafeShelf {
 
     fn close(&mut self) -> Result<(), ShelfStop>
         requires { (⟦<SafeShelf as Shelf>⟧.state self.old).mode ≢ Closed }
-        ensures closes { Closes true (⟦<SafeShelf as Shelf>⟧.state self.old) (⟦<SafeShelf as Shelf>⟧.state self.new) result }
+        ensures closes { Closes true (⟦<SafeShelf as Shelf>⟧.state self.old)
+            (⟦<SafeShelf as Shelf>⟧.state self.new) result }
         ensures answers { IsOk result }
         ensures cut { cut_of self.new ≡ cut_of self.old }
         ensures calls { calls_of self.new ≡ one_more (calls_of self.old) }

@@ -13,8 +13,8 @@ use watch_core::{Silent, Stage, Watch};
 /// What a failure of the standard output names.
 const NAME: &str = "standard output";
 
-/// The machine's standard output. It does not tell what was written. A piece that would take a regular file past the limit
-/// that the system sets to its size is a fault. What the run is at goes to its watcher.
+/// The machine's standard output. It does not tell what was written. A piece that would take a regular file past the
+/// limit that the system sets to its size is a fault. What the run is at goes to its watcher.
 #[derive(Drop)]
 pub struct StdSink<R: Runtime, W: Watch = Silent> {
     rt: R,
@@ -78,8 +78,8 @@ fn print_all<R: Runtime>(rt: &R, piece: &[u8]) -> Result<(), FileStop> {
     output.flush().map_err(FileStop::from)
 }
 
-/// How many bytes standard output may take: what goes to a regular file stands at its end, and the limit on the size of a
-/// file leaves room for so many.
+/// How many bytes standard output may take: what goes to a regular file stands at its end, and the limit on the size of
+/// a file leaves room for so many.
 fn room_for_output<R: Files + Alloc>(rt: &R) -> u64 {
     match fs::metadata(rt, OUTPUT) {
         Ok(metadata) if metadata.is_file() => file_size_limit(rt).saturating_sub(metadata.len()),

@@ -79,8 +79,8 @@ fn or_lanes(a: u64x8, b: u64x8) -> u64x8
     a | b
 }
 
-/// Each output's rails where the inputs have these: on each vector on which the inputs' rails are those of values 0, 1 and
-/// X, the outputs' are those of the three-valued evaluation.
+/// Each output's rails where the inputs have these: on each vector on which the inputs' rails are those of values 0, 1
+/// and X, the outputs' are those of the three-valued evaluation.
 ///
 /// # Errors
 ///

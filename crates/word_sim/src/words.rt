@@ -33,7 +33,8 @@ impl Words {
     ///
     /// Only when out of memory.
     pub fn new(alloc: Global, columns: u32, words: usize) -> Result<Words, AllocError>
-        ensures zeros { IfOk result (λ table. table ≡ record { words = words; columns = replicate columns (replicate words 0) }) }
+        ensures zeros { IfOk result (λ table. table
+            ≡ record { words = words; columns = replicate columns (replicate words 0) }) }
         ensures table { IfOk result IsTable }
     {
         let mut zeros = Vec::with_capacity(alloc, columns as usize)?;
@@ -76,7 +77,10 @@ impl Words {
         requires column { column < length self.old.columns }
         requires word { word < self.old.words }
         ensures table { IsTable self.new }
-        ensures value { self.new ≡ record self.old { columns = slice_set self.old.columns column (slice_set (slice_index_or self.old.columns column []) word value) } }
+        ensures value { self.new ≡ record self.old {
+          columns =
+              slice_set self.old.columns column (slice_set (slice_index_or self.old.columns column []) word value);
+        } }
     {
         self.columns[column as usize].set(word, value);
     }
@@ -97,7 +101,10 @@ impl Words {
         requires column { column < length self.old.columns }
         requires word { word + 8 ≤ self.old.words }
         ensures table { IsTable self.new }
-        ensures value { self.new ≡ record self.old { columns = slice_set self.old.columns column (put_chunk word (slice_index_or self.old.columns column []) block) } }
+        ensures value { self.new ≡ record self.old {
+          columns =
+              slice_set self.old.columns column (put_chunk word (slice_index_or self.old.columns column []) block);
+        } }
     {
         put_block(self.columns[column as usize].as_mut_slice(), word, block);
     }
