@@ -1,5 +1,3 @@
-//! The log that shows that a claim holds.
-
 ghost use Rattle.std.specs.Prelude.{◌≡◌, ◌++◌, ◌∷◌, [], IfOk, OnOk, OnErr, Err, None, Some};
 ghost use Rattle.claim_core.specs.Claims.{IsClaim};
 ghost use Rattle.account_check.specs.Logs.{fact_reject, unshown};

@@ -1,5 +1,3 @@
-//! The logs that prove a match.
-
 ghost use Rattle.std.specs.Prelude.{◌≡◌, [], true, false, ◌<◌, ◌≤◌, ◌^◌, IfOk, OnOk, OnErr, Err, None, Some, length};
 ghost use Rattle.circuits.specs.Matches.{HavePorts, IsMatchOfFunctions};
 ghost use Rattle.claim_core.specs.MatchQueries.{IsOfMatching};

@@ -1,5 +1,3 @@
-//! A log that is checked line by line.
-
 ghost use Rattle.std.specs.Prelude.{◌≡◌, ◌<◌, ◌++◌, ◌∷◌, [], true, IfOk, OnOk, OnErr, Ok, Err, None, Some, length};
 ghost use Rattle.circuits.specs.Matches.{HavePorts};
 ghost use Rattle.cnf_core.specs.Derivations.{is_empty, line_fault};

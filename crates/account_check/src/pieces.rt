@@ -1,5 +1,3 @@
-//! The check of an account whose bytes come in pieces.
-
 ghost use Rattle.std.specs.Prelude.{Bool, ℕ, List, ◌≡◌, ◌+◌, ◌<◌, ◌^◌, ◌++◌, [], true, false, IfOk, IsSome, Ok, Some};
 ghost use Rattle.std.specs.Prelude.{length};
 ghost use Rattle.circuits.specs.Matches.{IsMatchOfFunctions};

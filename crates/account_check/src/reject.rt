@@ -1,5 +1,3 @@
-//! Why a record isn't taken.
-
 use cnf_core::LineFault;
 use std::alloc::{AllocError, AllocFailed};
 

@@ -1,5 +1,3 @@
-//! The check of an account's whole bytes.
-
 ghost use Rattle.std.specs.Prelude.{ℕ, ◌≡◌, ◌≢◌, ◌↔◌, [], Ok, Err};
 ghost use Rattle.circuits.specs.Matches.{HaveNpnpEqualFunctions, IsMatchOfFunctions};
 ghost use Rattle.net_core.specs.Sides.{Graphs as TwoGraphs};

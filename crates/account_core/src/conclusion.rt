@@ -1,5 +1,3 @@
-//! What an account comes to.
-
 use circuits::Pair;
 use items::Items;
 

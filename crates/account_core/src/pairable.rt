@@ -1,5 +1,3 @@
-//! Two graphs whose ports can be paired.
-
 ghost use Rattle.std.specs.Prelude.{◌≡◌, ◌↔◌, IfSome, IsSome};
 ghost use Rattle.net_core.specs.Graph.{IsGraph};
 ghost use Rattle.net_core.specs.Sides.{graph_of};

@@ -1,5 +1,3 @@
-//! The reader of an account's text.
-
 ghost use Rattle.std.specs.Prelude.{ℕ, ◌≡◌, ◌≢◌, ◌+◌, ◌<◌, ◌≤◌, ◌^◌, ◌++◌, [], List, true, false, None, Some, Ok, Err};
 ghost use Rattle.std.specs.Prelude.{OnOk, OnErr, length, drop};
 ghost use Rattle.account_file.specs.declared.record.Record.{Record as Entry};

@@ -1,5 +1,3 @@
-//! The records of an account.
-
 use account_core::{Ban, Conclusion, FactHead};
 use cnf_core::LogLine;
 

@@ -1,5 +1,3 @@
-//! Those of a list that are marked, alone.
-
 ghost use Rattle.std.specs.Prelude.{◌≡◌, ◌+◌, ◌<◌, ◌≤◌, cond, length, vec_len};
 ghost use Rattle.std.specs.List.{swap};
 ghost use Rattle.account_trim.specs.Trims.{kept};

@@ -1,5 +1,3 @@
-//! The new numbers of what is marked.
-
 ghost use Rattle.std.specs.Prelude.{◌≡◌, cond, IfOk};
 ghost use Rattle.account_trim.specs.Trims.{new_numbers};
 

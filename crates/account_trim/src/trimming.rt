@@ -1,5 +1,3 @@
-//! Facts and bans without those that a conclusion doesn't rest on.
-
 ghost use Rattle.std.specs.Prelude.{◌≡◌, ◌<◌, All, IfOk, length, map};
 ghost use Rattle.account_trim.specs.Marks.{AreMarks};
 ghost use Rattle.account_trim.specs.Names.{ReferBack, bans_named, facts_named};

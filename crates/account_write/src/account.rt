@@ -1,5 +1,3 @@
-//! The account of what a search came to.
-
 ghost use Rattle.std.specs.Prelude.{◌≡◌, ◌++◌, [], ◌∷◌, ◌<◌, ◌^◌, All, IfOk, OnOk, length};
 ghost use Rattle.account_file.specs.Spelling.{IsWritable};
 ghost use Rattle.account_file.specs.declared.record.Record.TheVariants as AnyRecord;

@@ -1,5 +1,3 @@
-//! The lines of an account, printed one after another.
-
 ghost use Rattle.std.specs.Prelude.{◌≡◌, ◌++◌, ◌<◌, [], IsFalse, IsTrue, OnOk};
 ghost use Rattle.account_file.specs.declared.record.Record.TheVariants.{End};
 ghost use Rattle.account_file.specs.Spelling.{IsWritable, record_line};

@@ -1,5 +1,3 @@
-//! Numbers that ascend.
-
 ghost use Rattle.std.specs.Prelude.{◌↔◌, IsTrue};
 ghost use Rattle.account_core.specs.Tallies.{Ascend};
 

@@ -1,5 +1,3 @@
-//! Whether a vector breaks a claim.
-
 ghost use Rattle.std.specs.Prelude.{◌≡◌, ◌<◌, ◌↔◌, IsTrue, IfOk, length};
 ghost use Rattle.net_core.specs.Sides.{graph_of};
 ghost use Rattle.claim_core.specs.Claims.{with_opposites, Breaks, BreaksShape, HasValues, IsClaim, IsPlaced};

@@ -1,5 +1,3 @@
-//! What of a ban isn't among held pairs.
-
 ghost use Rattle.std.specs.Prelude.{◌≡◌, ◌↔◌, ◌∷◌, Contains, IsTrue};
 ghost use Rattle.circuits.specs.declared.port.Pair.{Pair as AnyPair};
 ghost use Rattle.ban_check.specs.Held.{AreMissing, IsAllMissing};

@@ -1,5 +1,3 @@
-//! Pairs in order.
-
 ghost use Rattle.std.specs.Prelude.{◌≡◌, ◌↔◌, IfOk, IfSome, IsSome};
 ghost use Rattle.account_core.specs.Ports.{AreOrdered};
 

@@ -1,5 +1,3 @@
-//! The joined lines of a file, word by word.
-
 ghost use Rattle.std.specs.Prelude.{◌≡◌, ◌+◌, ◌<◌, ◌≤◌, [], length, reverse, take, true, false, IfNone, if◌then◌else◌};
 ghost use Rattle.std.specs.List.{before_first, position_or_len, prefix_len};
 ghost use Rattle.text_core.specs.Bytes.{is_blank};

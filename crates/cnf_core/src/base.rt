@@ -1,5 +1,3 @@
-//! Formulas that tell their clauses one by one.
-
 ghost use Rattle.std.specs.Prelude.{◌≡◌, ◌<◌, ◌≤◌, ◌^◌, All, length};
 ghost use Rattle.cnf_core.specs.Clauses.{Formula, clause_at, literals_of, variable_of};
 

@@ -1,5 +1,3 @@
-//! What learned lines are charged to.
-
 ghost use Rattle.std.specs.Prelude.{◌≡◌, true, false, OnOk, IfErr};
 ghost use Rattle.cnf_core.specs.Charges.{Charging, IsCharged, IsRefused};
 

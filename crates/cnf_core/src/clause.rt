@@ -1,5 +1,3 @@
-//! Short clauses.
-
 ghost use Rattle.std.specs.Prelude.{◌≡◌, ◌≤◌, ◌∷◌, []};
 ghost use Rattle.cnf_core.specs.Clauses.{literals_of};
 

@@ -1,5 +1,3 @@
-//! What a clause does in a propagation.
-
 ghost use Rattle.std.specs.Prelude.{◌≡◌, All};
 ghost use Rattle.cnf_core.specs.Derivations.{effect_of};
 

@@ -1,5 +1,3 @@
-//! What is wrong with a line of a log.
-
 /// The first thing that is wrong with a line of a log, in the order in which the tests are made.
 #[derive(Clone, Copy, Debug, PartialEq, Eq)]
 pub enum LineFault {

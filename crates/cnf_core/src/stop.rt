@@ -1,5 +1,3 @@
-//! Why a search for a refutation ends without one.
-
 use std::alloc::{AllocError, AllocFailed};
 use thiserror::Error;
 

@@ -1,5 +1,3 @@
-//! Why a netlist isn't put in order.
-
 ghost use Rattle.std.specs.Prelude.{◌≡◌};
 
 use std::alloc::{AllocError, AllocFailed};

@@ -1,5 +1,3 @@
-//! Netlists as their files give them: the definitions stand in any order.
-
 ghost use Rattle.std.specs.Prelude.{◌≡◌, ◌+◌, ◌^◌, ◌<◌, length};
 ghost use Rattle.circuits.specs.Circuits.{IsClosed, def_at};
 ghost use Rattle.net_core.specs.PlainNets.{IsPlainNet};

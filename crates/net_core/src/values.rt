@@ -1,5 +1,3 @@
-//! Values that a signal may have.
-
 ghost use Rattle.std.specs.Prelude.{◌≡◌, ◌-◌, ◌^◌, if◌then◌else◌};
 ghost use Rattle.net_core.specs.Values.{Operations};
 

@@ -1,5 +1,3 @@
-//! A query that contracts alone read.
-
 ghost use Rattle.std.specs.Prelude.{◌≡◌};
 
 use claim_core::Query;

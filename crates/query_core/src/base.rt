@@ -1,5 +1,3 @@
-//! A query's clauses, told one by one.
-
 ghost use Rattle.std.specs.Prelude.{◌≡◌, ◌<◌, IfOk, length};
 ghost use Rattle.circuits.specs.Matches.{HavePorts};
 ghost use Rattle.claim_core.specs.Queries.{IsQuery};

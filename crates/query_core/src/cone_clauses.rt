@@ -1,5 +1,3 @@
-//! The clauses of a query's two cones.
-
 ghost use Rattle.std.specs.Prelude.{◌≡◌, ◌<◌, ◌≤◌, ◌^◌, All, Contains, IfOk, length};
 ghost use Rattle.cnf_core.specs.Clauses.{clause_at, literals_of, variable_of};
 ghost use Rattle.claim_core.specs.ConeClauses.{AreConeIds};

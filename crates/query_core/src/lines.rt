@@ -1,5 +1,3 @@
-//! Lines that contracts alone read.
-
 ghost use Rattle.std.specs.Prelude.{◌≡◌, ◌∷◌, ◌++◌, [], IfOk, OnErr, OnOk, length, map};
 
 use cnf_core::LogLine;

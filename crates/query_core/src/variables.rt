@@ -1,5 +1,3 @@
-//! The variables that stand for the gates of a query's circuits.
-
 ghost use Rattle.std.specs.Prelude.{◌≡◌, ◌+◌, ◌<◌, ◌^◌, All, IfOk, length, slice_index_or};
 ghost use Rattle.claim_core.specs.ConeClauses.{AreReached, left_gates, right_gates};
 ghost use Rattle.claim_core.specs.Formulas.{left_variables, right_variables};

@@ -1,5 +1,3 @@
-//! The literals that are true while a line is checked.
-
 ghost use Rattle.std.specs.Prelude.{◌≡◌, ◌+◌, ◌<◌, ◌≤◌, ◌++◌, ◌∷◌, [], false, None, IfOk, All, length, replicate};
 ghost use Rattle.std.specs.Prelude.{vec_len, vec_capacity};
 ghost use Rattle.cnf_core.specs.Clauses.{variable_of};

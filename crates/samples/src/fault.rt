@@ -1,5 +1,3 @@
-//! Why a sample isn't made.
-
 ghost use Rattle.std.specs.Prelude.{◌≡◌};
 
 use std::alloc::{AllocError, AllocFailed};

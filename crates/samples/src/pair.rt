@@ -1,5 +1,3 @@
-//! Two graphs of a test.
-
 ghost use Rattle.std.specs.Prelude.{◌≡◌, ◌∷◌, [], IfOk};
 ghost use Rattle.net_core.specs.Graph.{IsGraph};
 ghost use Rattle.samples.specs.Samples.{net_numbered};

@@ -1,5 +1,3 @@
-//! A shelf in memory of which some calls are told to fail.
-
 ghost use Rattle.std.specs.Prelude.{◌≡◌, ◌≢◌, ◌↔◌, ℕ, ◌≤◌, min, List, map, true, None, Some, Ok, Err, IfOk};
 ghost use Rattle.std.specs.Prelude.{MatchOption, string_bytes, AllPairs, length};
 ghost use Rattle.shelf_core.specs.State.{Closed, Reading, Writing};

@@ -1,5 +1,3 @@
-//! A sink in memory of which some calls are told to fail.
-
 ghost use Rattle.std.specs.Prelude.{◌≡◌, ◌↔◌, [], true, Err};
 ghost use Rattle.shelf_core.specs.Puts.{Puts};
 ghost use Rattle.shelf_core.specs.Failing.{FailsNext, IsCounted};

@@ -1,5 +1,3 @@
-//! Texts that are printed part by part.
-
 ghost use Rattle.std.specs.Prelude.{◌≡◌, ℕ, ◌<◌, List, [], ◌++◌, IsFalse, IsTrue, OnOk};
 ghost use Rattle.text_core.specs.Extends.{Extends};
 

@@ -1,5 +1,3 @@
-//! The three values.
-
 ghost use Rattle.std.specs.Prelude.{◌≡◌};
 ghost use Rattle.word_sim.specs.ThreeValues.{tri_not};
 

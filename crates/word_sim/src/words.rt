@@ -1,5 +1,3 @@
-//! Tables of words, a column for each port.
-
 ghost use Rattle.std.specs.Prelude.{◌≡◌, ◌<◌, ◌≤◌, ◌+◌, [], ℕ, All, IfOk, length, replicate, slice_index_or, slice_set};
 ghost use Rattle.std.specs.Simd.Lanes.{put_chunk};
 ghost use Rattle.word_sim.specs.Columns.{IsTable, lane as lane_bits, row_of, vector_at, word_of};
