@@ -30,7 +30,7 @@ use Rattle.account_check.specs.declared.verdict.CheckStop.{CheckStop}
 use Rattle.account_check.specs.declared.verdict.CheckStop.TheVariants.{Memory}
 use Rattle.account_check.specs.Accounts.{Account, after, empty_account, verdict_of, HasFault}
 use Rattle.account_check.specs.Verdicts.{IsVerdict}
-use Rattle.account_check.specs.Checking.{refused, unread, AreTaken, Goes, IsChecking, IsDone, IsThrough, TellsStop, Told}
+use Rattle.account_check.specs.Checking.{refused, unread, AreTaken, Goes, IsChecking, IsDone, IsThrough, TellsStop, WhateverFollows}
 use Rattle.account_check.proofs.AccountLemmas.{account_after-push, account_graphs, account_place}
 use Rattle.account_check.proofs.VerdictLemmas.{valid_more}
 
@@ -78,7 +78,7 @@ through false graphs bytes old new account so_far says read stays no_fault = rec
 }
 
 -- what is said of a text is said as something else
-told_as : {P Q : List ℕ → Type 0} (finished : Bool) (bytes : List ℕ) → ((text : List ℕ) → P text → Q text) → Told finished bytes P → Told finished bytes Q
+told_as : {P Q : List ℕ → Type 0} (finished : Bool) (bytes : List ℕ) → ((text : List ℕ) → P text → Q text) → WhateverFollows finished bytes P → WhateverFollows finished bytes Q
 told_as {P} {Q} true bytes as_other told = as_other bytes told
 told_as {P} {Q} false bytes as_other told = λ more. as_other (bytes ++ more) (told more)
 
@@ -88,7 +88,7 @@ memory_told true graphs bytes = tt
 memory_told false graphs bytes = λ more. tt
 
 -- the next record of a text stays where the text goes on
-next_stays : (finished : Bool) (bytes : List ℕ) (before : List Record) (entry : Record) → IsNextRecord bytes before entry → Told finished bytes (λ text. IsNextRecord text before entry)
+next_stays : (finished : Bool) (bytes : List ℕ) (before : List Record) (entry : Record) → IsNextRecord bytes before entry → WhateverFollows finished bytes (λ text. IsNextRecord text before entry)
 next_stays true bytes before entry next = next
 next_stays false bytes before entry next = λ more.
     let n = length before + 1 in
@@ -100,7 +100,7 @@ next_stays false bytes before entry next = λ more.
     subst (λ l. AreRecords l (before ++ entry ∷ [])) (sym same) next
 
 -- and so does its fault
-form_fault_stays : (finished : Bool) (bytes : List ℕ) (before : List Record) (fault : RecordFault) → SaysNext bytes finished before (Err fault) → Told finished bytes (λ text. HasFormFault text before fault)
+form_fault_stays : (finished : Bool) (bytes : List ℕ) (before : List Record) (fault : RecordFault) → SaysNext bytes finished before (Err fault) → WhateverFollows finished bytes (λ text. HasFormFault text before fault)
 form_fault_stays true bytes before fault bad = bad
 form_fault_stays false bytes before fault bad = λ more. (fault_stays bytes more before fault bad).0
 

@@ -46,13 +46,13 @@ IsThrough true graphs bytes reading account = IsDone graphs bytes account
 IsThrough false graphs bytes reading account = AreTaken graphs bytes reading account
 
 -- what is said of a text; of whatever it goes on as, where more bytes may come
-abbrev pub Told : Bool → List ℕ → (List ℕ → Type 0) → Type 0
-Told true bytes P = P bytes
-Told false bytes P = (more : List ℕ) → P (bytes ++ more)
+abbrev pub WhateverFollows : Bool → List ℕ → (List ℕ → Type 0) → Type 0
+WhateverFollows true bytes P = P bytes
+WhateverFollows false bytes P = (more : List ℕ) → P (bytes ++ more)
 
 -- what a stop tells: the first bad line of a text
 abbrev pub TellsStop : Bool → Graphs → List ℕ → CheckStop → Type 0
-TellsStop finished graphs bytes stop = Told finished bytes (λ text. IsVerdict graphs text (Err stop))
+TellsStop finished graphs bytes stop = WhateverFollows finished bytes (λ text. IsVerdict graphs text (Err stop))
 
 -- what a step tells: one record more was taken, or all are, or the next line is bad
 abbrev pub Goes : Bool → Graphs → List ℕ → Reading → Account → Result Bool CheckStop → Type 0

@@ -26,7 +26,7 @@ pub mod OneDelta
 pub mod OneSymbols
 pub mod OneAiger
 pub mod FewPorts
-pub mod TellLemmas
+pub mod DecidableLemmas
 pub mod SomeHeader
 pub mod SomeBody
 pub mod SomeGates

@@ -12,20 +12,20 @@ use Rattle.aiger_reader.specs.Reading.{IsWanted}
 use Rattle.aiger_reader.proofs.HeaderLemmas.{map_same}
 use Rattle.aiger_reader.proofs.GoodLemmas.{defined_by, defined_none, defined_more, good_more, row_good}
 use Rattle.aiger_reader.proofs.OneBody.{defines_one}
-use Rattle.aiger_reader.proofs.TellLemmas.{Told, told_both, told_by, told_if, told_not, told_same, told_le, told_true, told_all, told_contains, told_some, all_or_first, steps_or}
+use Rattle.aiger_reader.proofs.DecidableLemmas.{Decidable, decidable_both, decidable_by, decidable_if, decidable_not, decidable_same, decidable_le, decidable_true, decidable_all, decidable_contains, decidable_some, all_or_first, steps_or}
 
-told_writes : (line : List ℕ) (role : Role) → Told ((row : List ℕ) × Writes line role row)
-told_writes line role =
-    elim (told_some (numbers_on line)) [
+decidable_writes : (line : List ℕ) (role : Role) → Decidable ((row : List ℕ) × Writes line role row)
+decidable_writes line role =
+    elim (decidable_some (numbers_on line)) [
       | inr none ↦ inr (λ writes. none (writes.0, writes.1.numbers))
-      | inl row ↦ told_by (λ wide. (row.0, record { numbers = row.1; width = wide })) (λ writes. ap length (map_same row.0 writes.0 (sym row.1 ∙ writes.1.numbers)) ∙ writes.1.width) (told_same (length row.0) (wanted role))
+      | inl row ↦ decidable_by (λ wide. (row.0, record { numbers = row.1; width = wide })) (λ writes. ap length (map_same row.0 writes.0 (sym row.1 ∙ writes.1.numbers)) ∙ writes.1.width) (decidable_same (length row.0) (wanted role))
     ]
 
-told_good : (h : AigerHeader) (role : Role) (row : List ℕ) → Told (IsGoodRow h role row)
-told_good h role row =
-    let range = told_all (λ literal. literal ≤ 2 * h.variables + 1) (λ literal. told_le literal (2 * h.variables + 1)) row in
-    let plain = told_if (told_true (defines role)) (told_both (told_same (first_of row % 2) 0) (told_le 2 (first_of row))) in
-    told_by (λ both. record { in_range = both.0; plain = both.1 }) (λ good. (good.in_range, good.plain)) (told_both range plain)
+decidable_good : (h : AigerHeader) (role : Role) (row : List ℕ) → Decidable (IsGoodRow h role row)
+decidable_good h role row =
+    let range = decidable_all (λ literal. literal ≤ 2 * h.variables + 1) (λ literal. decidable_le literal (2 * h.variables + 1)) row in
+    let plain = decidable_if (decidable_true (defines role)) (decidable_both (decidable_same (first_of row % 2) 0) (decidable_le 2 (first_of row))) in
+    decidable_by (λ both. record { in_range = both.0; plain = both.1 }) (λ good. (good.in_range, good.plain)) (decidable_both range plain)
 
 abbrev AreDistinct : List ℕ → Type 0
 AreDistinct variables = AllPairs (λ one other. one ≢ other) variables
@@ -44,7 +44,7 @@ IsAgain variables role row = IsTrue (defines role) × Contains variables (first_
 
 distinct_then : (variables : List ℕ) (role : Role) (row : List ℕ) → AreDistinct variables → (IsAgain variables role row → ⊥) → AreDistinct (variables ++ defined_by role row)
 distinct_then variables role row distinct fresh =
-    elim (told_true (defines role)) [
+    elim (decidable_true (defines role)) [
       | inl defining ↦ subst (λ vs. AreDistinct (variables ++ vs)) (sym (defines_one role row defining)) (distinct_more variables (first_of row / 2) distinct (λ there. fresh (defining, there)))
       | inr not_so ↦ subst AreDistinct (sym (ap (λ vs. variables ++ vs) (defines_none role row not_so) ∙ append-nil variables)) distinct
     ]
@@ -68,9 +68,9 @@ row_or_fault : (bytes : List ℕ) (h : AigerHeader) (rows : List (List ℕ)) (ro
 row_or_fault bytes h rows row good announced there writes =
     let role = role_at h (length rows) in
     let at = line_offset bytes (length rows + 1) in
-    elim (told_good h role row) [
+    elim (decidable_good h role row) [
       | inr bad ↦ inr (kind.BadLiteral, at, record { rows = rows; good = good; wanted_line = announced; why = (record { row = row; there = there; written = writes; bad = bad }, refl) })
-      | inl fine ↦ elim (told_both (told_true (defines role)) (told_contains (defined (roles_of h) rows) (first_of row / 2))) [
+      | inl fine ↦ elim (decidable_both (decidable_true (defines role)) (decidable_contains (defined (roles_of h) rows) (first_of row / 2))) [
         | inl again ↦ inr (kind.Redefined, at, record { rows = rows; good = good; wanted_line = announced; why = (record { row = row; there = there; written = writes; good = fine; defining = again.0; before = again.1 }, refl) })
         | inr fresh ↦ inl (rows ++ row ∷ [], front_more bytes h rows row good announced there writes fine fresh, length_push rows row)
       ]
@@ -81,7 +81,7 @@ line_or_fault bytes h rows good announced =
     let line = get_or (body_lines bytes) (length rows) [] in
     elim (cases_lt (length rows) (length (body_lines bytes))) [
       | inr none ↦ inr (kind.Truncated, length bytes, record { rows = rows; good = good; wanted_line = announced; why = (omega (arith, none, good.there), refl) })
-      | inl there ↦ elim (told_writes line (role_at h (length rows))) [
+      | inl there ↦ elim (decidable_writes line (role_at h (length rows))) [
         | inl writes ↦ row_or_fault bytes h rows writes.0 good announced there writes.1
         | inr none ↦ inr (kind.BadLine, line_offset bytes (length rows + 1), record { rows = rows; good = good; wanted_line = announced; why = (record { there = there; unwritten = λ row writes. none (row, writes) }, refl) })
       ]
@@ -109,14 +109,14 @@ body_or_bad bytes h =
       | inl front ↦ inl (front.0, record { good = front.1; whole = front.2 })
     ]
 
-told_known : (h : AigerHeader) (rows : List (List ℕ)) (k : ℕ) → Told (IsKnownRow h rows k)
-told_known h rows k =
+decidable_known : (h : AigerHeader) (rows : List (List ℕ)) (k : ℕ) → Decidable (IsKnownRow h rows k)
+decidable_known h rows k =
     let variables = defined (roles_of h) rows in
-    told_all (IsKnown variables) (λ literal. told_if (told_not (told_same (literal / 2) 0)) (told_contains variables (literal / 2))) (reads (role_at h k) (get_or rows k []))
+    decidable_all (IsKnown variables) (λ literal. decidable_if (decidable_not (decidable_same (literal / 2) 0)) (decidable_contains variables (literal / 2))) (reads (role_at h k) (get_or rows k []))
 
 pub known_or_not : (bytes : List ℕ) (h : AigerHeader) (rows : List (List ℕ)) → ((k : ℕ) → k < length rows → IsKnownRow h rows k) ⊎ ((at : ℕ) × IsUndefined bytes h rows at)
 known_or_not bytes h rows =
-    elim (all_or_first (IsKnownRow h rows) (told_known h rows) (length rows)) [
+    elim (all_or_first (IsKnownRow h rows) (decidable_known h rows) (length rows)) [
       | inl known ↦ inl known
       | inr found ↦ inr (line_offset bytes (found.0 + 1), record { place = found.0; there = found.1.0; unknown = found.1.1; first = found.1.2; offset = refl })
     ]

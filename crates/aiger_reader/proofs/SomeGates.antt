@@ -7,7 +7,7 @@ use Rattle.aiger_reader.specs.Bodies.{line_offset}
 use Rattle.aiger_reader.specs.Deltas.{IsInGroups, BeginsGroups, BeginsDelta, BeginsOperand, BeginsGates, AreGates, IsBadPair, IsPairFault, IsDeltaFault, after_outputs}
 use Rattle.aiger_reader.proofs.DeltaLemmas.{last_group, group_before, no_group_after, delta_same}
 use Rattle.aiger_reader.proofs.PairLemmas.{BeginsPair, gates_push}
-use Rattle.aiger_reader.proofs.TellLemmas.{Told, told_both, told_le, steps_or}
+use Rattle.aiger_reader.proofs.DecidableLemmas.{Decidable, decidable_both, decidable_le, steps_or}
 
 groups_some : (groups : List ℕ) (n : ℕ) → IsInGroups groups n → 0 < length groups
 groups_some [] n value = absurd value
@@ -16,14 +16,14 @@ groups_some (group ∷ groups) n value = omega arith
 abbrev HasGroups : ℕ → List ℕ → Type 0
 HasGroups most bytes = (n : ℕ) × (rest : List ℕ) × BeginsGroups most bytes n rest
 
-told_groups : (most : ℕ) (bytes : List ℕ) → Told (HasGroups most bytes)
-told_groups zero bytes = inr (λ has. omega (arith, groups_some has.2.groups has.0 has.2.value, has.2.short))
-told_groups (suc most) [] =
+decidable_groups : (most : ℕ) (bytes : List ℕ) → Decidable (HasGroups most bytes)
+decidable_groups zero bytes = inr (λ has. omega (arith, groups_some has.2.groups has.0 has.2.value, has.2.short))
+decidable_groups (suc most) [] =
     inr (λ has. omega (arith, groups_some has.2.groups has.0 has.2.value, ap length has.2.spelled, length-append has.2.groups has.1))
-told_groups (suc most) (byte ∷ bytes) =
+decidable_groups (suc most) (byte ∷ bytes) =
     elim (cases_lt byte 128) [
       | inl below ↦ inl (byte, bytes, last_group (suc most) byte byte (byte ∷ bytes) bytes refl below refl (omega arith))
-      | inr above ↦ elim (told_groups most bytes) [
+      | inr above ↦ elim (decidable_groups most bytes) [
         | inl has ↦ inl (byte - 128 + 128 * has.0, has.1, group_before (suc most) most byte (byte - 128) has.0 (byte ∷ bytes) bytes has.1 refl above refl (omega arith) has.2)
         | inr none ↦ inr (λ has. no_group_after (suc most) most byte has.0 (byte ∷ bytes) bytes has.1 refl above (omega arith) (λ m left begins. none (m, left, begins)) has.2)
       ]
@@ -32,11 +32,11 @@ told_groups (suc most) (byte ∷ bytes) =
 abbrev HasOperand : ℕ → ℕ → List ℕ → Type 0
 HasOperand least literal bytes = (a : ℕ) × (rest : List ℕ) × BeginsOperand least literal bytes a rest
 
-told_operand : (least literal : ℕ) (bytes : List ℕ) → Told (HasOperand least literal bytes)
-told_operand least literal bytes =
-    elim (told_groups 5 bytes) [
+decidable_operand : (least literal : ℕ) (bytes : List ℕ) → Decidable (HasOperand least literal bytes)
+decidable_operand least literal bytes =
+    elim (decidable_groups 5 bytes) [
       | inr none ↦ inr (λ has. none (has.2.delta, has.1, has.2.read))
-      | inl delta ↦ elim (told_both (told_le least delta.0) (told_le delta.0 literal)) [
+      | inl delta ↦ elim (decidable_both (decidable_le least delta.0) (decidable_le delta.0 literal)) [
         | inl fits ↦ inl (literal - delta.0, delta.1, record { delta = delta.0; read = delta.2; above = fits.0; operand = omega (arith, fits.1) })
         | inr not_so ↦ inr (λ has. let same = delta_same bytes delta.1 has.1 delta.0 has.2.delta delta.2 has.2.read in not_so (omega (arith, same.0, has.2.above), omega (arith, same.0, has.2.operand)))
       ]
@@ -51,10 +51,10 @@ HasPair literal bytes = (pair : ℕ × ℕ) × (rest : List ℕ) × (length rest
 
 pair_or_bad : (literal total : ℕ) (bytes : List ℕ) → length bytes ≤ total → HasPair literal bytes ⊎ ((at : ℕ) × IsBadPair literal bytes total at)
 pair_or_bad literal total bytes within =
-    elim (told_operand 1 literal bytes) [
+    elim (decidable_operand 1 literal bytes) [
       | inr none ↦ inr (total - length bytes, inl ((λ a rest begins. none (a, rest, begins)), omega (arith, within)))
       | inl first ↦ let shorter = delta_shorter bytes first.1 first.2.delta first.2.read in
-          elim (told_operand 0 first.0 first.1) [
+          elim (decidable_operand 0 first.0 first.1) [
             | inr none ↦ inr (total - length first.1, inr (first.0, first.1, first.2, (λ b rest begins. none (b, rest, begins)), omega (arith, within, shorter)))
             | inl second ↦ let less = delta_shorter first.1 second.1 second.2.delta second.2.read in
                 inl ((first.0, second.0), second.1, omega (arith, shorter, less), (first.1, first.2, second.2))

@@ -7,7 +7,7 @@ use Rattle.aiger_reader.specs.Headers.{AigerHeader, header_numbers, keyword, lin
 use Rattle.aiger_reader.specs.Numbers.{IsHeaderFault}
 use Rattle.aiger_reader.proofs.HeaderLemmas.{map_same, keyword_same}
 use Rattle.aiger_reader.proofs.OneBody.{header_from_row}
-use Rattle.aiger_reader.proofs.TellLemmas.{Told, told_both, told_by, told_if, told_same, told_le, told_lt, told_true, told_all, told_list, told_some}
+use Rattle.aiger_reader.proofs.DecidableLemmas.{Decidable, decidable_both, decidable_by, decidable_if, decidable_same, decidable_le, decidable_lt, decidable_true, decidable_all, decidable_list, decidable_some}
 
 -- the file's only header is that of its numbers
 header_is : (bytes : List ℕ) (binary : Bool) (row : List ℕ) (h : AigerHeader) → take 4 bytes ≡ keyword binary → numbers_on (line_after bytes) ≡ map Some row → HasHeader bytes h → h ≡ header_from_row binary row
@@ -18,46 +18,46 @@ five_numbers : (binary : Bool) (row : List ℕ) → 5 ≤ length row → header_
 five_numbers binary (a ∷ b ∷ c ∷ d ∷ e ∷ rest) enough = refl
 five_numbers binary row enough = absurd (omega arith)
 
-told_enough : (bytes : List ℕ) (binary : Bool) (row : List ℕ) → take 4 bytes ≡ keyword binary → numbers_on (line_after bytes) ≡ map Some row → 5 ≤ length row → Told (HasHeader bytes (header_from_row binary row))
-told_enough bytes binary row begins written enough =
+decidable_enough : (bytes : List ℕ) (binary : Bool) (row : List ℕ) → take 4 bytes ≡ keyword binary → numbers_on (line_after bytes) ≡ map Some row → 5 ≤ length row → Decidable (HasHeader bytes (header_from_row binary row))
+decidable_enough bytes binary row begins written enough =
     let h = header_from_row binary row in
     let same = five_numbers binary row enough in
-    let numbers = told_both (told_le (length h.properties) 4) (told_all (λ n. n < 2 ^ 32) (λ n. told_lt n (2 ^ 32)) (header_numbers h)) in
-    let counts = told_both (told_le (h.inputs + h.latches + h.gates) h.variables) (told_if (told_true h.binary) (told_same (h.inputs + h.latches + h.gates) h.variables)) in
-    told_by (λ both. record {
+    let numbers = decidable_both (decidable_le (length h.properties) 4) (decidable_all (λ n. n < 2 ^ 32) (λ n. decidable_lt n (2 ^ 32)) (header_numbers h)) in
+    let counts = decidable_both (decidable_le (h.inputs + h.latches + h.gates) h.variables) (decidable_if (decidable_true h.binary) (decidable_same (h.inputs + h.latches + h.gates) h.variables)) in
+    decidable_by (λ both. record {
       begins = begins;
       numbers = record { written = written ∙ ap (map Some) (sym same); few = both.0.0; small = both.0.1 };
       counted = both.1.0;
       no_gaps = both.1.1;
-    }) (λ has. ((has.numbers.few, has.numbers.small), (has.counted, has.no_gaps))) (told_both numbers counts)
+    }) (λ has. ((has.numbers.few, has.numbers.small), (has.counted, has.no_gaps))) (decidable_both numbers counts)
 
-told_row : (bytes : List ℕ) (binary : Bool) (row : List ℕ) → take 4 bytes ≡ keyword binary → numbers_on (line_after bytes) ≡ map Some row → Told (HasHeader bytes (header_from_row binary row))
-told_row bytes binary row begins written =
-    elim (told_le 5 (length row)) [
-      | inl enough ↦ told_enough bytes binary row begins written enough
+decidable_row : (bytes : List ℕ) (binary : Bool) (row : List ℕ) → take 4 bytes ≡ keyword binary → numbers_on (line_after bytes) ≡ map Some row → Decidable (HasHeader bytes (header_from_row binary row))
+decidable_row bytes binary row begins written =
+    elim (decidable_le 5 (length row)) [
+      | inl enough ↦ decidable_enough bytes binary row begins written enough
       | inr few ↦ inr (λ has. let same = map_same (header_numbers (header_from_row binary row)) row (sym has.numbers.written ∙ written) in few (omega (arith, ap length same)))
     ]
 
 abbrev HasSome : List ℕ → Type 0
 HasSome bytes = (h : AigerHeader) × HasHeader bytes h
 
-told_form : (bytes : List ℕ) (binary : Bool) → take 4 bytes ≡ keyword binary → Told (HasSome bytes)
-told_form bytes binary begins =
-    elim (told_some (numbers_on (line_after bytes))) [
+decidable_form : (bytes : List ℕ) (binary : Bool) → take 4 bytes ≡ keyword binary → Decidable (HasSome bytes)
+decidable_form bytes binary begins =
+    elim (decidable_some (numbers_on (line_after bytes))) [
       | inr none ↦ inr (λ has. none (header_numbers has.0, has.1.numbers.written))
-      | inl row ↦ told_by (λ has. (header_from_row binary row.0, has)) (λ has. subst (HasHeader bytes) (header_is bytes binary row.0 has.0 begins row.1 has.1) has.1) (told_row bytes binary row.0 begins row.1)
+      | inl row ↦ decidable_by (λ has. (header_from_row binary row.0, has)) (λ has. subst (HasHeader bytes) (header_is bytes binary row.0 has.0 begins row.1 has.1) has.1) (decidable_row bytes binary row.0 begins row.1)
     ]
 
 no_form : (bytes : List ℕ) (binary : Bool) → (take 4 bytes ≡ keyword true → ⊥) → (take 4 bytes ≡ keyword false → ⊥) → take 4 bytes ≡ keyword binary → ⊥
 no_form bytes true not_binary not_text begins = not_binary begins
 no_form bytes false not_binary not_text begins = not_text begins
 
-told_header : (bytes : List ℕ) → Told (HasSome bytes)
-told_header bytes =
-    elim (told_list (take 4 bytes) (keyword true)) [
-      | inl begins ↦ told_form bytes true begins
-      | inr not_binary ↦ elim (told_list (take 4 bytes) (keyword false)) [
-        | inl begins ↦ told_form bytes false begins
+decidable_header : (bytes : List ℕ) → Decidable (HasSome bytes)
+decidable_header bytes =
+    elim (decidable_list (take 4 bytes) (keyword true)) [
+      | inl begins ↦ decidable_form bytes true begins
+      | inr not_binary ↦ elim (decidable_list (take 4 bytes) (keyword false)) [
+        | inl begins ↦ decidable_form bytes false begins
         | inr not_text ↦ inr (λ has. no_form bytes has.0.binary not_binary not_text has.1.begins)
       ]
     ]
@@ -74,7 +74,7 @@ accepted_or_fault bytes h (Some fault) is has = inr (fault, inr (h, has, is))
 
 pub begun_or_fault : (bytes : List ℕ) → IsBegun bytes ⊎ HasFault bytes
 begun_or_fault bytes =
-    elim (told_header bytes) [
+    elim (decidable_header bytes) [
       | inl has ↦ accepted_or_fault bytes has.0 (header_fault has.0) refl has.1
       | inr none ↦ inr (kind.Header, inl (refl, λ h has. none (h, has)))
     ]

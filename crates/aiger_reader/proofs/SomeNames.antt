@@ -13,7 +13,7 @@ use Rattle.aiger_reader.proofs.PositionLemmas.{position_parts, position_here}
 use Rattle.aiger_reader.proofs.SymbolLemmas.{after_letter, unnamed, gives_same}
 use Rattle.aiger_reader.proofs.GiveLemmas.{give_more, give_split, give_same}
 use Rattle.aiger_reader.proofs.OneSymbols.{port_or_not}
-use Rattle.aiger_reader.proofs.TellLemmas.{Told, told_both, told_by, told_not, told_same, told_lt, told_all, told_list, steps_or}
+use Rattle.aiger_reader.proofs.DecidableLemmas.{Decidable, decidable_both, decidable_by, decidable_not, decidable_same, decidable_lt, decidable_all, decidable_list, steps_or}
 
 -- a text without a carriage return at its end
 last_or_none : (text : List ℕ) → (text ≡ []) ⊎ ((front : List ℕ) × (last : ℕ) × (text ≡ front ++ last ∷ []))
@@ -28,7 +28,7 @@ without_return : (text : List ℕ) → (name : List ℕ) × IsWithoutReturn text
 without_return text =
     elim (last_or_none text) [
       | inl none ↦ (text, record { cases = inr (refl, λ front e. omega (arith, ap length e, ap length none, length_push front 13)) })
-      | inr some ↦ elim (told_same some.1 13) [
+      | inr some ↦ elim (decidable_same some.1 13) [
         | inl e ↦ (some.0, record { cases = inl (some.2 ∙ ap (λ b. some.0 ++ b ∷ []) e) })
         | inr apart ↦ (text, record { cases = inr (refl, λ front e. apart (same_from_push some.0 front some.1 13 (sym some.2 ∙ e)).1) })
       ]
@@ -41,10 +41,10 @@ some_or_none (Some n) = inl (n, refl)
 abbrev HasPosition : List ℕ → Type 0
 HasPosition bytes = (position : ℕ) × (tail : List ℕ) × BeginsPosition bytes position tail
 
-told_position : (bytes : List ℕ) → Told (HasPosition bytes)
-told_position bytes =
+decidable_position : (bytes : List ℕ) → Decidable (HasPosition bytes)
+decidable_position bytes =
     let n = word_length bytes in
-    elim (told_lt n (length bytes)) [
+    elim (decidable_lt n (length bytes)) [
       | inr none ↦ inr (λ has. none (position_parts bytes has.1 has.0 has.2).there)
       | inl there ↦ elim (some_or_none (number (take n bytes))) [
         | inl some ↦ let tail = take (length bytes - (n + 1)) (drop (n + 1) bytes) in inl (some.0, tail, position_here bytes tail some.0 there some.1 refl)
@@ -54,9 +54,9 @@ told_position bytes =
 
 kind_or_none : (byte : ℕ) → ((kind : PortKind) × (byte ≡ letter_of kind)) ⊎ ((byte ≡ 105 → ⊥) × (byte ≡ 111 → ⊥))
 kind_or_none byte =
-    elim (told_same byte 105) [
+    elim (decidable_same byte 105) [
       | inl e ↦ inl (Input, e)
-      | inr not_input ↦ elim (told_same byte 111) [ inl e ↦ inl (Output, e) | inr not_output ↦ inr (not_input, not_output) ]
+      | inr not_input ↦ elim (decidable_same byte 111) [ inl e ↦ inl (Output, e) | inr not_output ↦ inr (not_input, not_output) ]
     ]
 
 no_kind : (byte : ℕ) (kind : PortKind) → (byte ≡ 105 → ⊥) → (byte ≡ 111 → ⊥) → byte ≡ letter_of kind → ⊥
@@ -66,39 +66,39 @@ no_kind byte Output not_input not_output e = not_output e
 abbrev HasNamed : List ℕ → Type 0
 HasNamed line = (port : Port) × (name : List ℕ) × NamesPort line port name
 
-told_tail : (byte : ℕ) (rest tail : List ℕ) (kind : PortKind) (position : ℕ) → byte ≡ letter_of kind → BeginsPosition rest position tail → Told (HasNamed (byte ∷ rest))
-told_tail byte rest tail kind position letter begins =
+decidable_tail : (byte : ℕ) (rest tail : List ℕ) (kind : PortKind) (position : ℕ) → byte ≡ letter_of kind → BeginsPosition rest position tail → Decidable (HasNamed (byte ∷ rest))
+decidable_tail byte rest tail kind position letter begins =
     let name = without_return tail in
-    elim (told_list name.0 []) [
+    elim (decidable_list name.0 []) [
       | inl empty ↦ inr (λ has. unnamed (byte ∷ rest) rest tail has.1 name.0 position has.0 refl begins name.1 empty has.2)
       | inr some ↦ inl (port_at kind position, name.0, record { rest = rest; tail = tail; form = ap (λ b. b ∷ rest) letter; place = begins; name_is = name.1; named = some })
     ]
 
-told_named : (line : List ℕ) → Told (HasNamed line)
-told_named [] = inr (λ has. let form = has.2.form in cc)
-told_named (byte ∷ rest) =
+decidable_named : (line : List ℕ) → Decidable (HasNamed line)
+decidable_named [] = inr (λ has. let form = has.2.form in cc)
+decidable_named (byte ∷ rest) =
     elim (kind_or_none byte) [
       | inr none ↦ inr (λ has. let form = has.2.form in no_kind byte has.0.kind none.0 none.1 (cc))
-      | inl kind ↦ elim (told_position rest) [
+      | inl kind ↦ elim (decidable_position rest) [
         | inr none ↦ inr (λ has. none (has.0.position, has.2.tail, after_letter (byte ∷ rest) rest has.1 has.0 has.2 refl))
-        | inl position ↦ told_tail byte rest position.1 kind.0 position.0 kind.1 position.2
+        | inl position ↦ decidable_tail byte rest position.1 kind.0 position.0 kind.1 position.2
       ]
     ]
 
-told_no_words : (parts : List (List ℕ)) → Told (parts ≡ [])
-told_no_words [] = inl refl
-told_no_words (part ∷ parts) = inr (λ e. cc)
+decidable_no_words : (parts : List (List ℕ)) → Decidable (parts ≡ [])
+decidable_no_words [] = inl refl
+decidable_no_words (part ∷ parts) = inr (λ e. cc)
 
 gives_none : (line : List ℕ) (new : List Entry) → (words line ≡ [] → ⊥) → (HasNamed line → ⊥) → GivesName line new → ⊥
 gives_none line [] some none gives = some gives
 gives_none line (entry ∷ []) some none gives = none (entry.0, entry.1, gives)
 gives_none line (entry ∷ other ∷ new) some none gives = absurd gives
 
-told_gives : (line : List ℕ) → Told ((new : List Entry) × GivesName line new)
-told_gives line =
-    elim (told_no_words (words line)) [
+decidable_gives : (line : List ℕ) → Decidable ((new : List Entry) × GivesName line new)
+decidable_gives line =
+    elim (decidable_no_words (words line)) [
       | inl none ↦ inl ([], none)
-      | inr some ↦ elim (told_named line) [
+      | inr some ↦ elim (decidable_named line) [
         | inl named ↦ inl ((named.0, named.1) ∷ [], named.2)
         | inr none ↦ inr (λ has. gives_none line has.0 some none has.1)
       ]
@@ -109,22 +109,22 @@ abbrev AreFree : ℕ → ℕ → List Entry → List Entry → Type 0
 AreFree inputs outputs before new =
     All (λ entry. IsThere inputs outputs entry.0) new × All (λ entry. All (λ old. old.0 ≢ entry.0) before) new
 
-told_free : (inputs outputs : ℕ) (before new : List Entry) → Told (AreFree inputs outputs before new)
-told_free inputs outputs before new =
+decidable_free : (inputs outputs : ℕ) (before new : List Entry) → Decidable (AreFree inputs outputs before new)
+decidable_free inputs outputs before new =
     let P : Entry → Type 0 = λ entry. IsThere inputs outputs entry.0 in
     let Q : Entry → Type 0 = λ entry. All (λ old. old.0 ≢ entry.0) before in
-    let there : (entry : Entry) → Told (P entry) = λ entry. elim (entry.0.kind) as (λ kind. Told (IsThere inputs outputs (port_at kind entry.0.position))) [
-      | Input ↦ told_lt entry.0.position inputs
-      | Output ↦ told_lt entry.0.position outputs
+    let there : (entry : Entry) → Decidable (P entry) = λ entry. elim (entry.0.kind) as (λ kind. Decidable (IsThere inputs outputs (port_at kind entry.0.position))) [
+      | Input ↦ decidable_lt entry.0.position inputs
+      | Output ↦ decidable_lt entry.0.position outputs
     ] in
-    let fresh : (entry : Entry) → Told (Q entry) = λ entry. told_all (λ (old : Entry). old.0 ≢ entry.0) (λ old. told_not (port_or_not old.0 entry.0)) before in
-    told_both (told_all P there new) (told_all Q fresh new)
+    let fresh : (entry : Entry) → Decidable (Q entry) = λ entry. decidable_all (λ (old : Entry). old.0 ≢ entry.0) (λ old. decidable_not (port_or_not old.0 entry.0)) before in
+    decidable_both (decidable_all P there new) (decidable_all Q fresh new)
 
-told_adds : (inputs outputs : ℕ) (line : List ℕ) (before : List Entry) → Told ((after : List Entry) × AddsName inputs outputs line before after)
-told_adds inputs outputs line before =
-    elim (told_gives line) [
+decidable_adds : (inputs outputs : ℕ) (line : List ℕ) (before : List Entry) → Decidable ((after : List Entry) × AddsName inputs outputs line before after)
+decidable_adds inputs outputs line before =
+    elim (decidable_gives line) [
       | inr none ↦ inr (λ adds. none (adds.1.0, adds.1.1))
-      | inl new ↦ told_by (λ both. (before ++ new.0, (new.0, new.1, both.0, both.1, refl))) (λ adds. subst (AreFree inputs outputs before) (gives_same line adds.1.0 new.0 adds.1.1 new.1) (adds.1.2, adds.1.3)) (told_free inputs outputs before new.0)
+      | inl new ↦ decidable_by (λ both. (before ++ new.0, (new.0, new.1, both.0, both.1, refl))) (λ adds. subst (AreFree inputs outputs before) (gives_same line adds.1.0 new.0 adds.1.1 new.1) (adds.1.2, adds.1.3)) (decidable_free inputs outputs before new.0)
     ]
 
 -- the names that n lines give
@@ -139,7 +139,7 @@ line_or_fault inputs outputs base text n below front =
     let all = symbol_lines text in
     let line = get_or all n [] in
     let more = take_more all n [] below in
-    elim (told_adds inputs outputs line front.0) [
+    elim (decidable_adds inputs outputs line front.0) [
       | inl adds ↦ inl (adds.0, subst (λ xs. GiveNames inputs outputs xs [] adds.0) (sym more) (give_more inputs outputs (take n all) line [] front.0 adds.0 front.1 adds.1))
       | inr none ↦ inr (
         base + length (text_of_lines (take n (lines text))),
