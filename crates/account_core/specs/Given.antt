@@ -1,4 +1,4 @@
--- What was given of two circuits so far: facts and bans, each numbered from 0 in its own order (this project's format).
+-- The facts and bans that an account has given so far, each numbered from 0 in its own order (this project's format).
 use Rattle.std.specs.Prelude.{ℕ, ◌<◌, Bool, true, false, List, [], ◌++◌, length, map, slice_index_or}
 use Rattle.circuits.specs.declared.port.Pair.{Pair}
 use Rattle.net_core.specs.Sides.{Graphs}

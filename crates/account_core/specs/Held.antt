@@ -1,4 +1,4 @@
--- Pairs that are held while a match is sought (partial signed bijections: Katebi and Markov, DATE 2010).
+-- Pairs that are assigned while a match is sought (partial signed bijections: Katebi and Markov, DATE 2010).
 use Rattle.std.specs.Prelude.{◌≡◌, ◌≢◌, ℕ, ◌<◌, ⊤, Bool, false, List, All, AllPairs, Any, Contains, slice_index_or}
 use Rattle.circuits.specs.declared.port.Pair.{Pair}
 use Rattle.circuits.specs.declared.port.PortKind.{PortKind}
@@ -32,12 +32,12 @@ IsTaken side pairs kind port = Any (IsOf side kind port) pairs
 abbrev pub IsWhole : Graphs → List Pair → Type 0
 IsWhole graphs pairs = (kind : PortKind) (port : ℕ) → port < ports_in graphs.first kind → IsTaken First pairs kind port
 
--- Some of the pairs that are held, in order.
+-- Some of the assigned pairs, in order.
 pub record IsPart (held pairs : List Pair) : Type 0 where
   pub among : All (Contains held) pairs
   pub ordered : AreOrdered pairs
 
--- Held pairs were added to some of those that are held: what was there stays, in order.
+-- Assigned pairs were added to some of them that were listed: these stay, and the list is in order.
 pub record AddsHeld (held before after : List Pair) : Type 0 where
   pub part : IsPart held after
   pub stays : All (Contains after) before

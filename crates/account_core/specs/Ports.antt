@@ -11,7 +11,7 @@ abbrev pub ports_in : Net → PortKind → ℕ
 ports_in net Input = net.inputs
 ports_in net Output = length net.outputs
 
--- Two circuits have as many inputs, and as many outputs.
+-- Two circuits have the same number of inputs, and the same number of outputs.
 pub record HaveAsMany (first second : Net) : Type 0 where
   pub inputs : first.inputs ≡ second.inputs
   pub outputs : length first.outputs ≡ length second.outputs

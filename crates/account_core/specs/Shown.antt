@@ -30,7 +30,7 @@ pub record IsShownMatch (graphs : Graphs) (matching : Matching) (logs : List Log
   pub is_match : IsMatchOfFunctions graphs.first graphs.second matching.inputs matching.outputs
   pub shown : AreLogs graphs matching logs
 
--- A ban that is held and has no pairs: no match has all of none.
+-- A ban that is kept and has no pairs: each match would have all of none, so there is no match.
 pub record IsEmptyBan (bans : List Ban) (number : ℕ) : Type 0 where
   pub held : number < length bans
   pub pairs : (d : Ban) → (slice_index_or bans number d).pairs ≡ []

@@ -29,7 +29,7 @@ KeepsRule graphs given pairs (step.Mismatch fails holds) = IsMismatch given pair
 KeepsRule graphs given pairs (step.Tally kind have lack) = IsTally graphs given pairs kind have lack
 KeepsRule graphs given pairs (step.Cover kind from to refs) = IsCover graphs given pairs kind from to refs
 
--- a step's vector shows what it is given for; no other step has a vector
+-- a step's vector shows that two paired outputs differ; no other step has a vector
 abbrev pub HasShown : Graphs → List Pair → Step → Type 0
 HasShown graphs pairs (step.Vector output values) = ShowsDifference graphs pairs output values
 HasShown graphs pairs (step.Mismatch fails holds) = Unit {0}

@@ -26,7 +26,7 @@ port_on Second pair = pair.to
 abbrev pub shapes_of : Given → List ℕ → List Shape
 shapes_of given numbers = map (λ k. (fact_at given k).claim.shape) numbers
 
--- Facts say of one output of a circuit that claims hold, or that they fail.
+-- Facts of one output of a circuit, all of claims that hold, or all of claims that fail.
 pub record SayOf (given : Given) (numbers : List ℕ) (holds : Bool) (side : Side) (output : ℕ) : Type 0 where
   pub says : All (λ k. (fact_at given k).holds ≡ holds) numbers
   pub of_side : All (λ k. (fact_at given k).claim.side ≡ side) numbers

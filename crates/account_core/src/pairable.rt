@@ -8,8 +8,8 @@ use circuits::PortKind;
 use net_core::{Graph, Graphs, Side};
 use std::marker::Model;
 
-/// Two graphs whose ports can be paired: they have as many inputs, and as many outputs. Where they haven't there is no
-/// match, and nothing to search. Contracts see it as the two graphs.
+/// Two graphs whose ports can be paired: they have the same number of inputs, and the same number of outputs. Where
+/// they haven't there is no match, and nothing to search. Contracts see it as the two graphs.
 #[derive(Drop)]
 pub struct PairableGraphs<'a> {
     graphs: &'a Graphs<'a>,
@@ -27,7 +27,7 @@ impl<'a> Model for PairableGraphs<'a> {
 }
 
 impl<'a> PairableGraphs<'a> {
-    /// These graphs, where they have as many inputs, and as many outputs.
+    /// These graphs, where they have the same number of inputs, and the same number of outputs.
     pub fn new(graphs: &'a Graphs<'a>) -> Option<PairableGraphs<'a>>
         ensures same { IfSome result (λ pairable. pairable ≡ graphs.now) }
         ensures exactly { IsSome result ↔ HaveAsMany graphs.now.first graphs.now.second }

@@ -8,7 +8,7 @@ ghost use Rattle.account_core.specs.Tallies.{other_side, port_on};
 use circuits::{Pair, PortKind};
 use net_core::{Graph, Graphs, Side};
 
-/// Whether two circuits have as many inputs, and as many outputs.
+/// Whether two circuits have the same number of inputs, and the same number of outputs.
 pub fn have_as_many(graphs: &Graphs<'_>) -> bool
     ensures { IsTrue result ↔ HaveAsMany graphs.now.first graphs.now.second }
 {

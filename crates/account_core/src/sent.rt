@@ -1,4 +1,4 @@
-//! What pairs of inputs make of three-valued vectors.
+//! Values of the first circuit's inputs, 0, 1 or X, sent to those of the second by pairs of inputs.
 
 ghost use Rattle.std.specs.Prelude.{◌≡◌, ◌≢◌, ◌<◌, ℕ, IfOk, length, replicate};
 ghost use Rattle.circuits.specs.declared.port.PortKind.TheVariants.{Input};

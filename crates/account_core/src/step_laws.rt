@@ -1,5 +1,4 @@
-//! That valid steps exclude what their bans say: no match has all pairs of a ban. Each function does nothing; its
-//! contract is the law.
+//! Bans with valid steps are right: no match has all pairs of one. Each function does nothing; its contract is the law.
 
 ghost use Rattle.std.specs.Prelude.{ℕ, ◌≡◌, ◌<◌, List, [], All, Option};
 ghost use Rattle.circuits.specs.declared.port.Pair.{Pair as AnyPair};
@@ -22,8 +21,8 @@ ghost use Rattle.account_core.specs.Steps.{AreValidBans, IsValidBan};
 ghost use Rattle.account_core.specs.Tallies.{IsTally};
 ghost use Rattle.account_core.specs.Vectors.{ShowsDifference, AreSent, values_sent};
 
-/// Values on which an output and its partner are both definite, and differ by the sign of their pair, exclude the
-/// pairs: a match would give both outputs these values on each vector that fills the X in.
+/// Where an output and its partner are both definite on some values, and differ by the sign of their pair, no match has
+/// the pairs: under one the two outputs would agree on each vector that fills the X in.
 pub fn vector_excludes()
     ensures { (graphs : TwoGraphs) (pairs : List AnyPair) (output : ℕ) (values : List AnyTri)
         → IsGraph graphs.first
@@ -32,8 +31,8 @@ pub fn vector_excludes()
         → Excludes graphs pairs }
 {}
 
-/// A claim that fails, where the claim of the other circuit that the pairs carry it to holds, excludes the pairs:
-/// under a match both would hold, or neither.
+/// Where a claim fails, and the claim of the other circuit that the pairs carry it to holds, no match has the pairs:
+/// under one both would hold, or neither.
 pub fn mismatch_excludes()
     ensures { (graphs : TwoGraphs) (given : Given) (pairs : List AnyPair) (fails holds : ℕ)
         → All (IsTrueFact graphs) given.facts
@@ -43,8 +42,8 @@ pub fn mismatch_excludes()
         → Excludes graphs pairs }
 {}
 
-/// More inputs that one output has, together with those that its partner lacks, than there are, exclude the pairs:
-/// under a match some input that the one has would go to an input that the other lacks.
+/// Where the inputs that an output has and those that its partner lacks are together more than a circuit has, no match
+/// has the pairs: under one some input that the output has would go to an input that the partner lacks.
 pub fn tally_excludes()
     ensures { (graphs : TwoGraphs) (given : Given) (pairs : List AnyPair) (kind : AnyTallied) (have lack : List ℕ)
         → All (IsTrueFact graphs) given.facts
@@ -54,8 +53,8 @@ pub fn tally_excludes()
         → Excludes graphs pairs }
 {}
 
-/// Ports of which one must go to one of others, where each way to pair two of them is impossible or has an earlier
-/// ban, exclude the pairs: a match would take one of the ways.
+/// Where some port of `from` must go to some port of `to`, and each way to pair two of them is impossible or excluded
+/// by an earlier ban, no match has the pairs: it would take one of the ways.
 pub fn cover_excludes()
     ensures { (graphs : TwoGraphs) (given : Given) (pairs : List AnyPair) (kind : AnyKind) (from to : List ℕ)
         (refs : List (Option ℕ))
@@ -65,7 +64,7 @@ pub fn cover_excludes()
         → Excludes graphs pairs }
 {}
 
-/// A ban that is valid in view of true facts, and of bans that no match extends, is extended by no match either.
+/// No match has all pairs of a ban that is valid by true facts and by bans of which no match has all pairs.
 pub fn valid_ban_excludes()
     ensures { (graphs : TwoGraphs) (given : Given) (ban : AnyBan)
         → IsGraph graphs.first
@@ -75,7 +74,7 @@ pub fn valid_ban_excludes()
         → Excludes graphs ban.pairs }
 {}
 
-/// Bans of which each is valid in view of true facts and of the bans before it are extended by no match.
+/// No match has all pairs of any of these bans, where each is valid by true facts and by the bans before it.
 pub fn bans_exclude()
     ensures { (graphs : TwoGraphs) (facts : List Decided) (bans : List AnyBan)
         → IsGraph graphs.first
@@ -85,7 +84,7 @@ pub fn bans_exclude()
         → All (Excludes graphs) (pairs_of bans) }
 {}
 
-/// Where no match extends the empty list of pairs, there is no match.
+/// Where no match has all pairs of the empty list, there is no match.
 pub fn empty_ban_refuses()
     ensures { (graphs : TwoGraphs)
         → Excludes graphs []
@@ -115,8 +114,8 @@ pub fn ordered_pairs_agree()
         → Agree pairs }
 {}
 
-/// What the pairs make of values at the second circuit's inputs is told by each of them: a paired input has its
-/// partner's value, by the sign, and every other one has X.
+/// The values that pairs in order send to the second circuit's inputs: a paired input has its partner's value, by the
+/// sign, and every other one has X; no other values are so.
 pub fn sent_values()
     ensures are { (pairs : List AnyPair) (n : ℕ) (values : List AnyTri)
         → AreOrdered pairs

@@ -40,7 +40,7 @@ abbrev pub IsCounted : Option RecordFault → ℕ → ℕ → ℕ → Type 0
 IsCounted None line left total = 2 * line + left ≤ total
 IsCounted (Some fault) line left total = Unit {0}
 
--- What each reader keeps: of the bytes that it holds, the first were read, and no line feed is among the first after
+-- What is so of each reader: of the bytes that it has, the first were read, and no line feed is among the first after
 -- them.
 pub record IsReader (bytes : List ℕ) (start looked line : ℕ) (fault : Option RecordFault) (total : ℕ) : Type 0 where
   pub within : start ≤ length bytes

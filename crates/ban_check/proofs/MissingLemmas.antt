@@ -1,4 +1,4 @@
--- What of a ban isn't among held pairs, pair by pair.
+-- Which pairs of an earlier ban aren't among those of the ban that is checked, pair by pair.
 use Rattle.std.proofs.Common.{◌≡◌, ◌↔◌, ℕ, zero, suc, ◌+◌, ◌<◌, ◌==◌, cond, Some, Bool, true, false, List, ◌∷◌, length, get_or, Any, Contains, slice_index_or, refl, sym, subst, ap, ◌∙◌, arith}
 use Rattle.std.proofs.lemmas.Bool.Decides.{Decides-eqb}
 use Rattle.account_core.specs.Given.{ban_at}

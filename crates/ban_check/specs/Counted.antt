@@ -41,7 +41,7 @@ twin_input one other = None
 abbrev pub IsNext : ℕ → Option ℕ → ℕ → Type 0
 IsNext least input next = (i : ℕ) × (input ≡ Some i) × (least ≤ i) × (next ≡ i + 1)
 
--- A fact holds, or fails, and is of a claim's output.
+-- A fact is of a claim's output, and of a claim that holds, or of one that fails.
 pub record SaysOf (given : Given) (number : ℕ) (holds : Bool) (claim : Claim) : Type 0 where
   pub says : (fact_at given number).holds ≡ holds
   pub of_side : (fact_at given number).claim.side ≡ claim.side

@@ -1,4 +1,4 @@
--- Pairs that are held, found by their ports; and what of a ban isn't among them.
+-- The pairs of a ban, found by their ports; and which pairs of an earlier ban aren't among them.
 use Rattle.std.specs.Prelude.{◌≡◌, ◌≢◌, ◌↔◌, ℕ, ◌<◌, ◌==◌, List, ◌∷◌, length, All, Contains, Option, Some, slice_index_or}
 use Rattle.std.specs.Map.{lookup}
 use Rattle.circuits.specs.declared.port.Pair.{Pair}
@@ -38,8 +38,8 @@ IsAllMissing missing.None pair = Unit {0}
 IsAllMissing (missing.One one) pair = one ≡ pair
 IsAllMissing missing.Several pair = ⊥
 
--- What is missing of a ban among held pairs: each of its pairs is among them and one more exactly where that one is all that is
--- missing.
+-- Which pairs of an earlier ban are missing among these: all of that ban's are there with one more exactly where that one is all
+-- that is missing.
 abbrev pub AreMissing : List Pair → List Pair → Missing → Type 0
 AreMissing held ban missing = (pair : Pair) → (IsAllMissing missing pair ↔ All (Contains (pair ∷ held)) ban)
 
@@ -48,11 +48,11 @@ pub record Beside : Type 0 where
   pub given : Given
   pub held : List Pair
 
--- what is kept of a ban
+-- what was found missing of a ban, if it was looked for
 abbrev pub kept_of : List (ℕ × Missing) → ℕ → Option Missing
 kept_of entries ban = lookup (λ other. ban == other) entries
 
--- what is kept of bans is what is missing of them
+-- what was found missing of bans is what is missing of them
 abbrev pub AreKept : Beside → List (ℕ × Missing) → Type 0
 AreKept beside entries = (ban : ℕ) (missing : Missing) → kept_of entries ban ≡ Some missing
     → AreMissing beside.held (ban_at beside.given ban) missing

@@ -1,10 +1,10 @@
 -- What is kept of the facts that were given.
 use Rattle.std.specs.Prelude.{List, map}
 use Rattle.account_core.specs.Given.{Decided, decided}
-use Rattle.ban_check.specs.declared.given.Told.{Told}
+use Rattle.ban_check.specs.declared.given.DecidedClaim.{DecidedClaim}
 
-abbrev pub decided_of : Told → Decided
+abbrev pub decided_of : DecidedClaim → Decided
 decided_of told = decided told.claim told.holds
 
-abbrev pub facts_told : List Told → List Decided
-facts_told facts = map decided_of facts
+abbrev pub decided_claims : List DecidedClaim → List Decided
+decided_claims facts = map decided_of facts

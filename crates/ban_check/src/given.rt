@@ -13,7 +13,7 @@ use std::marker::Model;
 
 /// A claim that was decided: it holds, or it fails.
 #[derive(Clone, Copy, Debug, Drop)]
-pub(crate) struct Told {
+pub(crate) struct DecidedClaim {
     pub(crate) claim: Claim,
     pub(crate) holds: bool,
 }
@@ -21,17 +21,17 @@ pub(crate) struct Told {
 /// The facts, and the pairs of the bans, each numbered from 0 in its own order.
 #[derive(Drop)]
 pub struct Given {
-    facts: Items<Told>,
+    facts: Items<DecidedClaim>,
     bans: Items<Few<Pair, 8>>,
 }
 
 impl Model for Given {
     ghost use Rattle.account_core.specs.Given.{Given as AnyGiven};
-    ghost use Rattle.ban_check.specs.Kept.{facts_told};
+    ghost use Rattle.ban_check.specs.Kept.{decided_claims};
 
     ghost Value = { AnyGiven };
 
-    ghost view = { λ a. record { facts = facts_told a.facts; bans = a.bans } };
+    ghost view = { λ a. record { facts = decided_claims a.facts; bans = a.bans } };
 }
 
 impl Given {
@@ -61,12 +61,12 @@ impl Given {
     }
 
     /// The fact of a number; where there is none, one that says nothing of use.
-    pub(crate) fn fact(&self, number: u64) -> Told
+    pub(crate) fn fact(&self, number: u64) -> DecidedClaim
         ensures claim { result.claim ≡ (fact_at self.now number).claim }
         ensures holds { result.holds ≡ (fact_at self.now number).holds }
     {
         if number >= self.facts.len() as u64 {
-            return Told {
+            return DecidedClaim {
                 claim: Claim {
                     side: Side::First,
                     output: 0,
@@ -97,7 +97,7 @@ impl Given {
         ensures added { OnOk result (self.new ≡ with_fact self.old claim holds) }
         ensures unchanged { OnErr result (self.new ≡ self.old) }
     {
-        self.facts.push(Told { claim, holds })?;
+        self.facts.push(DecidedClaim { claim, holds })?;
         Ok(())
     }
 

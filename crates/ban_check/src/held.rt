@@ -1,4 +1,4 @@
-//! Pairs that are held, found by their ports.
+//! The pairs of a ban, found by their ports.
 
 ghost use Rattle.std.specs.Prelude.{◌≡◌, ◌↔◌, ◌⊎◌, ◌+◌, ◌<◌, Any, IfOk, IsTrue, OnOk, Some as There, if◌then◌else◌};
 ghost use Rattle.std.specs.Prelude.{length};

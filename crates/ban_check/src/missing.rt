@@ -6,18 +6,18 @@ use crate::held::Held;
 use crate::ports::are_same;
 use circuits::Pair;
 
-/// What of a ban isn't among held pairs.
+/// Which pairs of an earlier ban aren't among those of the ban that is checked.
 #[derive(Clone, Copy, Drop)]
 pub(crate) enum Missing {
-    /// Each of its pairs is.
+    /// All are.
     None,
-    /// One pair isn't.
+    /// This one alone isn't.
     One(Pair),
-    /// Pairs that differ aren't.
+    /// Several that differ aren't.
     Several,
 }
 
-/// What of a ban isn't among held pairs.
+/// Which pairs of an earlier ban aren't among those of the ban that is checked.
 pub(crate) fn missing_of(held: &Held<'_>, ban: &[Pair]) -> Missing
     ensures { AreMissing held.now ban.now result }
 {

@@ -34,7 +34,7 @@ impl<'a> Model for References<'a> {
 }
 
 impl<'a> References<'a> {
-    /// None was looked at.
+    /// The references of a cover whose ban has these pairs. None was looked at yet.
     pub(crate) fn new(
         alloc: Global,
         given: &'a Given,
@@ -50,8 +50,8 @@ impl<'a> References<'a> {
         })
     }
 
-    /// Whether a reference fits a pair: none where it is impossible, else a ban all of whose pairs are among the held
-    /// ones and this one.
+    /// Whether a reference fits a pair: none where the pair is impossible, else an earlier ban all of whose pairs are
+    /// this one or among the checked ban's.
     pub(crate) fn fits(&mut self, pair: Pair, reference: Option<u64>) -> Result<bool, AllocError>
         ensures same { self.new ≡ self.old }
         ensures fits { IfOk result (λ fits. IsTrue fits ↔ IsReference self.old.given self.old.held pair reference) }
@@ -67,7 +67,7 @@ impl<'a> References<'a> {
         Ok(is_all(missing, pair))
     }
 
-    // What of a ban isn't among the held pairs.
+    // Which pairs of an earlier ban aren't among the checked one's. They are looked for once.
     fn missing_of(&mut self, ban: u64) -> Result<Missing, AllocError>
         ensures same { self.new ≡ self.old }
         ensures missing { IfOk result (AreMissing self.old.held (ban_at self.old.given ban)) }
@@ -81,7 +81,7 @@ impl<'a> References<'a> {
     }
 }
 
-// What is kept of a ban.
+// What was found missing of a ban, if it was looked for.
 fn kept_of(kept: &IndexMap<u64, Missing>, ban: u64) -> Option<Missing>
     ensures { result ≡ kept_of kept.now.entries ban }
 {

@@ -11,8 +11,8 @@ use circuits::{Pair, PortKind};
 use claim_core::{Claim, Shape};
 use net_core::Graphs;
 
-/// Whether facts tell that one of two paired outputs has some inputs, and facts of the other one that it lacks others,
-/// which are together more than a circuit has.
+/// Whether by some facts one of two paired outputs has inputs of a kind, by others the other one lacks inputs of it,
+/// and both are together more than a circuit has.
 pub(crate) fn is_tally(
     graphs: &Graphs<'_>,
     given: &Given,
@@ -54,7 +54,7 @@ fn joins(pair: Pair, one: Claim, other: Claim) -> bool
         & (port_on(other.side, pair) == other.output)
 }
 
-// Whether facts hold, or fail, and are of a claim's output.
+// Whether facts are of a claim's output, all of claims that hold, or all of claims that fail.
 fn say_of(given: &Given, numbers: &[u64], holds: bool, claim: Claim) -> bool
     ensures { IsTrue result ↔ SayOf given.now numbers.now holds claim.side claim.output }
 {
@@ -63,7 +63,7 @@ fn say_of(given: &Given, numbers: &[u64], holds: bool, claim: Claim) -> bool
         .all(|number| says(given, *number, holds, claim))
 }
 
-// Whether a fact holds, or fails, and is of a claim's output.
+// Whether a fact is of a claim's output, and of a claim that holds, or of one that fails.
 fn says(given: &Given, number: u64, holds: bool, claim: Claim) -> bool
     ensures { IsTrue result ↔ SaysOf given.now number holds claim }
 {

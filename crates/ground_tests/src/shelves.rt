@@ -253,7 +253,7 @@ fn goes_on_past<F: Read>(alloc: Global, file: &mut F, bound: usize) -> Result<bo
     Ok(Stream::read_from(alloc, file, bound)?.is_none())
 }
 
-/// Of a stream that goes on past its bound nothing is held.
+/// Of a stream that goes on past its bound nothing is kept.
 #[test]
 fn holds_no_stream_past_its_bound(rt: HostRuntime) -> Result<(), Fail> {
     let mut six = b"eleven".as_slice();

@@ -6,7 +6,7 @@ use Rattle.shelf_core.specs.Safe.{File, look_up, open_mode, open_name, places_ne
 use Rattle.shelf_core.specs.declared.safe_shelf.Opened.{Opened}
 use Rattle.shelf_core.specs.declared.safe_shelf.Opened.TheVariants as opened
 
--- the file that is written holds what it held: that with the first 0 bytes of the piece
+-- the file that is written has the bytes that it had: those with the first 0 bytes of the piece
 nothing_added : (files : List File) (open_as : Opened) (piece : List ℕ) → open_mode open_as ≡ Writing → places_needed open_as ≤ length files → look_up files (open_name files open_as) ≡ grown (look_up files (open_name files open_as)) (take 0 piece)
 nothing_added files opened.No piece mode room = let e : Closed ≡ Writing = mode in cc
 nothing_added files (opened.Reading place at) piece mode room = let e : Reading ≡ Writing = mode in cc

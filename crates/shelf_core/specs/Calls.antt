@@ -1,5 +1,5 @@
 -- What each call of a shelf does: sequential files by name, as in the C library (fopen, fread, fwrite, fclose), one open at a
--- time. Facts on contents hold where the shelf `tells` its files.
+-- time. Facts on contents are so where the shelf `tells` its files.
 use Rattle.std.specs.Prelude.{◌≡◌, ◌≢◌, ℕ, ◌+◌, ◌<◌, ◌≤◌, ◌⊎◌, Bool, IsTrue, List, [], ◌++◌, length, take, drop, Option, None, Some, Result, Err, IfOk, OnOk}
 use Rattle.std.specs.Prelude.{OnErr, IfSome, IfNone}
 use Rattle.shelf_core.specs.declared.outside.ShelfStop.{ShelfStop}
@@ -28,7 +28,7 @@ pub record Opens (tells : Bool) (name : List ℕ) (old new : ShelfState) (result
   pub no_memory : result ≡ Err Memory → new.faults ≡ old.faults
   pub failed : result ≡ Err Failed → Rose old.faults new.faults
 
--- Reading the next bytes of the open file into a buffer that held `before` and then holds `after`.
+-- Reading the next bytes of the open file into a buffer that had `before` and then has `after`.
 pub record Reads (tells : Bool) (old new : ShelfState) (before after : List ℕ) (result : Result ℕ ShelfStop) : Type 0 where
   -- no file changes, and the same file stays open for reading
   pub files : (n : List ℕ) → new.held n ≡ old.held n

@@ -1,4 +1,4 @@
--- What a call of a sink does, an output stream that only grows. Facts on bytes hold where the sink `tells` them.
+-- What a call of a sink does, an output stream that only grows. Facts on bytes are so where the sink `tells` them.
 use Rattle.std.specs.Prelude.{◌≡◌, ℕ, ◌+◌, Bool, IsTrue, List, ◌++◌, take, Result, Err, OnOk, OnErr}
 use Rattle.shelf_core.specs.declared.outside.ShelfStop.{ShelfStop}
 use Rattle.shelf_core.specs.declared.outside.ShelfStop.TheVariants.{Failed, Memory}

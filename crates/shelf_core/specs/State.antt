@@ -31,7 +31,7 @@ pub record SinkState : Type 0 where
   -- how many of them came in the last call
   pub latest : ℕ
 
--- What a name holds once a piece was written at the end of its file.
+-- The bytes under a name once a piece was written at the end of its file.
 abbrev pub grown : Option (List ℕ) → List ℕ → Option (List ℕ)
 grown None piece = Some piece
 grown (Some bytes) piece = Some (bytes ++ piece)

@@ -19,13 +19,13 @@ const STREAM_BOUND: usize = 67_108_864;
 /// The most bytes that are taken from one of which more are expected: 1 GiB.
 const LONG_STREAM_BOUND: usize = 1 << 30;
 
-/// The machine's files, by their paths. It does not tell what they hold. What is neither a file nor a directory, as a
+/// The machine's files, by their paths. It does not tell their bytes. What is neither a file nor a directory, as a
 /// pipe or a device, is read to its end when it is opened, since its length isn't known before. One that goes on past
 /// 67,108,864 bytes, or where more are expected past 1 GiB, opens with a length of one byte more than that, and fails
 /// at its first read. A directory opens, and fails at its first read. A regular file that was read or made isn't made
 /// anew, nor is the file that standard output goes to, whatever names lead to them: to create one is a fault, and
 /// leaves it as it is. A file that would grow past the limit that the system sets to the size of a file is a fault. A
-/// file that was written is closed once the device holds it. Each error of the machine is a fault, but that a path to
+/// file that was written is closed once it is on its device. Each error of the machine is a fault, but that a path to
 /// be read leads to nothing.
 #[derive(Drop)]
 pub struct DiskShelf<R: Runtime> {
@@ -265,7 +265,7 @@ fn append_within<F: Write>(file: &mut F, room: &mut Room, piece: &[u8]) -> Resul
     file.write_all(piece).map_err(FileStop::from)
 }
 
-/// Waits until the device holds what was written to a regular file, so that a write which fails late is an error.
+/// Waits until what was written to a regular file is on its device, so that a write which fails late is an error.
 fn sync_written<F: OpenFile, A: Allocator>(opened: &Opened<F, A>) -> Result<(), FileStop> {
     match opened {
         Opened::Writing {

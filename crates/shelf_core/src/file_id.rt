@@ -11,7 +11,7 @@ pub(crate) const OUTPUT: &str = "/dev/stdout";
 /// Linux's number of the null device, major 1 and minor 3.
 const NULL_DEVICE: u64 = 0x103;
 
-/// What a file is told by, whatever names lead to it: the device that holds it, and its number there.
+/// What a file is told by, whatever names lead to it: the device that it is on, and its number there.
 #[derive(Clone, Copy, Debug, PartialEq, Eq)]
 pub(crate) struct FileId {
     device: u64,

@@ -21,8 +21,8 @@ pub struct MemShelf {
 }
 
 impl MemShelf {
-    /// A shelf that holds these files, with no two names the same, reads at most `cut` bytes a call, and fails at the
-    /// calls of these numbers. None is open. There may be no memory for it.
+    /// A shelf with these files, no two of one name, that reads at most `cut` bytes a call, and fails at the calls of
+    /// these numbers. None is open. There may be no memory for it.
     pub fn new(
         alloc: Global,
         files: Vec<(String, Vec<u8>)>,
@@ -44,7 +44,7 @@ impl MemShelf {
         })
     }
 
-    /// What a file holds, or `None` where there is none of that name.
+    /// The bytes of a file, or `None` where there is none of that name.
     pub fn file(&self, name: &str) -> Option<&[u8]>
         ensures { MatchOption result ((⟦<MemShelf as Shelf>⟧.state self.now).held name.now ≡ None)
             (λ bytes. (⟦<MemShelf as Shelf>⟧.state self.now).held name.now ≡ Some bytes.now) }

@@ -37,7 +37,7 @@ impl SafeShelf {
     ghost use Rattle.shelf_core.specs.Cut.{cut_of};
     ghost use Rattle.shelf_core.specs.CallCount.{calls_of};
 
-    /// A shelf that holds these files, with no two names the same, and reads at most `cut` bytes a call. None is open.
+    /// A shelf with these files, no two of one name, that reads at most `cut` bytes a call. None is open.
     /// There may be no memory for it.
     pub fn new(
         alloc: Global,
@@ -62,7 +62,7 @@ impl SafeShelf {
         })
     }
 
-    /// What a file holds, or `None` where there is none of that name.
+    /// The bytes of a file, or `None` where there is none of that name.
     pub fn file(&self, name: &str) -> Option<&[u8]>
         ensures { MatchOption result ((⟦<SafeShelf as Shelf>⟧.state self.now).held name.now ≡ None)
             (λ bytes. (⟦<SafeShelf as Shelf>⟧.state self.now).held name.now ≡ Some bytes.now) }
@@ -194,7 +194,7 @@ fn place_of(files: &[StoredFile], name: &str) -> Option<usize>
     None
 }
 
-/// What the file at a place holds.
+/// The bytes of the file at a place.
 fn bytes_at(files: &[StoredFile], place: usize) -> &[u8]
     requires { place < length files.now }
     ensures { result.now ≡ (file_at files.now place).1 }

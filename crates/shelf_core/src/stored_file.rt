@@ -33,7 +33,7 @@ impl StoredFile {
         self.name.as_str() == name
     }
 
-    /// What the file holds.
+    /// The file's bytes.
     pub(crate) fn bytes(&self) -> &[u8]
         ensures { result.now ≡ self.now.1 }
     {

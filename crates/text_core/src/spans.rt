@@ -66,7 +66,7 @@ impl<'a> Span<'a> {
     }
 }
 
-/// Goes over the input from its front, and holds what is left of it.
+/// Goes over the input from its front: what is left of it.
 #[derive(Debug, Drop)]
 pub struct Cursor<'a> {
     rest: Span<'a>,

@@ -13,7 +13,7 @@ pub enum Stage {
     Proving { output: u32, outputs: u32 },
     /// A claim about an output is decided: how many were before.
     Deciding { claims: u64 },
-    /// Pairs of ports are searched: how many bans, lists of pairs that no match has all of, are held.
+    /// Pairs of ports are searched: how many bans, lists of pairs that no match has all of, are kept.
     Banning { bans: u64 },
     /// A clause is learned: how many were before in the run, and how many may be.
     Learning { learned: u64, budget: u64 },

@@ -30,7 +30,7 @@ word_of w column = slice_index_or column w 0
 abbrev pub row_of : List (List ℕ) → ℕ → List ℕ
 row_of columns w = map (word_of w) columns
 
--- The vector that bit v of word w holds: its bit i is bit v of word w of column i. It is number 64 * w + v of the vectors.
+-- The vector at bit v of word w: its bit i is bit v of word w of column i. It is number 64 * w + v of the vectors.
 abbrev pub vector_at : Table → ℕ → ℕ → List Bool
 vector_at table w v = lane v (row_of table.columns w)
 

@@ -107,7 +107,7 @@ impl Words {
         put_block(self.columns[column as usize].as_mut_slice(), word, block);
     }
 
-    /// The vector that a bit of a word holds: a bit of each column.
+    /// The vector at a bit of a word: a bit of each column.
     ///
     /// # Errors
     ///

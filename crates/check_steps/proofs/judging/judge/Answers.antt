@@ -1,4 +1,4 @@
--- The account is what the name holds.
+-- The account is the file under the name.
 use Rattle.std.proofs.Common.{◌≡◌, Some, subst}
 use Rattle.std.specs.Prelude.{IfSome}
 use Rattle.check_steps.specs.Judged.{Judges}

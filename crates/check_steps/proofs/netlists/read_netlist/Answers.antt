@@ -1,4 +1,4 @@
--- What the bytes of the file are, said of what the name holds.
+-- What the bytes of the file are, said of the file under the name.
 use Rattle.std.proofs.Common.{rules, subst}
 use Rattle.check_steps.specs.Files.{Tells}
 use Rattle.check_steps.proofs.ReadLemmas.{reads_bytes}
