@@ -47,7 +47,7 @@ empty_account graphs = record {
 }
 
 -- What is wrong with a record that may stand there. A line of a log stands only after a fact or a match that was taken, so that
--- the circuits have as many ports.
+-- the circuits have the same numbers of ports.
 abbrev pub HasFault : Account → Record → Option Reject → Type 0
 HasFault account entry.Header fault = Passed fault
 HasFault account (entry.Fact head) fault = PortsTest account.graphs (FactTests account.graphs head) fault

@@ -38,13 +38,13 @@ use std::mem;
 pub(crate) enum CheckStage<'a> {
     /// No record was taken.
     Empty,
-    /// Facts and bans are taken.
+    /// Facts, bans or a conclusion may come.
     Begun,
-    /// The log of a fact that holds is taken.
+    /// A claim was said to hold, and lines of its log come.
     Showing(FactLog<'a>),
-    /// The account concludes in a match, whose logs are taken.
+    /// The account concluded in a match, and lines of its logs come, or the end.
     Proving(Logs<'a>),
-    /// The account concludes that there is no match.
+    /// The account concluded that there is no match, and its end comes.
     Refusing,
     /// It has ended with a match.
     Proved(Logs<'a>),
@@ -197,7 +197,8 @@ impl<'a> Checker<'a> {
         self.match_line(alloc, line)
     }
 
-    // Takes a line of a fact's log. After the empty line the fact is given.
+    // Takes a line of a fact's log. After the empty line the fact is given; memory for it comes first, since nothing
+    // may be refused once the line is taken.
     fn fact_line(&mut self, line: &LogLine) -> Result<(), RecordStop>
         requires { self.old.place ≡ place.FactLog }
         ensures { Takes self.old (entry.Line line.now) self.new result }
@@ -253,7 +254,7 @@ impl<'a> Checker<'a> {
         }
     }
 
-    // Takes the conclusion that there is no match since the circuits have other numbers of ports.
+    // Takes the conclusion that there is no match since the circuits differ in their numbers of ports.
     fn conclude_by_ports(&mut self) -> Result<(), RecordStop>
         requires { IsSome (next_place self.old.place (entry.Conclusion conclusion.NonePorts)) }
         ensures { Takes self.old (entry.Conclusion conclusion.NonePorts) self.new result }

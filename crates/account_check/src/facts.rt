@@ -32,7 +32,7 @@ pub(crate) fn test_fails(
     Ok(None)
 }
 
-/// What is wrong with the line of a claim that holds: the circuits have other numbers of ports; the claim names an
+/// What is wrong with the line of a claim that holds: the circuits differ in their numbers of ports; the claim names an
 /// output or an input that doesn't exist, or a swap's greater input first.
 pub(crate) fn test_holds(graphs: &Graphs<'_>, claim: &Claim) -> Option<Reject>
     ensures { PortsTest graphs.now (FactTests graphs.now (head.Holds claim.now)) result }

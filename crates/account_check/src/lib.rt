@@ -1,7 +1,7 @@
 //! Checks accounts record by record. An account gives facts about the outputs of two circuits, each with its evidence,
 //! and bans, pairs of ports that no match has all of, each with its reason. It concludes that pairs of ports are a
 //! match, and two logs for each output prove it; or that there is no match, since a ban has no pairs or the circuits
-//! have other numbers of ports.
+//! differ in their numbers of ports.
 #![tactic(auto)]
 
 mod bans;

@@ -15,8 +15,8 @@ use items::Items;
 use net_core::{Graph, Graphs, Matching};
 use std::alloc::{AllocError, Global};
 
-/// What is wrong with the conclusion that there is no match since the circuits have other numbers of ports: that they
-/// have as many.
+/// What is wrong with the conclusion that there is no match since the circuits differ in their numbers of ports: that
+/// they don't.
 pub(crate) fn test_ports(graphs: &Graphs<'_>) -> Option<Reject>
     ensures { OtherPortsTest graphs.now result }
 {
@@ -26,8 +26,8 @@ pub(crate) fn test_ports(graphs: &Graphs<'_>) -> Option<Reject>
     None
 }
 
-/// What is wrong with the conclusion that there is no match since a ban has no pairs: the circuits have other numbers
-/// of ports; the ban wasn't given; it has pairs.
+/// What is wrong with the conclusion that there is no match since a ban has no pairs: the circuits differ in their
+/// numbers of ports; the ban wasn't given; it has pairs.
 pub(crate) fn test_empty_ban(graphs: &Graphs<'_>, given: &Given, ban: u64) -> Option<Reject>
     ensures { PortsTest graphs.now (EmptyBanTests given.now ban) result }
 {
@@ -43,7 +43,7 @@ pub(crate) fn test_empty_ban(graphs: &Graphs<'_>, given: &Given, ban: u64) -> Op
     None
 }
 
-/// The matching of pairs. They are refused as a conclusion where the circuits have other numbers of ports; else as
+/// The matching of pairs. They are refused as a conclusion where the circuits differ in their numbers of ports; else as
 /// unknown where one names a port that doesn't exist; else as a conclusion unless they name each input of the first
 /// circuit and then each output, in order, and no two go to one port.
 pub(crate) fn matching(

@@ -1,4 +1,4 @@
--- Circuits with as many ports.
+-- Circuits with the same numbers of ports.
 use Rattle.std.proofs.Common.{◌≡◌}
 use Rattle.circuits.specs.declared.port.PortKind.{PortKind}
 use Rattle.circuits.specs.declared.port.PortKind.TheVariants.{Input, Output}

@@ -54,7 +54,7 @@ bans_contradict graphs facts bans first second right valid =
 pub no_pairs : (graphs : Graphs) → Excludes graphs [] → HaveNpnpEqualFunctions graphs.first graphs.second → ⊥
 no_pairs graphs excluded equal = excluded equal.0 equal.1 equal.2 (λ k d below. absurd (omega arith))
 
--- a match is of as many ports
+-- a match is of circuits with the same numbers of ports
 pub other_counts : (first second : Net) → (HaveAsMany first second → ⊥) → HaveNpnpEqualFunctions first second → ⊥
 other_counts first second never equal =
     never (record { inputs = sym equal.2.same_inputs; outputs = sym equal.2.same_outputs })

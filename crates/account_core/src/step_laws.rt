@@ -92,7 +92,7 @@ pub fn empty_ban_refuses()
         → ⊥ }
 {}
 
-/// Circuits with other numbers of ports have no match.
+/// Circuits that differ in their numbers of ports have no match.
 pub fn other_counts_refuse()
     ensures { (first second : Net)
         → (HaveAsMany first second → ⊥)

@@ -1,5 +1,5 @@
 -- The records of the account of what a search came to (this project's format): after the header, for a match its pairs and the
--- logs that show it; for none the facts and bans, up to a ban without pairs; or that the circuits have other numbers of ports.
+-- logs that show it; for none the facts and bans, up to a ban without pairs; or that the circuits differ in their numbers of ports.
 use Rattle.std.specs.Prelude.{◌≡◌, ℕ, ◌+◌, ◌<◌, Bool, List, [], ◌∷◌, ◌++◌, length, map, All}
 use Rattle.std.specs.List.{flat_map}
 use Rattle.circuits.specs.declared.port.Pair.{Pair}

@@ -24,8 +24,8 @@ pub fn match_is_accepted()
         → IsAccepted graphs (account_of (match_records matching logs)) (verdict.Match matching) }
 {}
 
-/// Of circuits with as many ports, the account of facts and of valid bans, of which one has no pairs, is accepted, and
-/// proves that there is no match.
+/// Of circuits with the same numbers of ports, the account of facts and of valid bans, of which one has no pairs, is
+/// accepted, and proves that there is no match.
 pub fn refusal_is_accepted()
     ensures { (graphs : TwoGraphs) (facts : List AnyFact) (bans : List AnyBan) (number : ℕ)
         → HaveAsMany graphs.first graphs.second
@@ -36,8 +36,8 @@ pub fn refusal_is_accepted()
         → IsAccepted graphs (account_of (refusal_records facts bans number)) verdict.None }
 {}
 
-/// The account that the circuits have other numbers of ports is accepted where they have, and proves that there is no
-/// match.
+/// The account that the circuits differ in their numbers of ports is accepted where they do, and proves that there is
+/// no match.
 pub fn none_ports_is_accepted()
     ensures { (graphs : TwoGraphs)
         → (HaveAsMany graphs.first graphs.second → ⊥)

@@ -249,7 +249,7 @@ pub same_function : (circuit : Circuit) (net : Net) (x v : List Bool) → IsAcyc
 same_function circuit net x v acyclic closed is len fits =
     expanded-function circuit is.order x v acyclic closed is.is_order len fits ∙ ap (λ n. function_of n x) (sym is.is)
 
--- the ordered netlist has as many inputs and outputs
+-- the ordered netlist has the same numbers of inputs and outputs
 pub IsOrderOf-inputs : (circuit : Circuit) (net : Net) → IsOrderOf circuit net → net.inputs ≡ circuit.inputs
 IsOrderOf-inputs circuit net is = ap (λ (n : Net). n.inputs) is.is
 

@@ -31,7 +31,7 @@ pub record IsMatchOfFunctions (first second : Net) (p q : List (ℕ × Bool)) : 
   pub agree : (x : List Bool) → length x ≡ first.inputs
       → OutputsAgree q (function_of first x) (function_of second (moved p x))
 
--- as many inputs and outputs, and signed bijections of them
+-- the same numbers of inputs and outputs, and signed bijections of them
 pub record HavePorts (first second : Net) (p q : List (ℕ × Bool)) : Type 0 where
   pub same_inputs : second.inputs ≡ first.inputs
   pub same_outputs : length second.outputs ≡ length first.outputs

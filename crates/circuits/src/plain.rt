@@ -159,7 +159,7 @@ pub fn move_vector(
 }
 
 /// Whether p of the inputs and q of the outputs are a match of two netlists: they are signed bijections, the
-/// netlists have as many inputs and as many outputs, and all outputs agree on every vector. It tries all
+/// netlists have the same numbers of inputs and outputs, and all outputs agree on every vector. It tries all
 /// vectors, so the inputs are at most 16.
 ///
 /// # Errors
@@ -202,7 +202,7 @@ fn is_match_of_functions(
     agree_on_all(alloc, first, second, p, q)
 }
 
-/// Whether the netlists have as many ports, and p and q are signed bijections of them.
+/// Whether the netlists have the same numbers of ports, and p and q are signed bijections of them.
 fn have_ports(first: &Netlist, second: &Netlist, p: &[(u32, bool)], q: &[(u32, bool)]) -> bool
     ensures { IsTrue result ↔ HavePorts first.now second.now p.now q.now }
 {

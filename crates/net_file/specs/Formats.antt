@@ -29,7 +29,7 @@ pub record IsFormat (IsFile : List ℕ → Circuit → List (List ℕ) → List 
   -- the circuit that a file is reads only signals that are there, and has no cycle
   pub closed : (bytes : List ℕ) (circuit : Circuit) (i o : List (List ℕ)) → IsFile bytes circuit i o → IsClosed circuit
   pub acyclic : (bytes : List ℕ) (circuit : Circuit) (i o : List (List ℕ)) → IsFile bytes circuit i o → IsAcyclic circuit
-  -- it has at most 1,024 inputs and as many outputs, and names each port
+  -- it has at most 1,024 inputs and 1,024 outputs, and names each port
   pub inputs : (bytes : List ℕ) (circuit : Circuit) (i o : List (List ℕ))
       → IsFile bytes circuit i o
       → circuit.inputs ≤ 1024

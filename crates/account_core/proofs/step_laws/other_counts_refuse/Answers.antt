@@ -1,4 +1,4 @@
--- A match is of as many ports.
+-- A match is of circuits with the same numbers of ports.
 use Rattle.account_core.proofs.StepLemmas.{other_counts}
 use Rattle.account_core.proofs.step_laws.other_counts_refuse.Goals as goal
 

@@ -1,4 +1,4 @@
--- The two have as many ports of each kind.
+-- The two have the same number of ports of each kind.
 use Rattle.std.proofs.Common.{◌∙◌, ap}
 use Rattle.circuits.specs.Netlists.{Net}
 use Rattle.net_core.specs.Sides.{Graphs}
