@@ -127,7 +127,8 @@ fn with_bit(word: u64, place: usize, bit: bool) -> u64
     if bit { word | 1 << place } else { word }
 }
 
-/// Whether the words are the same, each of which is below 2^64.
+/// Whether the words are the same.
+// A function for its other clauses: below 2^64, words that are equal have the same bits.
 fn same_words(first: &[u64], second: &[u64]) -> bool
     ensures value { result ≡ pointwise nat_eq first.now second.now }
     ensures first { (k : ℕ) → slice_index_or first.now k 0 < 2 ^ 64 }
