@@ -13,10 +13,6 @@ use std::alloc::{AllocError, Global};
 
 /// Whether the claim's output can be 1 where its shape's inputs have the shape's values, and 0 where they have the
 /// opposite ones. The claim holds exactly where no vector meets the query.
-///
-/// # Errors
-///
-/// Only when out of memory.
 pub fn of_claim(alloc: Global, graphs: &Graphs<'_>, claim: &Claim) -> Result<Query, AllocError>
     requires { IsClaim graphs.now claim.now }
     ensures query { IfOk result (λ query. query ≡ claim_query graphs.now claim.now) }
