@@ -1,5 +1,3 @@
-//! The query of a claim.
-
 ghost use Rattle.std.specs.Prelude.{◌≡◌, IfOk};
 ghost use Rattle.claim_core.specs.Claims.{IsClaim};
 ghost use Rattle.claim_core.specs.ClaimQueries.{claim_query, opposite_shape};
@@ -18,6 +16,7 @@ pub fn of_claim(alloc: Global, graphs: &Graphs<'_>, claim: &Claim) -> Result<Que
     ensures query { IfOk result (λ query. query ≡ claim_query graphs.now claim.now) }
     ensures fits { IfOk result (IsQuery graphs.now) }
 {
+    // the feeds of a claim take no memory
     let _ = alloc;
     let inputs = graphs.side(claim.side).inputs();
     let left = Cone {
