@@ -49,11 +49,26 @@ fn prints_an_and_gate_and_a_wire(rt: HostRuntime) -> Result<(), Fail> {
             &named,
             b">aag 3 2 0 2 1\n2\n4\n6\n2\n6 2 4\ni0 i0\ni1 b c\no0 o0\no1 o1\n",
             b">aig 3 2 0 2 1\n6\n2\n\x02\x02i0 i0\ni1 b c\no0 o0\no1 o1\n",
-            b">.model npnp\n.inputs i0 i1\n.outputs o0 o1\n.names z\n.names i0 i1 g0\n11 1\n.names g0 o0\n1 1\n.names i0 o1\n1 1\n.end\n",
+            AND_AS_BLIF.as_bytes(),
         )?
     );
     Ok(())
 }
+
+/// An AND and its first input, as BLIF.
+const AND_AS_BLIF: &str = "\
+>.model npnp
+.inputs i0 i1
+.outputs o0 o1
+.names z
+.names i0 i1 g0
+11 1
+.names g0 o0
+1 1
+.names i0 o1
+1 1
+.end
+";
 
 #[test]
 fn calls_ports_without_names_by_their_positions(rt: HostRuntime) -> Result<(), Fail> {

@@ -187,8 +187,24 @@ fn writes_what_is_known_of_outputs(rt: HostRuntime) -> Result<(), Fail> {
     let circuit = four_outputs(rt.alloc())?;
     let mut rows = Vec::new(rt.alloc());
     put_rows(rt.alloc(), &mut rows)?;
-    let text =
-        b">inputs 2\noutputs 4\ngates 1\noutput 0 y support 2\ninput 0 a negative\ninput 1 b negative\npair 0 1 symmetric\noutput 1 one support 0\noutput 2 z support 2\ninput 0 a positive\ninput 1 b binate\npair 0 1 skew\npair 0 1 both\noutput 3 zero support 0\n";
-    assert!(rt; are_told(rt.alloc(), &circuit, &rows, text.as_slice())?);
+    assert!(rt; are_told(rt.alloc(), &circuit, &rows, FOUR_OUTPUTS.as_bytes())?);
     Ok(())
 }
+
+/// What is reported of `four_outputs`.
+const FOUR_OUTPUTS: &str = "\
+>inputs 2
+outputs 4
+gates 1
+output 0 y support 2
+input 0 a negative
+input 1 b negative
+pair 0 1 symmetric
+output 1 one support 0
+output 2 z support 2
+input 0 a positive
+input 1 b binate
+pair 0 1 skew
+pair 0 1 both
+output 3 zero support 0
+";
