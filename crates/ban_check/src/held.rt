@@ -9,7 +9,6 @@ ghost use Rattle.ban_check.specs.declared.held.Port.{Port as AnyPort};
 ghost use Rattle.ban_check.specs.contracts.held.PortPartialEq.TheImpl.{eq-value as port_eq};
 
 use crate::ordered::OrderedPairs;
-use crate::ports::are_same;
 use account_core::port_on;
 use circuits::{Pair, PortKind};
 use indexmap::IndexMap;
@@ -130,7 +129,7 @@ fn has_pair(by_port: &IndexMap<Port, Pair>, pair: Pair) -> bool
     ensures { IsTrue result ↔ (found_at by_port.now.entries (port_of Side.First pair) ≡ There pair) }
 {
     match found_at(by_port, port_of(Side::First, pair)) {
-        Some(held) => are_same(held, pair),
+        Some(held) => held == pair,
         None => false,
     }
 }
@@ -148,7 +147,7 @@ fn is_anothers(by_port: &IndexMap<Port, Pair>, side: Side, pair: Pair) -> bool
     ensures { IsTrue result ↔ IsAnothers by_port.now.entries side pair }
 {
     match found_at(by_port, port_of(side, pair)) {
-        Some(held) => !are_same(held, pair),
+        Some(held) => held != pair,
         None => false,
     }
 }

@@ -1,6 +1,6 @@
 //! Bans by a claim that fails for one circuit while the claim that a match would carry it to holds for the other.
 
-ghost use Rattle.std.specs.Prelude.{◌≡◌, ◌↔◌, IsTrue};
+ghost use Rattle.std.specs.Prelude.{◌↔◌, IsTrue};
 ghost use Rattle.account_core.specs.Mismatches.{IsImage, IsMismatch};
 
 use crate::given::Given;
@@ -27,12 +27,5 @@ fn is_image(pairs: &[Pair], claim: Claim, other: Claim) -> bool
     let Some(found) = image(&claim, pairs) else {
         return false;
     };
-    (claim.side == Side::First) & are_same(found, other)
-}
-
-// Whether two claims are the same.
-fn are_same(one: Claim, other: Claim) -> bool
-    ensures { IsTrue result ↔ (one ≡ other) }
-{
-    one == other
+    (claim.side == Side::First) & (found == other)
 }

@@ -3,7 +3,6 @@ ghost use Rattle.circuits.specs.declared.port.Pair.{Pair as AnyPair};
 ghost use Rattle.ban_check.specs.Held.{AreMissing, IsAllMissing};
 
 use crate::held::Held;
-use crate::ports::are_same;
 use circuits::Pair;
 
 /// Which pairs of an earlier ban aren't among those of the ban that is checked.
@@ -46,7 +45,7 @@ fn with_missing(missing: Missing, pair: Pair) -> Missing
     match missing {
         Missing::None => Missing::One(pair),
         Missing::One(one) => {
-            if are_same(one, pair) {
+            if one == pair {
                 missing
             } else {
                 Missing::Several
@@ -62,7 +61,7 @@ pub(crate) fn is_all(missing: Missing, pair: Pair) -> bool
 {
     match missing {
         Missing::None => true,
-        Missing::One(one) => are_same(one, pair),
+        Missing::One(one) => one == pair,
         Missing::Several => false,
     }
 }

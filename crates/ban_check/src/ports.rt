@@ -91,10 +91,3 @@ fn push_second(kind: PortKind, pair: Pair, ports: &mut Vec<u32>) -> Result<(), A
     ports.push(pair.to)?;
     Ok(())
 }
-
-/// Whether two pairs are the same.
-pub(crate) fn are_same(one: Pair, other: Pair) -> bool
-    ensures { IsTrue result ↔ (one ≡ other) }
-{
-    one == other
-}
