@@ -6,8 +6,8 @@ use Rattle.circuits.specs.Levels.{HasLevel, HaveLevel, HasNoLevel, IsAcyclic, Is
 use Rattle.net_core.specs.declared.levels.Frame.{Frame}
 use Rattle.net_core.specs.declared.levels.Visit.{Visit}
 use Rattle.net_core.specs.declared.levels.Visit.TheVariants.{New, Open, Level}
-use Rattle.net_core.specs.declared.levels.Seen.{Seen}
-use Rattle.net_core.specs.declared.levels.Seen.TheVariants.{Below, Fresh, Above}
+use Rattle.net_core.specs.declared.levels.Edge.{Edge}
+use Rattle.net_core.specs.declared.levels.Edge.TheVariants.{Finished, Tree, Back}
 use Rattle.net_core.specs.declared.levels.SearchEvent.{SearchEvent}
 use Rattle.net_core.specs.declared.levels.SearchEvent.TheVariants.{Enter, Close, Loop}
 use Rattle.net_core.specs.declared.order_fault.OrderFault.{OrderFault}
@@ -83,11 +83,11 @@ pub record IsAt (circuit : Circuit) (visits : List Visit) (visit : Visit) (s e :
   pub at : s ≡ signal_at circuit e
   pub is : visit_of visits e ≡ visit
 
--- what was seen at a signal
-abbrev pub IsSeen : Circuit → List Visit → List ℕ → ℕ → Seen → Type 0
-IsSeen circuit visits stack s (Fresh e) = IsAt circuit visits New s e
-IsSeen circuit visits stack s Above = (e : ℕ) × IsAt circuit visits Open s e
-IsSeen circuit visits stack s (Below level) = IsFound circuit (left visits stack) s level
+-- what kind of edge leads to a signal
+abbrev pub IsEdge : Circuit → List Visit → List ℕ → ℕ → Edge → Type 0
+IsEdge circuit visits stack s (Tree e) = IsAt circuit visits New s e
+IsEdge circuit visits stack s Back = (e : ℕ) × IsAt circuit visits Open s e
+IsEdge circuit visits stack s (Finished level) = IsFound circuit (left visits stack) s level
 
 -- what is to be done at a definition on the stack
 abbrev pub IsNextEvent : Circuit → List Visit → List ℕ → ℕ → SearchEvent → Type 0

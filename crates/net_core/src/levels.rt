@@ -3,7 +3,7 @@
 
 ghost use Rattle.std.specs.Prelude.{◌≡◌, ◌+◌, ◌-◌, ◌<◌, [], ◌∷◌, ◌++◌, length, take, vec_len, slice_set, IfOk, IfErr};
 ghost use Rattle.circuits.specs.Circuits.{signals_in};
-ghost use Rattle.net_core.specs.Search.{IsUnderWay, IsReady, IsLooked, Knows, IsSeen, IsNextEvent, IsFaultAt};
+ghost use Rattle.net_core.specs.Search.{IsUnderWay, IsReady, IsLooked, Knows, IsEdge, IsNextEvent, IsFaultAt};
 ghost use Rattle.net_core.specs.Search.{IsFaultOf, AreAllFound, left, positions};
 ghost use Rattle.net_core.specs.Orders.{AreLevels};
 
@@ -32,14 +32,14 @@ struct Frame {
     highest: u32,
 }
 
-/// What a name is for the search.
-enum Seen {
-    /// Its level is known.
-    Below(u32),
-    /// The definition at this position, which was not met yet.
-    Fresh(usize),
-    /// A definition on the stack.
-    Above,
+/// What kind of edge of the depth-first search leads to a name.
+enum Edge {
+    /// To what has its level.
+    Finished(u32),
+    /// To the definition at this position, which was not met yet.
+    Tree(usize),
+    /// To a definition on the stack, so that there is a cycle.
+    Back,
 }
 
 /// What the search meets next at a definition on the stack.
@@ -61,21 +61,21 @@ struct Search {
 }
 
 impl Search {
-    /// What the search knows of a signal. The constant and the inputs have level 0.
-    fn seen(&self, net: &PlainNet, signal: u32) -> Seen
+    /// The edge that leads to a signal. The constant and the inputs have level 0.
+    fn edge_to(&self, net: &PlainNet, signal: u32) -> Edge
         requires there { signal < signals_in net.now }
         requires knows { Knows net.now self.now.visits.items (positions self.now.stack.items) }
-        ensures { IsSeen net.now self.now.visits.items (positions self.now.stack.items) signal result }
+        ensures { IsEdge net.now self.now.visits.items (positions self.now.stack.items) signal result }
     {
         let first = net.inputs() as usize + 1;
         let signal = signal as usize;
         if signal < first {
-            return Seen::Below(0);
+            return Edge::Finished(0);
         }
         match self.visits[signal - first] {
-            Visit::New => Seen::Fresh(signal - first),
-            Visit::Open => Seen::Above,
-            Visit::Level(level) => Seen::Below(level),
+            Visit::New => Edge::Tree(signal - first),
+            Visit::Open => Edge::Back,
+            Visit::Level(level) => Edge::Finished(level),
         }
     }
 
@@ -90,9 +90,9 @@ impl Search {
         let def = net.def_at(frame.position);
         let mut highest = frame.highest;
         for next in frame.next..def.names() {
-            let level = match self.seen(net, def.name(next)) {
-                Seen::Below(level) => level,
-                Seen::Fresh(place) => {
+            let level = match self.edge_to(net, def.name(next)) {
+                Edge::Finished(level) => level,
+                Edge::Tree(place) => {
                     let looked = Frame {
                         position: frame.position,
                         next,
@@ -100,7 +100,7 @@ impl Search {
                     };
                     return SearchEvent::Enter { place, looked };
                 }
-                Seen::Above => return SearchEvent::Loop,
+                Edge::Back => return SearchEvent::Loop,
             };
             highest = highest.max(level);
         }

@@ -16,8 +16,8 @@ pub loop-next-preserved : goal.loop-next-preserved
 loop-next-preserved c =
     let steps = left c.args.self.now.visits.items (positions c.args.self.now.stack.items) in
     record {
-      have = looked_more c.args.net.now c.def_at-def.result.now steps c.args.frame.position c.loop-next.next c.name.result c.loop-next.highest c.in-Below.level c.max-highest.result c.def_at-def.ensures.value (omega arith) c.name.ensures c.loop-next.invariant.have c.in-Below.ensures c.max-highest.ensures;
-      few = omega (arith, c.in-Below.ensures.few);
+      have = looked_more c.args.net.now c.def_at-def.result.now steps c.args.frame.position c.loop-next.next c.name.result c.loop-next.highest c.in-Finished.level c.max-highest.result c.def_at-def.ensures.value (omega arith) c.name.ensures c.loop-next.invariant.have c.in-Finished.ensures c.max-highest.ensures;
+      few = omega (arith, c.in-Finished.ensures.few);
     }
 
 pub returns : goal.returns
