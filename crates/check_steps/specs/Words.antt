@@ -28,10 +28,17 @@ pub record Sought : Type 0 where
   pub budget : ℕ
   pub seed : ℕ
 
--- the words are a budget and a seed, or the budget alone, or none; the default budget is 1,000,000,000, the default seed 1
+-- the budget and the seed where the words give none (this project's)
+abbrev pub default_budget : ℕ
+default_budget = 1000000000
+
+abbrev pub default_seed : ℕ
+default_seed = 1
+
+-- the words are a budget and a seed, or the budget alone, or none
 abbrev pub AreBudgetAndSeed : List (List ℕ) → ℕ → ℕ → Type 0
-AreBudgetAndSeed [] budget seed = (budget ≡ 1000000000) × (seed ≡ 1)
-AreBudgetAndSeed (word ∷ []) budget seed = IsNumber word budget × (seed ≡ 1)
+AreBudgetAndSeed [] budget seed = (budget ≡ default_budget) × (seed ≡ default_seed)
+AreBudgetAndSeed (word ∷ []) budget seed = IsNumber word budget × (seed ≡ default_seed)
 AreBudgetAndSeed (word ∷ other ∷ []) budget seed = IsNumber word budget × IsNumber other seed
 AreBudgetAndSeed (word ∷ other ∷ another ∷ words) budget seed = ⊥
 
@@ -53,7 +60,7 @@ pub record AsksMatch (words : List (List ℕ)) (sought : Sought) : Type 0 where
 -- `info FILE`, whose budget is the default one, or `info FILE BUDGET`
 abbrev pub HaveInfoForm : List (List ℕ) → List ℕ → ℕ → Type 0
 HaveInfoForm words file budget =
-    ((words ≡ codes "info" ∷ file ∷ []) × (budget ≡ 1000000000))
+    ((words ≡ codes "info" ∷ file ∷ []) × (budget ≡ default_budget))
     ⊎ ((word : List ℕ) × (words ≡ codes "info" ∷ file ∷ word ∷ []) × IsNumber word budget)
 
 -- `info FILE [BUDGET]`, with a name that isn't empty

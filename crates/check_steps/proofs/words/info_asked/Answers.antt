@@ -2,6 +2,7 @@
 use Rattle.std.proofs.Common.{◌≡◌, ◌∷◌, [], inl, inr, ap, refl, sym, ◌∙◌, map}
 use Rattle.std.specs.Prelude.{string_bytes, codes}
 use Rattle.std.proofs.lemmas.Slice.Eq.{bytes_eq-Decides}
+use Rattle.check_steps.specs.Words.{default_budget}
 use Rattle.check_steps.proofs.WordLemmas.{asks_if, two, three}
 use Rattle.check_steps.proofs.words.info_asked.Goals as goal
 
@@ -10,7 +11,7 @@ returns-in-len2-clause-asked c =
     let e = two c.args.words.now _ _ c.in-len2.len_at_least c.in-len2.len_below c.command-item.is c.file-item.is in
     let named = (bytes_eq-Decides c.as_str.result.now (codes "info")).0 (sym c.eq.ensures ∙ c.if-eq.true) in
     let form : map string_bytes c.args.words.now ≡ codes "info" ∷ c.as_str-in-len2.result.now ∷ [] = ap (map string_bytes) e ∙ cc (named, c.as_str.ensures.value, c.as_str-in-len2.ensures.value) in
-    asks_if _ c.as_str-in-len2.result.now 1000000000 c.info_of.result (inl (form, refl)) c.info_of.ensures.some
+    asks_if _ c.as_str-in-len2.result.now default_budget c.info_of.result (inl (form, refl)) c.info_of.ensures.some
 
 pub returns-in_ok-number_of-in-len3-clause-asked : goal.returns-in_ok-number_of-in-len3-clause-asked
 returns-in_ok-number_of-in-len3-clause-asked c =
