@@ -4,6 +4,7 @@ ghost use Rattle.std.specs.Prelude.{◌≡◌, IfOk, IfErr};
 ghost use Rattle.circuits.specs.Matches.{HaveNpnpEqualFunctions};
 ghost use Rattle.run_steps.specs.Make.{IsPairOf};
 ghost use Rattle.account_write.specs.Records.{account_of, records_of};
+ghost use Rattle.check_steps.specs.Words.{default_budget};
 ghost use Rattle.run_steps.specs.Steps.{IsProvedMatch, IsStopWithin, Tries};
 
 use crate::matching::solve_by_search;
@@ -60,7 +61,7 @@ fn prove_match<W: Watch>(
 ) -> Result<Vec<u8>, Outcome>
     requires equal { HaveNpnpEqualFunctions graphs.now.first graphs.now.second }
     ensures account { IfOk result (λ account. IsProvedMatch graphs.now account.items) }
-    ensures stopped { IfErr result (IsStopWithin graphs.now 1000000000) }
+    ensures stopped { IfErr result (IsStopWithin graphs.now default_budget) }
 {
     let hints = Hints {
         seed: DEFAULT_SEED,

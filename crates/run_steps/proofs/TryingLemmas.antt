@@ -19,7 +19,7 @@ use Rattle.query_core.specs.Ledgers.{Ledgered}
 use Rattle.shelf_core.specs.State.{ShelfState}
 use Rattle.shelf_core.proofs.FaultLemmas.{none_failed}
 use Rattle.check_steps.specs.Lines.{line_of, IsOneLine}
-use Rattle.check_steps.specs.Words.{AsksTrial}
+use Rattle.check_steps.specs.Words.{default_budget, AsksTrial}
 use Rattle.run_steps.specs.Commands.{asked_trial}
 use Rattle.check_steps.specs.Checks.{IsSound}
 use Rattle.run_steps.specs.Outcomes.{FollowsWords, IsRight, Leaves}
@@ -68,11 +68,11 @@ pub no_rejection_told : (graphs : Graphs) (account : List ℕ) (line : ℕ) (why
 no_rejection_told graphs account line why result proved rejected is = never_both graphs account (verdict.Match proved.matching) line why proved.accepted ((rejected line why (λ e. cc)).0 is)
 
 -- what ends a trial of a pair early
-pub stopped : (number : ℕ) (graphs : Graphs) (hidden : Matching) (o : Outcome) (result : Result Ending Outcome) → result ≡ Err o → IsPairOf number graphs.first graphs.second hidden → IsStopWithin graphs 1000000000 o → Tries number result
+pub stopped : (number : ℕ) (graphs : Graphs) (hidden : Matching) (o : Outcome) (result : Result Ending Outcome) → result ≡ Err o → IsPairOf number graphs.first graphs.second hidden → IsStopWithin graphs default_budget o → Tries number result
 stopped number graphs hidden o result is pair stop =
     subst (Tries number) (sym is) (record {
       answer = tt;
-      stopped = of_stop (IsStopOfTrial number) graphs 1000000000 o stop (λ ledger spent. inl (ledger, refl, record { graphs = graphs; hidden = hidden; pair = pair; spent = spent })) (inr refl);
+      stopped = of_stop (IsStopOfTrial number) graphs default_budget o stop (λ ledger spent. inl (ledger, refl, record { graphs = graphs; hidden = hidden; pair = pair; spent = spent })) (inr refl);
     })
 
 pub no_room : (number : ℕ) (result : Result Ending Outcome) → result ≡ Err Memory → Tries number result
@@ -124,7 +124,7 @@ spent_decides tells trial state ledger spent = record {
   sound = λ t words asks. tt;
   report = λ words asks. tt;
   ending = tt;
-  early = (stop_line spent.graphs 1000000000 (Spent ledger) (inl (ledger, refl, spent.spent))).early;
+  early = (stop_line spent.graphs default_budget (Spent ledger) (inl (ledger, refl, spent.spent))).early;
   last = none_failed state state refl;
   failed = λ e. absurd (cc e);
   unwritten = λ e. absurd (cc e);

@@ -8,7 +8,7 @@ use Rattle.net_core.specs.declared.matching.Matching.{Matching}
 use Rattle.query_core.specs.Ledgers.{Ledgered}
 use Rattle.run_steps.specs.Info.{IsSpentOf}
 use Rattle.run_steps.specs.Make.{IsPairOf}
-use Rattle.check_steps.specs.Words.{AsksTrial}
+use Rattle.check_steps.specs.Words.{AsksTrial, default_budget}
 
 -- The account is accepted for the pair of a number: it proves that a matching is a match of the two, which it is.
 pub record IsTrialOf (number : ℕ) (account : List ℕ) : Type 0 where
@@ -29,7 +29,7 @@ pub record IsSpentOnPairOf (number : ℕ) (ledger : Ledgered) : Type 0 where
   pub graphs : Graphs
   pub hidden : Matching
   pub pair : IsPairOf number graphs.first graphs.second hidden
-  pub spent : IsSpentOf graphs 1000000000 ledger
+  pub spent : IsSpentOf graphs default_budget ledger
 
 -- The words ask for a trial of a number, on whose pair the default budget was spent.
 pub record IsSpentOnPair (words : List (List ℕ)) (ledger : Ledgered) : Type 0 where

@@ -5,6 +5,7 @@ use Rattle.account_core.specs.Ports.{HaveAsMany}
 use Rattle.net_core.specs.Sides.{Graphs}
 use Rattle.run_steps.specs.Steps.{IsProvedMatch, IsStopWithin}
 use Rattle.check_steps.specs.Judged.{graphs_of}
+use Rattle.check_steps.specs.Words.{default_budget}
 use Rattle.run_steps.proofs.TryingLemmas.{as_many, equal, no_room, none_some, stopped, tried}
 use Rattle.npnp.proofs.ResultLemmas.{err_is}
 use Rattle.npnp.proofs.trying.try_of.Goals as goal
@@ -24,7 +25,7 @@ returns-in_err-account g c =
     let o = c.in_err-account.field-0.0 in
     let same = rw c.in-Some.is at c.new.ensures.same in
     stopped _ (graphs_of c.args.pair.now.first c.args.pair.now.second) c.args.pair.now.hidden o _ (err_is _ c.from_residual.ensures.1) c.requires
-    (subst (λ two. IsStopWithin two 1000000000 o) (same ∙ c.new-graphs.ensures) c.in_err-account.ensures.stopped)
+    (subst (λ two. IsStopWithin two default_budget o) (same ∙ c.new-graphs.ensures) c.in_err-account.ensures.stopped)
 
 pub returns-in_err-report : goal.returns-in_err-report
 returns-in_err-report g c =
