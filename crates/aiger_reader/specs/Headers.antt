@@ -2,6 +2,7 @@
 use Rattle.std.specs.Prelude.{◌≡◌, ℕ, ◌+◌, ◌≤◌, ◌||◌, Bool, IsTrue, List, [], ◌∷◌, length, map, take, drop, Option, None, Some, nat_lt, codes, slice_index_or}
 use Rattle.std.specs.Prelude.{if◌then◌else◌}
 use Rattle.std.specs.List.{list_any}
+use Rattle.net_core.specs.Limits.{most_gates, most_ports}
 use Rattle.text_core.specs.Lines.{lines}
 use Rattle.net_file.specs.declared.fault.NetKind.{NetKind}
 use Rattle.net_file.specs.declared.fault.NetKind.TheVariants as kind
@@ -43,14 +44,18 @@ pub record HasHeader (bytes : List ℕ) (h : AigerHeader) : Type 0 where
   pub counted : h.inputs + h.latches + h.gates ≤ h.variables
   pub no_gaps : IsTrue h.binary → h.inputs + h.latches + h.gates ≡ h.variables
 
+-- the greatest variable that is read: the ASCII form may leave gaps among its variables (this project's limit)
+abbrev pub most_variables : ℕ
+most_variables = 4000000
+
 -- what a header asks for that isn't accepted, the first of these
 abbrev pub header_fault : AigerHeader → Option NetKind
 header_fault h =
     if nat_lt 0 h.latches then Some kind.Sequential
     else if list_any (nat_lt 0) h.properties then Some kind.Property
-    else if nat_lt 1024 h.inputs then Some kind.TooManyInputs
-    else if nat_lt 1024 h.outputs then Some kind.TooManyOutputs
-    else if nat_lt 1000000 h.gates || nat_lt 4000000 h.variables then Some kind.TooManyGates
+    else if nat_lt most_ports h.inputs then Some kind.TooManyInputs
+    else if nat_lt most_ports h.outputs then Some kind.TooManyOutputs
+    else if nat_lt most_gates h.gates || nat_lt most_variables h.variables then Some kind.TooManyGates
     else None
 
 -- The file begins with a header that is accepted.

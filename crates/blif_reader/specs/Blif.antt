@@ -7,6 +7,7 @@ use Rattle.circuits.specs.Expansion.{gates_in}
 use Rattle.circuits.specs.Functions.{Computes}
 use Rattle.circuits.specs.Levels.{IsAcyclic, IsFirstLooped, IsOrderOf}
 use Rattle.circuits.specs.Netlists.{Net}
+use Rattle.net_core.specs.Limits.{most_gates}
 use Rattle.net_file.specs.declared.fault.NetKind.{NetKind}
 use Rattle.net_file.specs.declared.fault.NetKind.TheVariants as fault
 use Rattle.blif_reader.specs.JoinedLines.{joined_lines, word_of}
@@ -25,7 +26,7 @@ pub record AreBlif (lines : List (List Piece)) (circuit : Circuit)
   pub names : AreFew lines
   pub same : circuit ≡ blif_circuit lines
   pub acyclic : IsAcyclic circuit
-  pub few_gates : gates_in circuit ≤ 1000000
+  pub few_gates : gates_in circuit ≤ most_gates
   pub input_names_are : input_names ≡ map (λ word. word.bytes) (input_words lines)
   pub output_names_are : output_names ≡ map (λ word. word.bytes) (output_words lines)
 
@@ -42,7 +43,7 @@ pub record IsGatesFault (end : ℕ) (lines : List (List Piece)) (kind : NetKind)
   pub names : AreFew lines
   pub acyclic : IsAcyclic (blif_circuit lines)
   pub is : kind ≡ fault.TooManyGates
-  pub many : 1000000 < gates_in (blif_circuit lines)
+  pub many : most_gates < gates_in (blif_circuit lines)
   pub offset : at ≡ end
 
 -- The first fault of joined lines: of a line; a kind of port without a line; names of ports, of what is defined and of

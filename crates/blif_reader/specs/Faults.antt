@@ -2,6 +2,7 @@
 -- first, one after the other; then the names of the whole file.
 use Rattle.std.specs.Prelude.{◌≡◌, ℕ, ◌<◌, ◌≤◌, ◌==◌, Bool, true, List, [], length, take, Option, None, Some, is_some, slice_index_or, if◌then◌else◌}
 use Rattle.std.specs.List.{list_any}
+use Rattle.net_core.specs.Limits.{most_ports}
 use Rattle.text_core.specs.Piece.{Piece}
 use Rattle.net_file.specs.declared.fault.NetKind.{NetKind}
 use Rattle.net_file.specs.declared.fault.NetKind.TheVariants as fault
@@ -77,8 +78,8 @@ pub record AreKnown (lines : List (List Piece)) : Type 0 where
 -- And there are no more ports than the limits.
 pub record AreFew (lines : List (List Piece)) : Type 0 where
   pub known : AreKnown lines
-  pub inputs : length (input_words lines) ≤ 1024
-  pub outputs : length (output_words lines) ≤ 1024
+  pub inputs : length (input_words lines) ≤ most_ports
+  pub outputs : length (output_words lines) ≤ most_ports
 
 -- a word at the place where a test finds the first
 pub record IsAtFirst (found : List Piece → Piece → Bool) (words : List Piece) (at : ℕ) : Type 0 where
@@ -117,13 +118,13 @@ pub record IsUndefinedFault (lines : List (List Piece)) (kind : NetKind) (at : �
 pub record IsInputsFault (lines : List (List Piece)) (kind : NetKind) (at : ℕ) : Type 0 where
   pub known : AreKnown lines
   pub is : kind ≡ fault.TooManyInputs
-  pub many : 1024 < length (input_words lines)
-  pub offset : at ≡ (word_of (input_words lines) 1024).at
+  pub many : most_ports < length (input_words lines)
+  pub offset : at ≡ (word_of (input_words lines) most_ports).at
 
 -- No more inputs, and more outputs than the limit.
 pub record IsOutputsFault (lines : List (List Piece)) (kind : NetKind) (at : ℕ) : Type 0 where
   pub known : AreKnown lines
   pub is : kind ≡ fault.TooManyOutputs
-  pub few_inputs : length (input_words lines) ≤ 1024
-  pub many : 1024 < length (output_words lines)
-  pub offset : at ≡ (word_of (output_words lines) 1024).at
+  pub few_inputs : length (input_words lines) ≤ most_ports
+  pub many : most_ports < length (output_words lines)
+  pub offset : at ≡ (word_of (output_words lines) most_ports).at

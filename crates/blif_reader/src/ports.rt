@@ -1,6 +1,7 @@
 //! Ports by their kind: how many there are, and their names.
 
 ghost use Rattle.std.specs.Prelude.{◌≡◌, ◌≤◌, length, MatchOption, IfOk};
+ghost use Rattle.net_core.specs.Limits.{most_ports};
 ghost use Rattle.blif_reader.specs.Numbers.{port_names};
 ghost use Rattle.blif_reader.specs.Names.{words_of_kind};
 ghost use Rattle.blif_reader.specs.Ports.{IsExcess};
@@ -16,7 +17,7 @@ const MOST_PORTS: u32 = 1024;
 
 /// The offset of the first port of a kind beyond the limit, if there are more.
 pub(crate) fn find_excess(ports: &[Port<'_>], kind: PortKind) -> Option<u64>
-    ensures { MatchOption result (length (words_of_kind kind ports.now) ≤ 1024)
+    ensures { MatchOption result (length (words_of_kind kind ports.now) ≤ most_ports)
         (λ at. IsExcess (words_of_kind kind ports.now) at) }
 {
     let mut count = 0;

@@ -1,6 +1,7 @@
 ghost use Rattle.std.specs.Prelude.{◌≡◌, ◌+◌, ◌<◌, ◌≤◌, ◌^◌, length, IfOk, IfErr, OnOk};
 ghost use Rattle.circuits.specs.Expansion.{gates_in};
 ghost use Rattle.circuits.specs.Levels.{IsAcyclic, IsOrderOf};
+ghost use Rattle.net_core.specs.Limits.{most_bytes, most_gates};
 ghost use Rattle.net_file.specs.declared.fault.NetFault.{NetFault};
 ghost use Rattle.net_file.specs.Stops.{IsStopBy};
 ghost use Rattle.blif_reader.specs.Names.{input_words};
@@ -87,7 +88,7 @@ fn order_covers(alloc: Global, input: &[u8], inputs: u32, covers: Covers) -> Res
     requires inputs { inputs ≡ length (input_words (blif_lines input.now)) }
     requires signals { 1 + length (signal_names (blif_lines input.now)) < 2 ^ 30 }
     ensures acyclic { OnOk result (IsAcyclic (blif_circuit (blif_lines input.now))) }
-    ensures few_gates { OnOk result (gates_in (blif_circuit (blif_lines input.now)) ≤ 1000000) }
+    ensures few_gates { OnOk result (gates_in (blif_circuit (blif_lines input.now)) ≤ most_gates) }
     ensures ordered { IfOk result (λ graph. IsOrderOf (blif_circuit (blif_lines input.now)) graph) }
     ensures stop { IfErr result (IsStopBy (IsBlifFault input.now)) }
 {
@@ -146,7 +147,7 @@ fn name_net(
 /// given to two ports of a kind, defined twice, or read and not known; more ports than 1,024 of a kind; a cover on a
 /// cycle or above one, at its `.names` line; or more than 1,000,000 gates. [`NetStop::Memory`] when out of memory.
 pub fn read(alloc: Global, input: &[u8]) -> Result<Named, NetStop>
-    requires file { length input.now ≤ 67108864 }
+    requires file { length input.now ≤ most_bytes }
     ensures netlist { IfOk result (λ named. ReadAs input.now named.graph named.input_names named.output_names) }
     ensures fault { (fault : NetFault) → result ≡ Err (NetStop.Fault fault)
         → IsBlifFault input.now fault.kind fault.at }
@@ -156,7 +157,7 @@ pub fn read(alloc: Global, input: &[u8]) -> Result<Named, NetStop>
 
 // The netlist of a file and the names of its ports.
 fn read_file(alloc: Global, input: &[u8]) -> Result<Named, NetStop>
-    requires { length input.now ≤ 67108864 }
+    requires { length input.now ≤ most_bytes }
     ensures netlist { IfOk result (λ named. ReadAs input.now named.graph named.input_names named.output_names) }
     ensures stop { IfErr result (IsStopBy (IsBlifFault input.now)) }
 {

@@ -4,6 +4,7 @@ use Rattle.circuits.specs.Circuits.{Circuit}
 use Rattle.circuits.specs.Functions.{Computes}
 use Rattle.circuits.specs.Levels.{IsAcyclic, IsOrderOf}
 use Rattle.circuits.specs.Netlists.{Net}
+use Rattle.net_core.specs.Limits.{most_ports}
 use Rattle.shelf_core.specs.Fault.{NoCallFollows, Rose}
 use Rattle.shelf_core.specs.State.{ShelfState, Closed}
 use Rattle.net_file.specs.declared.named.Named.{Named}
@@ -51,7 +52,7 @@ pub record IsReadFrom (tells : Bool) (content : Option (List ℕ)) (named : Name
   pub circuit : Circuit
   pub held : IsTrue tells → HoldsNetlist content (netlist_of circuit named)
   pub acyclic : IsAcyclic circuit
-  pub few : length circuit.outputs ≤ 1024
+  pub few : length circuit.outputs ≤ most_ports
   pub computes : Computes named.graph circuit
   pub numbered : IsOrderOf circuit named.graph
 

@@ -1,6 +1,7 @@
 //! Netlists from a shelf.
 
 ghost use Rattle.std.specs.Prelude.{◌≡◌, ◌↔◌, ◌≤◌, IsTrue, Err, IfOk, IfErr, length};
+ghost use Rattle.net_core.specs.Limits.{most_bytes};
 ghost use Rattle.shelf_core.specs.State.{Closed};
 ghost use Rattle.net_file.specs.declared.fault.NetFault.{NetFault};
 ghost use Rattle.check_steps.specs.Circuits.{BeginsAsAiger, IsCircuitFault};
@@ -49,7 +50,7 @@ fn place_of(which: Which) -> u32 {
 
 /// The netlist that a file's bytes are.
 fn parse_netlist(alloc: Global, which: Which, bytes: &[u8]) -> Result<Named, Outcome>
-    requires { length bytes.now ≤ 67108864 }
+    requires { length bytes.now ≤ most_bytes }
     ensures netlist { IfOk result
         (λ named. ReadAs bytes.now named.graph named.input_names named.output_names) }
     ensures stop { IfErr result (IsStopOf which bytes.now) }
@@ -67,7 +68,7 @@ fn parse_netlist(alloc: Global, which: Which, bytes: &[u8]) -> Result<Named, Out
 
 /// Reads a file in the format that its first four bytes tell: AIGER where they are `aag ` or `aig `, else BLIF.
 fn read_circuit(alloc: Global, bytes: &[u8]) -> Result<Named, NetStop>
-    requires { length bytes.now ≤ 67108864 }
+    requires { length bytes.now ≤ most_bytes }
     ensures netlist { IfOk result
         (λ named. ReadAs bytes.now named.graph named.input_names named.output_names) }
     ensures fault { (fault : NetFault) → result ≡ Err (NetStop.Fault fault)

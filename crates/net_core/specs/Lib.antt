@@ -1,4 +1,5 @@
 pub mod Graph
+pub mod Limits
 pub mod PlainNets
 pub mod Search
 pub mod Orders

@@ -12,6 +12,7 @@ use Rattle.net_core.specs.declared.levels.SearchEvent.{SearchEvent}
 use Rattle.net_core.specs.declared.levels.SearchEvent.TheVariants.{Enter, Close, Loop}
 use Rattle.net_core.specs.declared.order_fault.OrderFault.{OrderFault}
 use Rattle.net_core.specs.declared.order_fault.OrderFault.TheVariants.{Cycle, TooManyGates, Memory}
+use Rattle.net_core.specs.Limits.{most_gates}
 
 abbrev pub visit_of : List Visit → ℕ → Visit
 visit_of visits k = slice_index_or visits k New
@@ -105,7 +106,7 @@ IsNextEvent circuit visits stack d (Close level) = HasLevel circuit (signal_at c
 -- what each fault says
 abbrev pub IsFaultOf : Circuit → OrderFault → Type 0
 IsFaultOf circuit (Cycle d) = IsFirstLooped circuit d
-IsFaultOf circuit TooManyGates = IsAcyclic circuit × (1000000 < gates_in circuit)
+IsFaultOf circuit TooManyGates = IsAcyclic circuit × (most_gates < gates_in circuit)
 IsFaultOf circuit Memory = Unit {0}
 
 -- what a fault says while the search from a root goes on

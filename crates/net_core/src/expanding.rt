@@ -12,6 +12,7 @@ ghost use Rattle.circuits.specs.Levels.{IsAcyclic, IsLevelOrder, IsOrderOf};
 ghost use Rattle.net_core.specs.Graph.{IsGraph};
 ghost use Rattle.net_core.specs.PlainNets.{IsPlainNet};
 ghost use Rattle.net_core.specs.Rows.{row_continued};
+ghost use Rattle.net_core.specs.Limits.{most_gates};
 
 use crate::graph::Graph;
 use crate::plain_net::PlainNet;
@@ -264,7 +265,7 @@ fn own_literals(alloc: Global, signals: u32) -> Result<Vec<Lit>, AllocError>
 pub(crate) fn expand(alloc: Global, net: &PlainNet, order: &[u32]) -> Result<Graph, AllocError>
     requires order { IsLevelOrder net.now order.now }
     requires acyclic { IsAcyclic net.now }
-    requires few { gates_in net.now ≤ 1000000 }
+    requires few { gates_in net.now ≤ most_gates }
     ensures graph { IfOk result (λ graph. IsOrderOf net.now graph) }
     ensures sound { IfOk result IsGraph }
     ensures plain { IfOk result (λ _. IsPlainNet net.now) }

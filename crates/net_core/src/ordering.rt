@@ -6,6 +6,7 @@ ghost use Rattle.circuits.specs.Functions.{Computes};
 ghost use Rattle.circuits.specs.Levels.{IsAcyclic, IsFirstLooped, IsOrderOf};
 ghost use Rattle.net_core.specs.Graph.{IsGraph};
 ghost use Rattle.net_core.specs.Orders.{IsSortedOrder};
+ghost use Rattle.net_core.specs.Limits.{most_gates};
 
 use crate::counting::gate_count;
 use crate::expanding::expand;
@@ -31,10 +32,10 @@ pub fn order(alloc: Global, net: &PlainNet) -> Result<Graph, OrderFault>
     ensures sound { IfOk result IsGraph }
     ensures computes { IfOk result (λ graph. Computes graph net.now) }
     ensures acyclic { IfOk result (λ _. IsAcyclic net.now) }
-    ensures few { IfOk result (λ graph. length graph.gates ≤ 1000000) }
+    ensures few { IfOk result (λ graph. length graph.gates ≤ most_gates) }
     ensures cycle { (d : ℕ) → result ≡ Err (OrderFault.Cycle d) → IsFirstLooped net.now d }
     ensures too_many { result ≡ Err OrderFault.TooManyGates
-        → IsAcyclic net.now × (1000000 < gates_in net.now) }
+        → IsAcyclic net.now × (most_gates < gates_in net.now) }
 {
     let placed = find_levels(alloc, net)?;
     // After the levels, since a cycle is the fault that comes first; and before any gate is made, so that

@@ -2,6 +2,7 @@
 use Rattle.std.specs.Prelude.{◌≡◌, ℕ, ◌≤◌, ◌⊎◌, List, length}
 use Rattle.circuits.specs.Circuits.{Circuit, IsClosed}
 use Rattle.circuits.specs.Levels.{IsAcyclic}
+use Rattle.net_core.specs.Limits.{most_ports}
 use Rattle.net_file.specs.declared.fault.NetKind.{NetKind}
 
 -- Of a file's bytes: that it is a circuit with these names of its inputs and outputs, and that it has this first fault.
@@ -29,13 +30,13 @@ pub record IsFormat (IsFile : List ℕ → Circuit → List (List ℕ) → List 
   -- the circuit that a file is reads only signals that are there, and has no cycle
   pub closed : (bytes : List ℕ) (circuit : Circuit) (i o : List (List ℕ)) → IsFile bytes circuit i o → IsClosed circuit
   pub acyclic : (bytes : List ℕ) (circuit : Circuit) (i o : List (List ℕ)) → IsFile bytes circuit i o → IsAcyclic circuit
-  -- it has at most 1,024 inputs and 1,024 outputs, and names each port
+  -- it has no more inputs and outputs than the limit, and names each port
   pub inputs : (bytes : List ℕ) (circuit : Circuit) (i o : List (List ℕ))
       → IsFile bytes circuit i o
-      → circuit.inputs ≤ 1024
+      → circuit.inputs ≤ most_ports
   pub outputs : (bytes : List ℕ) (circuit : Circuit) (i o : List (List ℕ))
       → IsFile bytes circuit i o
-      → length circuit.outputs ≤ 1024
+      → length circuit.outputs ≤ most_ports
   pub names : (bytes : List ℕ) (circuit : Circuit) (i o : List (List ℕ))
       → IsFile bytes circuit i o
       → (length i ≡ circuit.inputs) × (length o ≡ length circuit.outputs)

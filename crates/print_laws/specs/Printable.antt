@@ -2,6 +2,7 @@
 use Rattle.std.specs.Prelude.{◌≡◌, ◌≢◌, ℕ, ◌≤◌, List, [], ◌∷◌, ◌++◌, length, All}
 use Rattle.text_core.specs.Lines.{IsLine}
 use Rattle.circuits.specs.Netlists.{Net, IsOrdered}
+use Rattle.net_core.specs.Limits.{most_gates, most_ports}
 use Rattle.net_file.specs.declared.named.Named.{Named}
 
 -- A name that a symbol's line can hold: it isn't empty, has no line feed, and no carriage return at its end.
@@ -13,9 +14,9 @@ pub record IsSymbolName (name : List ℕ) : Type 0 where
 -- A netlist in order, of no more ports and gates than the readers take.
 pub record IsWithinLimits (net : Net) : Type 0 where
   pub ordered : IsOrdered net
-  pub inputs : net.inputs ≤ 1024
-  pub outputs : length net.outputs ≤ 1024
-  pub gates : length net.gates ≤ 1000000
+  pub inputs : net.inputs ≤ most_ports
+  pub outputs : length net.outputs ≤ most_ports
+  pub gates : length net.gates ≤ most_gates
 
 -- And each port has a name that a symbol can give it.
 pub record IsPrintable (named : Named) : Type 0 where

@@ -1,6 +1,7 @@
 ghost use Rattle.std.specs.Prelude.{◌≤◌, All, length};
 ghost use Rattle.circuits.specs.Functions.{Computes, as_circuit};
 ghost use Rattle.circuits.specs.Netlists.{Net};
+ghost use Rattle.net_core.specs.Limits.{most_bytes};
 ghost use Rattle.net_file.specs.declared.named.Named.{Named};
 ghost use Rattle.net_print.specs.BlifLines.{blif_text};
 ghost use Rattle.net_print.specs.Files.{aag_text, aig_text};
@@ -48,10 +49,10 @@ pub fn blif_reads_back()
 pub fn printed_is_short()
     ensures blif { (net : Net)
         → IsWithinLimits net
-        → length (blif_text net) ≤ 67108864 }
+        → length (blif_text net) ≤ most_bytes }
     ensures aig { (named : Named)
         → IsPrintable named
         → All IsShortName named.input_names
         → All IsShortName named.output_names
-        → length (aig_text named) ≤ 67108864 }
+        → length (aig_text named) ≤ most_bytes }
 {}

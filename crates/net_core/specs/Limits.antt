@@ -1,0 +1,14 @@
+-- How large a netlist may be that is read (this project's limits).
+use Rattle.std.specs.Prelude.{ℕ}
+
+-- inputs, and outputs
+abbrev pub most_ports : ℕ
+most_ports = 1024
+
+-- gates of the graph
+abbrev pub most_gates : ℕ
+most_gates = 1000000
+
+-- bytes of a file: 64 MiB
+abbrev pub most_bytes : ℕ
+most_bytes = 67108864
