@@ -1,5 +1,3 @@
-//! The tests of a ban.
-
 ghost use Rattle.std.specs.Prelude.{◌≡◌, All, IfOk};
 ghost use Rattle.account_core.specs.Ports.{IsKnown};
 ghost use Rattle.account_check.specs.Bans.{BanTests, StepTests};

@@ -1,5 +1,3 @@
-//! The tests of a fact's line.
-
 ghost use Rattle.std.specs.Prelude.{◌≡◌, ◌↔◌, IsTrue, IfOk};
 ghost use Rattle.account_core.specs.declared.fact.FactHead.TheVariants as head;
 ghost use Rattle.account_check.specs.Conclusions.{PortsTest};

@@ -60,6 +60,7 @@ impl<'a> Logs<'a> {
         requires { HavePorts graphs.now.first graphs.now.second matching.inputs matching.outputs }
         ensures { IfOk result (λ logs. logs ≡ record { graphs = graphs.now; proof = unproved matching }) }
     {
+        // it brings in that the outputs can be counted
         let _outputs = graphs.first().outputs();
         let log = first_log(alloc, graphs, &matching)?;
         Ok(Logs {
@@ -101,6 +102,7 @@ impl<'a> Logs<'a> {
         ensures proved { self.now.proof.closed ≡ log_count self.now.proof.matching
             → IsMatchOfFunctions self.now.graphs.first self.now.graphs.second result.now.inputs result.now.outputs }
     {
+        // they bring in that both graphs are sound
         let _first = self.graphs.first();
         let _second = self.graphs.second();
         &self.matching

@@ -6,13 +6,14 @@ use std::alloc::{AllocError, AllocFailed};
 pub enum Reject {
     /// It names a port that doesn't exist.
     UnknownId,
-    /// A vector doesn't show what it is given for.
+    /// A vector doesn't break its claim, or two paired outputs don't differ on it.
     VectorFails,
     /// A log's line isn't derived.
     Refutation(LineFault),
-    /// A step isn't what its rule allows.
+    /// The rule of a step isn't kept; or pairs, or the two inputs of a swap, are out of order.
     Rule,
-    /// The conclusion isn't one.
+    /// It is `none ports` where the circuits have the same numbers of ports, or another record where they differ; or
+    /// what it concludes in is no matching, or a ban with pairs.
     Conclusion,
 }
 

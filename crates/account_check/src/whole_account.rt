@@ -27,6 +27,7 @@ pub fn check(alloc: Global, graphs: &Graphs<'_>, account: &[u8]) -> Result<Verdi
     ensures refused { result ≡ Ok verdict.None
         → HaveNpnpEqualFunctions graphs.now.first graphs.now.second → ⊥ }
 {
+    // they bring in that both graphs are sound
     let _first = graphs.first();
     let _second = graphs.second();
     verdict_on(alloc, graphs, account)

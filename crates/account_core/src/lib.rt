@@ -1,4 +1,4 @@
-//! What an account says: facts, bans with their steps, conclusions.
+//! What an account says: facts, bans with their steps, conclusions. An error comes only when out of memory.
 #![tactic(auto)]
 
 mod conclusion;

@@ -12,10 +12,6 @@ use word_sim::Tri;
 
 /// What the inputs of the second circuit get: an input's value where it is paired, by the pair's sign, and X elsewhere.
 /// Of two pairs that go to one input the earlier one counts.
-///
-/// # Errors
-///
-/// Only when out of memory.
 pub fn values_sent(
     alloc: Global,
     pairs: &[Pair],

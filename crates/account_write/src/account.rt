@@ -91,7 +91,7 @@ impl Account {
     }
 
     /// The account that there is no match, since the circuits differ in their numbers of ports: the header, and that
-    /// they have.
+    /// they do.
     pub fn of_other_ports(alloc: Global) -> Result<Account, AllocError>
         ensures records { IfOk result (λ account. records_of account ≡ none_ports_records) }
         ensures writable { IfOk result (λ account. All IsWritable (records_of account)) }

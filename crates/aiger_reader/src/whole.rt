@@ -1,5 +1,3 @@
-//! Whole files of either form.
-
 ghost use Rattle.std.specs.Prelude.{◌≡◌, ℕ, ◌+◌, ◌<◌, false, List, [], length, map, IfOk, IfErr};
 ghost use Rattle.circuits.specs.Functions.{Computes};
 ghost use Rattle.circuits.specs.Levels.{IsAcyclic, IsOrderOf};

@@ -4,7 +4,7 @@ pub mod AscentLemmas
 pub mod CountLemmas
 pub mod TallyLemmas
 pub mod CoverLemmas
-pub mod HeldLemmas
+pub mod PairIndexLemmas
 pub mod MissingLemmas
 pub mod ConeLemmas
 pub mod OrderLemmas

@@ -3,7 +3,7 @@ use Rattle.std.proofs.Common.{◌≡◌, ◌↔◌, ℕ, zero, suc, ◌+◌, ◌
 use Rattle.std.proofs.lemmas.Bool.Decides.{Decides-eqb}
 use Rattle.account_core.specs.Given.{ban_at}
 use Rattle.circuits.specs.declared.port.Pair.{Pair}
-use Rattle.ban_check.specs.Held.{AreKept, AreMissing, Beside, IsAllMissing, kept_of}
+use Rattle.ban_check.specs.PairIndices.{AreKept, AreMissing, Beside, IsAllMissing, kept_of}
 use Rattle.ban_check.specs.declared.missing.Missing.{Missing}
 use Rattle.ban_check.proofs.BoolLemmas.{all_more}
 
@@ -38,13 +38,13 @@ missing_all held ban k now size told more = (
 )
 
 -- what is missing of one ban more is kept
-pub kept_more : (beside : Beside) (ban : ℕ) (missing : Missing) (before after : List (ℕ × Missing)) → ((other : ℕ) → kept_of after other ≡ cond (ban == other) (Some missing) (kept_of before other)) → AreMissing beside.held (ban_at beside.given ban) missing → AreKept beside before → AreKept beside after
+pub kept_more : (beside : Beside) (ban : ℕ) (missing : Missing) (before after : List (ℕ × Missing)) → ((other : ℕ) → kept_of after other ≡ cond (ban == other) (Some missing) (kept_of before other)) → AreMissing beside.pairs (ban_at beside.given ban) missing → AreKept beside before → AreKept beside after
 kept_more beside ban missing before after puts new old other told is = by_test (ban == other) refl
   where
-    by_test : (b : Bool) → (ban == other) ≡ b → AreMissing beside.held (ban_at beside.given other) told
+    by_test : (b : Bool) → (ban == other) ≡ b → AreMissing beside.pairs (ban_at beside.given other) told
     by_test true same =
         let bans : ban ≡ other = (Decides-eqb ban other).0 same in
         let values : Some missing ≡ Some told = sym (puts other ∙ ap (λ b. cond b (Some missing) (kept_of before other)) same) ∙ is in
         let told_is : missing ≡ told = cc in
-        subst (λ m. AreMissing beside.held (ban_at beside.given other) m) told_is (subst (λ n. AreMissing beside.held (ban_at beside.given n) missing) bans new)
+        subst (λ m. AreMissing beside.pairs (ban_at beside.given other) m) told_is (subst (λ n. AreMissing beside.pairs (ban_at beside.given n) missing) bans new)
     by_test false differ = old other told (sym (puts other ∙ ap (λ b. cond b (Some missing) (kept_of before other)) differ) ∙ is)

@@ -1,8 +1,8 @@
 pub mod Cones
 pub mod Counted
-pub mod Held
 pub mod Kept
 pub mod More
+pub mod PairIndices
 pub mod Seconds
 pub use Rattle.account_core.specs.Given
 pub use Rattle.account_core.specs.Ports

@@ -11,10 +11,6 @@ use std::alloc::{AllocError, Global};
 
 /// Whether a vector breaks a claim: it has the values of the claim's shape, its output is 1 on it, and 0 where the
 /// shape's inputs have the opposite values.
-///
-/// # Errors
-///
-/// Only when out of memory.
 pub fn breaks(
     alloc: Global,
     evaluator: &mut Evaluator<'_>,

@@ -48,10 +48,6 @@ pub(crate) fn cone_kept(cones: &Cones, output: u32) -> Option<&Items<u32>>
 }
 
 /// Finds an output's cone, unless it is kept or there is no room for it.
-///
-/// # Errors
-///
-/// Only when out of memory.
 pub(crate) fn look_for_cone(
     alloc: Global,
     graph: &Graph,

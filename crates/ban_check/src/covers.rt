@@ -65,7 +65,7 @@ pub(crate) fn is_cover(
     refs: &[Option<u64>],
 ) -> Result<bool, AllocError>
     ensures { IfOk result (λ is. IsTrue is
-        ↔ IsCover graphs.now references.old.given references.old.held kind from.now to.now refs.now) }
+        ↔ IsCover graphs.now references.old.given references.old.pairs kind from.now to.now refs.now) }
 {
     let counted = ascend(from)
         & ascend(to)
@@ -83,7 +83,7 @@ fn are_referred(
     refs: &[Option<u64>],
 ) -> Result<bool, AllocError>
     ensures { IfOk result (λ are. IsTrue are
-        ↔ AllZip (IsReference references.old.given references.old.held) (ways kind from.now to.now) refs.now) }
+        ↔ AllZip (IsReference references.old.given references.old.pairs) (ways kind from.now to.now) refs.now) }
 {
     let mut left = refs;
     for port in from.iter() {
@@ -105,8 +105,8 @@ fn after_row<'a>(
 ) -> Result<Option<&'a [Option<u64>]>, AllocError>
     ensures same { references.new ≡ references.old }
     ensures rest { IfOk result (λ rest. (more : List AnyPair)
-        → (AllZip (IsReference references.old.given references.old.held) (row kind port to.now ++ more) refs.now
-        ↔ IsSomeAnd rest (λ left. AllZip (IsReference references.old.given references.old.held) more left.now))) }
+        → (AllZip (IsReference references.old.given references.old.pairs) (row kind port to.now ++ more) refs.now
+        ↔ IsSomeAnd rest (λ left. AllZip (IsReference references.old.given references.old.pairs) more left.now))) }
 {
     let mut left = refs;
     for other in to.iter() {
@@ -132,8 +132,8 @@ fn fit_ways(
 ) -> Result<bool, AllocError>
     ensures same { references.new ≡ references.old }
     ensures fit { IfOk result (λ fit. IsTrue fit
-        ↔ (IsReference references.old.given references.old.held (way kind from to false) plain
-        × IsReference references.old.given references.old.held (way kind from to true) inverted)) }
+        ↔ (IsReference references.old.given references.old.pairs (way kind from to false) plain
+        × IsReference references.old.given references.old.pairs (way kind from to true) inverted)) }
 {
     let one = references.fits(way(kind, from, to, false), plain)?;
     let other = references.fits(way(kind, from, to, true), inverted)?;

@@ -1,5 +1,5 @@
 //! Whether what is given of two circuits is so: a ban, pairs of ports that no match has all of, by its step; and a
-//! claim that fails, by a vector that breaks it.
+//! claim that fails, by a vector that breaks it. An error comes only when out of memory.
 #![tactic(auto)]
 
 mod ascent;
@@ -9,10 +9,10 @@ mod cones;
 mod covers;
 mod evaluator;
 mod given;
-mod held;
 mod mismatches;
 mod missing;
 mod ordered;
+mod pair_index;
 mod ports;
 mod references;
 mod steps;

@@ -1,8 +1,8 @@
 ghost use Rattle.std.specs.Prelude.{◌≡◌, ◌↔◌, ◌∷◌, Contains, IsTrue};
 ghost use Rattle.circuits.specs.declared.port.Pair.{Pair as AnyPair};
-ghost use Rattle.ban_check.specs.Held.{AreMissing, IsAllMissing};
+ghost use Rattle.ban_check.specs.PairIndices.{AreMissing, IsAllMissing};
 
-use crate::held::Held;
+use crate::pair_index::PairIndex;
 use circuits::Pair;
 
 /// Which pairs of an earlier ban aren't among those of the ban that is checked.
@@ -17,22 +17,22 @@ pub(crate) enum Missing {
 }
 
 /// Which pairs of an earlier ban aren't among those of the ban that is checked.
-pub(crate) fn missing_of(held: &Held<'_>, ban: &[Pair]) -> Missing
-    ensures { AreMissing held.now ban.now result }
+pub(crate) fn missing_of(pairs: &PairIndex<'_>, ban: &[Pair]) -> Missing
+    ensures { AreMissing pairs.now ban.now result }
 {
     let mut missing = Missing::None;
     for pair in ban.iter() {
-        missing = with_next(held, missing, *pair);
+        missing = with_next(pairs, missing, *pair);
     }
     missing
 }
 
 // What is missing with one pair more.
-fn with_next(held: &Held<'_>, missing: Missing, pair: Pair) -> Missing
+fn with_next(pairs: &PairIndex<'_>, missing: Missing, pair: Pair) -> Missing
     ensures { (more : AnyPair) →
-        (IsAllMissing result more ↔ (IsAllMissing missing more × Contains (more ∷ held.now) pair)) }
+        (IsAllMissing result more ↔ (IsAllMissing missing more × Contains (more ∷ pairs.now) pair)) }
 {
-    if held.has(pair) {
+    if pairs.has(pair) {
         return missing;
     }
     with_missing(missing, pair)

@@ -27,10 +27,6 @@ fn is_known(graphs: &Graphs<'_>, pair: Pair) -> bool
 
 /// Whether pairs of inputs come first, the first ports of each kind ascend, and no two pairs of a kind go to one port.
 /// It takes as long as to sort the ports.
-///
-/// # Errors
-///
-/// Only when out of memory.
 pub(crate) fn are_ordered(alloc: Global, pairs: &[Pair]) -> Result<bool, AllocError>
     ensures { IfOk result (λ are. IsTrue are ↔ AreOrdered pairs.now) }
 {

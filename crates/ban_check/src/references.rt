@@ -3,12 +3,12 @@
 ghost use Rattle.std.specs.Prelude.{◌≡◌, ◌==◌, ◌↔◌, ℕ, IfOk, IsTrue, OnErr, OnOk, Some as There, if◌then◌else◌};
 ghost use Rattle.account_core.specs.Covers.{IsReference};
 ghost use Rattle.account_core.specs.Given.{ban_at};
-ghost use Rattle.ban_check.specs.Held.{AreMissing, kept_of};
+ghost use Rattle.ban_check.specs.PairIndices.{AreMissing, kept_of};
 
 use crate::given::Given;
-use crate::held::Held;
 use crate::missing::{Missing, is_all, missing_of};
 use crate::ordered::OrderedPairs;
+use crate::pair_index::PairIndex;
 use circuits::Pair;
 use indexmap::IndexMap;
 use std::alloc::{AllocError, Global};
@@ -19,18 +19,18 @@ use std::marker::Model;
 #[derive(Drop)]
 pub(crate) struct References<'a> {
     given: &'a Given,
-    held: Held<'a>,
+    pairs: PairIndex<'a>,
     missing: IndexMap<u64, Missing>,
 }
 
 impl<'a> Model for References<'a> {
-    ghost use Rattle.ban_check.specs.Held.{AreKept, Beside};
+    ghost use Rattle.ban_check.specs.PairIndices.{AreKept, Beside};
 
     ghost Value = { Beside };
 
-    ghost view = { λ a. record { given = a.given.now; held = a.held } };
+    ghost view = { λ a. record { given = a.given.now; pairs = a.pairs } };
 
-    ghost invariant = { λ a. AreKept (record { given = a.given.now; held = a.held }) a.missing.entries };
+    ghost invariant = { λ a. AreKept (record { given = a.given.now; pairs = a.pairs }) a.missing.entries };
 }
 
 impl<'a> References<'a> {
@@ -40,12 +40,12 @@ impl<'a> References<'a> {
         given: &'a Given,
         pairs: &OrderedPairs<'a>,
     ) -> Result<References<'a>, AllocError>
-        ensures { IfOk result (λ references. references ≡ record { given = given.now; held = pairs.now }) }
+        ensures { IfOk result (λ references. references ≡ record { given = given.now; pairs = pairs.now }) }
     {
-        let held = Held::new(alloc, pairs)?;
+        let index = PairIndex::new(alloc, pairs)?;
         Ok(References {
             given,
-            held,
+            pairs: index,
             missing: IndexMap::new(alloc),
         })
     }
@@ -54,9 +54,9 @@ impl<'a> References<'a> {
     /// this one or among the checked ban's.
     pub(crate) fn fits(&mut self, pair: Pair, reference: Option<u64>) -> Result<bool, AllocError>
         ensures same { self.new ≡ self.old }
-        ensures fits { IfOk result (λ fits. IsTrue fits ↔ IsReference self.old.given self.old.held pair reference) }
+        ensures fits { IfOk result (λ fits. IsTrue fits ↔ IsReference self.old.given self.old.pairs pair reference) }
     {
-        let impossible = self.held.clash_with(pair);
+        let impossible = self.pairs.clash_with(pair);
         let Some(ban) = reference else {
             return Ok(impossible);
         };
@@ -70,12 +70,12 @@ impl<'a> References<'a> {
     // Which pairs of an earlier ban aren't among the checked one's. They are looked for once.
     fn missing_of(&mut self, ban: u64) -> Result<Missing, AllocError>
         ensures same { self.new ≡ self.old }
-        ensures missing { IfOk result (AreMissing self.old.held (ban_at self.old.given ban)) }
+        ensures missing { IfOk result (AreMissing self.old.pairs (ban_at self.old.given ban)) }
     {
         if let Some(missing) = kept_of(&self.missing, ban) {
             return Ok(missing);
         }
-        let missing = missing_of(&self.held, self.given.ban(ban));
+        let missing = missing_of(&self.pairs, self.given.ban(ban));
         keep(&mut self.missing, ban, missing)?;
         Ok(missing)
     }

@@ -45,10 +45,6 @@ fn have_facts(given: &Given, numbers: &[u64]) -> bool
 
 /// Whether a step keeps its rule: a vector is of a paired output; a mismatch is of a failing claim and its image; a
 /// tally counts too many inputs; a cover excludes each way.
-///
-/// # Errors
-///
-/// Only when out of memory.
 pub fn keeps_rule(
     alloc: Global,
     graphs: &Graphs<'_>,
@@ -78,10 +74,6 @@ pub fn keeps_rule(
 }
 
 /// Whether a step's vector shows what it is given for, if it has one.
-///
-/// # Errors
-///
-/// Only when out of memory.
 pub fn has_shown(
     alloc: Global,
     evaluator: &mut Evaluator<'_>,

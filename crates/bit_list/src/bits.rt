@@ -43,10 +43,6 @@ impl Bits {
     }
 
     /// A list of bits that stand in a slice.
-    ///
-    /// # Errors
-    ///
-    /// Only when out of memory.
     pub fn from_slice(alloc: Global, bits: &[bool]) -> Result<Bits, AllocError>
         ensures { IfOk result (λ list. list ≡ bits.now) }
     {
@@ -58,10 +54,6 @@ impl Bits {
     }
 
     /// The empty list with room for n bits.
-    ///
-    /// # Errors
-    ///
-    /// Only when out of memory.
     pub fn with_capacity(alloc: Global, bits: usize) -> Result<Bits, AllocError>
         ensures { IfOk result (λ list. list ≡ []) }
     {

@@ -1,4 +1,4 @@
-//! Lists of bits, packed, and marks of numbers.
+//! Lists of bits, packed, and marks of numbers. An error comes only when out of memory.
 #![tactic(auto)]
 
 mod bits;

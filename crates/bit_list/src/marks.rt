@@ -87,10 +87,6 @@ impl Marks {
     }
 
     /// Marks a number. When out of memory, nothing changes.
-    ///
-    /// # Errors
-    ///
-    /// Only when out of memory.
     pub fn mark(&mut self, alloc: Global, number: usize) -> Result<(), AllocError>
         requires { number < length self.old }
         ensures marked { OnOk result (self.new ≡ slice_set self.old number true) }
@@ -101,10 +97,6 @@ impl Marks {
     }
 
     /// Marks a number where a test says so. When out of memory, nothing changes.
-    ///
-    /// # Errors
-    ///
-    /// Only when out of memory.
     pub fn mark_where(
         &mut self,
         alloc: Global,

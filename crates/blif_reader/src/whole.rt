@@ -1,5 +1,3 @@
-//! Whole files.
-
 ghost use Rattle.std.specs.Prelude.{◌≡◌, ◌+◌, ◌<◌, ◌≤◌, ◌^◌, length, IfOk, IfErr, OnOk};
 ghost use Rattle.circuits.specs.Expansion.{gates_in};
 ghost use Rattle.circuits.specs.Levels.{IsAcyclic, IsOrderOf};

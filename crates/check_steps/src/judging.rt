@@ -105,6 +105,7 @@ fn judge_by<S: Shelf, W: Watch>(
         (S.state shelf.old) (S.state shelf.new) result }
     ensures reading { (S.state shelf.new).mode ≡ Reading }
 {
+    // they bring in that both graphs are sound
     let _first = graphs.first();
     let _second = graphs.second();
     let mut check = AccountCheck::new(alloc, graphs)?;

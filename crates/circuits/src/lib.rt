@@ -1,5 +1,5 @@
-//! Circuits as plain data, and what the words of the field mean for them: vectors, netlists and their
-//! valuations, signed bijections, matches and NPNP equality.
+//! Circuits as plain data, and what the words of the field mean for them: vectors, netlists and their valuations,
+//! signed bijections, matches and NPNP equality. An error comes only when out of memory.
 #![tactic(auto)]
 
 mod definition;

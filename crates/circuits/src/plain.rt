@@ -42,10 +42,6 @@ pub fn gate_bit(values: &[bool], gate: Gate) -> bool
 }
 
 /// Each signal's bit under a vector of the inputs, the constant first.
-///
-/// # Errors
-///
-/// Only when out of memory.
 pub fn valuation(alloc: Global, net: &Netlist, vector: &[bool]) -> Result<Vec<bool>, AllocError>
     requires ordered { IsOrdered net.now }
     requires inputs { length vector.now ≡ net.now.inputs }
@@ -73,10 +69,6 @@ fn add_gates(values: &mut Vec<bool>, gates: &[Gate]) -> Result<(), AllocError>
 }
 
 /// Each output's bit under a vector of the inputs.
-///
-/// # Errors
-///
-/// Only when out of memory.
 pub fn outputs(alloc: Global, net: &Netlist, vector: &[bool]) -> Result<Vec<bool>, AllocError>
     requires ordered { IsOrdered net.now }
     requires inputs { length vector.now ≡ net.now.inputs }
@@ -139,10 +131,6 @@ fn places_are_distinct(entries: &[(u32, bool)]) -> bool
 }
 
 /// The vector moved by a signed bijection of its places.
-///
-/// # Errors
-///
-/// Only when out of memory.
 pub fn move_vector(
     alloc: Global,
     entries: &[(u32, bool)],
@@ -161,10 +149,6 @@ pub fn move_vector(
 /// Whether p of the inputs and q of the outputs are a match of two netlists: they are signed bijections, the
 /// netlists have the same numbers of inputs and outputs, and all outputs agree on every vector. It tries all
 /// vectors, so the inputs are at most 16.
-///
-/// # Errors
-///
-/// Only when out of memory.
 pub fn is_match(
     alloc: Global,
     first: &Netlist,
@@ -280,10 +264,6 @@ fn outputs_agree(q: &[(u32, bool)], first: &[bool], second: &[bool]) -> bool
 
 /// Whether some signed bijections of the ports are a match of two netlists. It tries all lists of entries, so
 /// there are at most 7 inputs and 7 outputs.
-///
-/// # Errors
-///
-/// Only when out of memory.
 pub fn are_npnp_equal(alloc: Global, first: &Netlist, second: &Netlist) -> Result<bool, AllocError>
     requires first_ordered { IsOrdered first.now }
     requires second_ordered { IsOrdered second.now }

@@ -1,5 +1,3 @@
-//! The query of a claim.
-
 ghost use Rattle.std.specs.Prelude.{◌≡◌, IfOk};
 ghost use Rattle.claim_core.specs.Claims.{IsClaim};
 ghost use Rattle.claim_core.specs.ClaimQueries.{claim_query, opposite_shape};
@@ -13,15 +11,12 @@ use std::alloc::{AllocError, Global};
 
 /// Whether the claim's output can be 1 where its shape's inputs have the shape's values, and 0 where they have the
 /// opposite ones. The claim holds exactly where no vector meets the query.
-///
-/// # Errors
-///
-/// Only when out of memory.
 pub fn of_claim(alloc: Global, graphs: &Graphs<'_>, claim: &Claim) -> Result<Query, AllocError>
     requires { IsClaim graphs.now claim.now }
     ensures query { IfOk result (λ query. query ≡ claim_query graphs.now claim.now) }
     ensures fits { IfOk result (IsQuery graphs.now) }
 {
+    // the feeds of a claim take no memory
     let _ = alloc;
     let inputs = graphs.side(claim.side).inputs();
     let left = Cone {

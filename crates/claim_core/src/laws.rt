@@ -21,7 +21,7 @@ ghost use Rattle.claim_core.specs.MatchQueries.{match_query, moved_feed, IsMoved
 ghost use Rattle.claim_core.specs.declared.query.Feed.{Feed as Entry};
 ghost use Rattle.circuits.specs.Bijections.{IsSignedBijection};
 
-/// What an assignment that meets a query's clauses has as its input variables is a vector that is asked for.
+/// The input variables of an assignment that meets a query's clauses are a vector that is asked for.
 pub fn assignment_is_a_vector()
     ensures { (graphs : TwoGraphs) (query : Question) (assignment : List Bool)
         → IsGraph graphs.first → IsGraph graphs.second → IsQuery graphs query

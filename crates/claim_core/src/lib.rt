@@ -1,4 +1,4 @@
-//! What is asked of circuits, as plain data.
+//! What is asked of circuits, as plain data. An error comes only when out of memory.
 #![tactic(auto)]
 
 mod claim_queries;

@@ -1,5 +1,3 @@
-//! The queries of a match.
-
 ghost use Rattle.std.specs.Prelude.{◌≡◌, ◌<◌, ◌^◌, All, IfOk, length};
 ghost use Rattle.circuits.specs.Bijections.{IsSignedBijection};
 ghost use Rattle.circuits.specs.Matches.{HavePorts};

@@ -1,5 +1,3 @@
-//! Clauses in one arena.
-
 ghost use Rattle.std.specs.Prelude.{ℕ, ◌≡◌, ◌↔◌, IsTrue, ◌+◌, ◌-◌, ◌<◌, ◌≤◌, ◌++◌, ◌∷◌, [], Some, None, IfOk, OnOk};
 ghost use Rattle.std.specs.Prelude.{OnErr, length, take, drop, vec_len, vec_capacity};
 ghost use Rattle.cnf_core.specs.Clauses.{clause_at};

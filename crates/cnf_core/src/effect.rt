@@ -9,7 +9,7 @@ use crate::literal::SatLit;
 pub enum Effect {
     /// All its literals are false.
     Conflict,
-    /// Its literals that aren't false are all this one, which isn't true yet: it is to be made true.
+    /// It is unit: its literals that aren't false are all this one, which isn't true yet and is to be made true.
     Makes(SatLit),
     /// It has another literal that isn't false, or a true one.
     Neither,

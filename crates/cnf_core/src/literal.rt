@@ -1,5 +1,3 @@
-//! Literals of clauses.
-
 ghost use Rattle.std.specs.Prelude.{◌≡◌, ◌<◌, ◌*◌, ◌+◌, ◌^◌};
 ghost use Rattle.cnf_core.specs.Clauses.{literal_of, opposite, variable_of, is_negated};
 

@@ -1,5 +1,3 @@
-//! The pair that a number gives.
-
 ghost use Rattle.std.specs.Prelude.{◌≡◌, IfOk};
 ghost use Rattle.circuits.specs.Bijections.{IsSignedBijection};
 ghost use Rattle.circuits.specs.Matches.{IsMatchOfFunctions};

@@ -1,5 +1,3 @@
-//! Cones of outputs.
-
 ghost use Rattle.std.specs.Prelude.{◌≡◌, ◌+◌, ◌<◌, ◌↔◌, ℕ, [], false, All, AllPairs, Contains, IfOk, OnOk, length};
 ghost use Rattle.std.specs.Prelude.{replicate};
 ghost use Rattle.net_core.specs.Graph.{AreInOrder};
@@ -26,6 +24,7 @@ impl Graph {
     {
         let first_gate = 1 + self.inputs();
         let signal = self.outputs()[output as usize].signal();
+        // it brings in that the signals can be counted
         let _signals = self.signals();
         let mut gates = reached(alloc, self.gates(), first_gate, signal)?;
         gates.sort_unstable();

@@ -42,6 +42,7 @@ impl<'a> Graphs<'a> {
         ensures value { result.now ≡ self.now.first }
         ensures sound { IsGraph self.now.first }
     {
+        // it brings in that a graph is sound
         let _sound = self.first.inputs();
         self.first
     }
@@ -51,6 +52,7 @@ impl<'a> Graphs<'a> {
         ensures value { result.now ≡ self.now.second }
         ensures sound { IsGraph self.now.second }
     {
+        // it brings in that a graph is sound
         let _sound = self.second.inputs();
         self.second
     }

@@ -1,5 +1,3 @@
-//! Matchings of two circuits' ports.
-
 ghost use Rattle.std.specs.Prelude.{◌↔◌, IsTrue};
 ghost use Rattle.circuits.specs.Bijections.{IsSignedBijection};
 

@@ -1,5 +1,3 @@
-//! Netlists with the names of their ports.
-
 ghost use Rattle.std.specs.Prelude.{◌≡◌, length};
 
 use items::Items;

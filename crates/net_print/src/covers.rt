@@ -36,6 +36,7 @@ impl<'a, T: Covered> Covers<'a, T> {
     pub(crate) fn new(inputs: u32, covered: &'a [T]) -> Covers<'a, T>
         ensures { ⟦<Covers<'a, T> as Parts>⟧.left result ≡ words_text (covers_from T.lines inputs 0 covered.now) }
     {
+        // it brings in that they can be counted
         let _few = covered.len();
         Covers {
             inputs,

@@ -1,5 +1,3 @@
-//! The report of a circuit's functions.
-
 ghost use Rattle.std.specs.Prelude.{◌≡◌, ◌<◌, ◌≤◌, [], ◌∷◌, ◌++◌, length, All, OnOk, OnErr};
 ghost use Rattle.port_report.specs.Infos.{IsInRange, count_line, info_text, input_line, input_lines, output_line};
 ghost use Rattle.port_report.specs.Infos.{output_text, output_texts, pair_line, pair_lines, sym_word, unate_word};

@@ -121,6 +121,7 @@ impl<'a> ConeClauses<'a> {
         ensures variables { All (λ literal. variable_of literal < (formula_of self.now.graphs self.now.query).variables)
             (literals_of result) }
     {
+        // they bring in that both graphs are sound
         let _first = self.graphs.first();
         let _second = self.graphs.second();
         clause_over(self.graphs, &self.query, &self.left, &self.right, id)

@@ -111,6 +111,7 @@ fn left_from(graphs: &Graphs<'_>, query: &Query) -> u64
     ensures few { result + left_gates graphs.now query.now < 2 ^ 31 }
 {
     let left = graphs.side(query.left.side);
+    // it brings in that the signals can be counted
     let _signals = left.signals();
     u64::from(left.inputs()) + 1
 }
@@ -122,6 +123,7 @@ fn right_from(graphs: &Graphs<'_>, query: &Query) -> u64
 {
     let left = graphs.side(query.left.side);
     let right = graphs.side(query.right.side);
+    // it brings in that the signals can be counted
     let _right_signals = right.signals();
     left.signals() as u64
 }

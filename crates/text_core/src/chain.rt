@@ -1,5 +1,3 @@
-//! Texts that are put together from others.
-
 ghost use Rattle.std.specs.Prelude.{◌≡◌, ◌+◌, [], ◌++◌, length};
 
 use crate::parts::Parts;

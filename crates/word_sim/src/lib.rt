@@ -1,4 +1,5 @@
-//! A netlist evaluated on many vectors at once, 64 in a word, and on vectors with unknown bits.
+//! A netlist evaluated on many vectors at once, 64 in a word, and on vectors with unknown bits. An error comes only
+//! when out of memory.
 #![tactic(auto)]
 
 mod blocks;

@@ -1,5 +1,3 @@
-//! Hashes of words.
-
 /// A hash of two words: SplitMix64's finalizer of what one of them times an odd number and the other make.
 pub fn mix(one: u64, other: u64) -> u64 {
     let sum = one.wrapping_mul(0x9e37_79b9_7f4a_7c15) ^ other.wrapping_add(0x7f4a_7c15_9e37_79b9);

@@ -81,10 +81,6 @@ fn or_lanes(a: u64x8, b: u64x8) -> u64x8
 
 /// Each output's rails where the inputs have these: on each vector on which the inputs' rails are those of values 0, 1
 /// and X, the outputs' are those of the three-valued evaluation.
-///
-/// # Errors
-///
-/// Only when out of memory.
 pub fn rails_eval(alloc: Global, graph: &Graph, inputs: &[Rails]) -> Result<Vec<Rails>, AllocError>
     requires { length inputs.now ≡ graph.now.inputs }
     ensures outputs { IfOk result (λ outputs. length outputs.items ≡ length graph.now.outputs) }

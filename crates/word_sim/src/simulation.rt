@@ -14,10 +14,6 @@ use std::simd::prelude::*;
 
 /// The circuit on each of the vectors: as many words as the inputs have, and a column for each output. Eight words are
 /// evaluated at once, and those that are left one by one.
-///
-/// # Errors
-///
-/// Only when out of memory.
 pub fn simulate(alloc: Global, graph: &Graph, inputs: &Words) -> Result<Words, AllocError>
     requires { length inputs.now.columns ≡ graph.now.inputs }
     ensures words { IfOk result (λ outputs. outputs.words ≡ inputs.now.words) }

@@ -10,10 +10,6 @@ use std::alloc::{AllocError, Global};
 
 /// Each output's value where the inputs have these values. A value 0 or 1 is the output's bit under every
 /// vector that fills the inputs' X in.
-///
-/// # Errors
-///
-/// Only when out of memory.
 pub fn tri_eval(alloc: Global, graph: &Graph, inputs: &[Tri]) -> Result<Vec<Tri>, AllocError>
     requires { length inputs.now ≡ graph.now.inputs }
     ensures { IfOk result (λ outputs. outputs.items ≡ tri_outputs graph.now inputs.now) }
@@ -22,10 +18,6 @@ pub fn tri_eval(alloc: Global, graph: &Graph, inputs: &[Tri]) -> Result<Vec<Tri>
 }
 
 /// One output's value where the inputs have these values.
-///
-/// # Errors
-///
-/// Only when out of memory.
 pub fn tri_output(
     alloc: Global,
     graph: &Graph,

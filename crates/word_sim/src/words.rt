@@ -26,10 +26,6 @@ impl Model for Words {
 
 impl Words {
     /// Columns of as many words each, all 0.
-    ///
-    /// # Errors
-    ///
-    /// Only when out of memory.
     pub fn new(alloc: Global, columns: u32, words: usize) -> Result<Words, AllocError>
         ensures zeros { IfOk result (λ table. table
             ≡ record { words = words; columns = replicate columns (replicate words 0) }) }
@@ -108,10 +104,6 @@ impl Words {
     }
 
     /// The vector at a bit of a word: a bit of each column.
-    ///
-    /// # Errors
-    ///
-    /// Only when out of memory.
     pub fn vector(&self, alloc: Global, word: usize, lane: u32) -> Result<Items<bool>, AllocError>
         requires word { word < self.now.words }
         requires lane { lane < 64 }

@@ -8,5 +8,5 @@ abbrev pub invariant-loop-other : goal.invariant-loop-other
 invariant-loop-other l =
     (l.references ≡ l.fn.references)
     × ((more : List Pair)
-    → (AllZip (IsReference l.fn.references.given l.fn.references.held) (row l.kind l.port l.to ++ more) l.refs
-    ↔ AllZip (IsReference l.fn.references.given l.fn.references.held) (row l.kind l.port (drop l.other-index l.to) ++ more) l.left))
+    → (AllZip (IsReference l.fn.references.given l.fn.references.pairs) (row l.kind l.port l.to ++ more) l.refs
+    ↔ AllZip (IsReference l.fn.references.given l.fn.references.pairs) (row l.kind l.port (drop l.other-index l.to) ++ more) l.left))

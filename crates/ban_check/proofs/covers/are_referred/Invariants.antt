@@ -6,5 +6,5 @@ use Rattle.ban_check.proofs.covers.are_referred.Given as goal
 abbrev pub invariant-loop-port : goal.invariant-loop-port
 invariant-loop-port l =
     (l.references ≡ l.fn.references)
-    × (AllZip (IsReference l.fn.references.given l.fn.references.held) (ways l.kind l.from l.to) l.refs
-    ↔ AllZip (IsReference l.fn.references.given l.fn.references.held) (ways l.kind (drop l.port-index l.from) l.to) l.left)
+    × (AllZip (IsReference l.fn.references.given l.fn.references.pairs) (ways l.kind l.from l.to) l.refs
+    ↔ AllZip (IsReference l.fn.references.given l.fn.references.pairs) (ways l.kind (drop l.port-index l.from) l.to) l.left)

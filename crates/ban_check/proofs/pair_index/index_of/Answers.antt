@@ -1,7 +1,7 @@
 use Rattle.std.proofs.Common.{ℕ, subst, arith}
-use Rattle.ban_check.specs.Held.{IsIndexOfFirst}
-use Rattle.ban_check.proofs.HeldLemmas.{index_none}
-use Rattle.ban_check.proofs.held.index_of.Goals as goal
+use Rattle.ban_check.specs.PairIndices.{IsIndexOfFirst}
+use Rattle.ban_check.proofs.PairIndexLemmas.{index_none}
+use Rattle.ban_check.proofs.pair_index.index_of.Goals as goal
 
 pub loop-place-init : goal.loop-place-init
 loop-place-init c = index_none c.args.pairs.now c.new-by_port.result.entries c.new-by_port.ensures.empty

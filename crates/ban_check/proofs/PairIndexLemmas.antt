@@ -14,9 +14,9 @@ use Rattle.claim_core.proofs.EqualLemmas.{side_decides}
 use Rattle.account_core.specs.Covers.{IsImpossible}
 use Rattle.account_core.specs.Ports.{AreOrdered, Clash, StandInOrder}
 use Rattle.account_core.specs.Tallies.{port_on}
-use Rattle.ban_check.specs.Held.{IsAnothers, IsIndexOf, IsIndexOfFirst, found_at, port_of}
-use Rattle.ban_check.specs.declared.held.Port.{Port}
-use Rattle.ban_check.specs.contracts.held.PortPartialEq.TheImpl.{eq-value as port_eq}
+use Rattle.ban_check.specs.PairIndices.{IsAnothers, IsIndexOf, IsIndexOfFirst, found_at, port_of}
+use Rattle.ban_check.specs.declared.pair_index.Port.{Port}
+use Rattle.ban_check.specs.contracts.pair_index.PortPartialEq.TheImpl.{eq-value as port_eq}
 use Rattle.ban_check.proofs.BoolLemmas.{same_test}
 
 kind_decides : (x y : PortKind) → Decides (kind_eq.it x y) (x ≡ y)

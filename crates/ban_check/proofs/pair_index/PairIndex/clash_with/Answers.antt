@@ -1,8 +1,8 @@
 use Rattle.std.proofs.Common.{◌↔◌, subst}
 use Rattle.std.specs.Bool.{IsTrue}
 use Rattle.account_core.specs.Covers.{IsImpossible}
-use Rattle.ban_check.proofs.HeldLemmas.{clash_told}
-use Rattle.ban_check.proofs.held.Held.clash_with.Goals as goal
+use Rattle.ban_check.proofs.PairIndexLemmas.{clash_told}
+use Rattle.ban_check.proofs.pair_index.PairIndex.clash_with.Goals as goal
 
 pub returns : goal.returns
 returns c =

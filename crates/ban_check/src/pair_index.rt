@@ -4,9 +4,9 @@ ghost use Rattle.std.specs.Prelude.{◌≡◌, ◌↔◌, ◌⊎◌, ◌+◌, �
 ghost use Rattle.std.specs.Prelude.{length};
 ghost use Rattle.account_core.specs.Covers.{IsImpossible};
 ghost use Rattle.account_core.specs.Ports.{AreOrdered};
-ghost use Rattle.ban_check.specs.Held.{found_at, port_of, IsAnothers, IsIndexOf, IsIndexOfFirst};
-ghost use Rattle.ban_check.specs.declared.held.Port.{Port as AnyPort};
-ghost use Rattle.ban_check.specs.contracts.held.PortPartialEq.TheImpl.{eq-value as port_eq};
+ghost use Rattle.ban_check.specs.PairIndices.{found_at, port_of, IsAnothers, IsIndexOf, IsIndexOfFirst};
+ghost use Rattle.ban_check.specs.declared.pair_index.Port.{Port as AnyPort};
+ghost use Rattle.ban_check.specs.contracts.pair_index.PortPartialEq.TheImpl.{eq-value as port_eq};
 
 use crate::ordered::OrderedPairs;
 use account_core::port_on;
@@ -27,15 +27,15 @@ pub(crate) struct Port {
 /// Pairs in order, of which that of a port is found in one step, however many there are. Contracts see the list of the
 /// pairs.
 #[derive(Drop)]
-pub(crate) struct Held<'a> {
+pub(crate) struct PairIndex<'a> {
     pairs: &'a [Pair],
     by_port: IndexMap<Port, Pair>,
 }
 
-impl<'a> Model for Held<'a> {
+impl<'a> Model for PairIndex<'a> {
     ghost use Rattle.std.specs.Prelude.{List};
     ghost use Rattle.circuits.specs.declared.port.Pair.{Pair as AnyPair};
-    ghost use Rattle.ban_check.specs.Held.{IsIndexOf};
+    ghost use Rattle.ban_check.specs.PairIndices.{IsIndexOf};
 
     ghost Value = { List AnyPair };
 
@@ -44,19 +44,19 @@ impl<'a> Model for Held<'a> {
     ghost invariant = { λ a. IsIndexOf a.pairs.now a.by_port.entries };
 }
 
-impl<'a> Held<'a> {
+impl<'a> PairIndex<'a> {
     /// These pairs, with their index.
-    pub(crate) fn new(alloc: Global, pairs: &OrderedPairs<'a>) -> Result<Held<'a>, AllocError>
-        ensures { IfOk result (λ held. held ≡ pairs.now) }
+    pub(crate) fn new(alloc: Global, pairs: &OrderedPairs<'a>) -> Result<PairIndex<'a>, AllocError>
+        ensures { IfOk result (λ index. index ≡ pairs.now) }
     {
         let pairs = pairs.as_slice();
         let by_port = index_of(alloc, pairs)?;
-        Ok(Held { pairs, by_port })
+        Ok(PairIndex { pairs, by_port })
     }
 
     /// Whether a pair is one of them.
     pub(crate) fn has(&self, pair: Pair) -> bool
-        ensures { IsTrue result ↔ Any (λ held. held ≡ pair) self.now }
+        ensures { IsTrue result ↔ Any (λ one. one ≡ pair) self.now }
     {
         has_pair(&self.by_port, pair)
     }
@@ -129,7 +129,7 @@ fn has_pair(by_port: &IndexMap<Port, Pair>, pair: Pair) -> bool
     ensures { IsTrue result ↔ (found_at by_port.now.entries (port_of Side.First pair) ≡ There pair) }
 {
     match found_at(by_port, port_of(Side::First, pair)) {
-        Some(held) => held == pair,
+        Some(other) => other == pair,
         None => false,
     }
 }
@@ -147,7 +147,7 @@ fn is_anothers(by_port: &IndexMap<Port, Pair>, side: Side, pair: Pair) -> bool
     ensures { IsTrue result ↔ IsAnothers by_port.now.entries side pair }
 {
     match found_at(by_port, port_of(side, pair)) {
-        Some(held) => held != pair,
+        Some(other) => other != pair,
         None => false,
     }
 }

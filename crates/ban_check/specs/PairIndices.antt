@@ -5,8 +5,8 @@ use Rattle.circuits.specs.declared.port.Pair.{Pair}
 use Rattle.net_core.specs.declared.graphs.Side.{Side}
 use Rattle.account_core.specs.Given.{Given, ban_at}
 use Rattle.account_core.specs.Tallies.{port_on}
-use Rattle.ban_check.specs.declared.held.Port.{Port}
-use Rattle.ban_check.specs.contracts.held.PortPartialEq.TheImpl.{eq-value as port_eq}
+use Rattle.ban_check.specs.declared.pair_index.Port.{Port}
+use Rattle.ban_check.specs.contracts.pair_index.PortPartialEq.TheImpl.{eq-value as port_eq}
 use Rattle.ban_check.specs.declared.missing.Missing.{Missing}
 use Rattle.ban_check.specs.declared.missing.Missing.TheVariants as missing
 
@@ -30,7 +30,7 @@ IsIndexOf pairs entries = IsIndexOfFirst pairs (length pairs) entries
 
 -- a pair's port of a circuit is another pair's
 abbrev pub IsAnothers : List (Port × Pair) → Side → Pair → Type 0
-IsAnothers entries side pair = (held : Pair) × (found_at entries (port_of side pair) ≡ Some held) × (held ≢ pair)
+IsAnothers entries side pair = (other : Pair) × (found_at entries (port_of side pair) ≡ Some other) × (other ≢ pair)
 
 -- a pair is all that is missing: nothing is, or it alone
 abbrev pub IsAllMissing : Missing → Pair → Type 0
@@ -41,12 +41,12 @@ IsAllMissing missing.Several pair = ⊥
 -- Which pairs of an earlier ban are missing among these: all of that ban's are there with one more exactly where that one is all
 -- that is missing.
 abbrev pub AreMissing : List Pair → List Pair → Missing → Type 0
-AreMissing held ban missing = (pair : Pair) → (IsAllMissing missing pair ↔ All (Contains (pair ∷ held)) ban)
+AreMissing pairs ban missing = (pair : Pair) → (IsAllMissing missing pair ↔ All (Contains (pair ∷ pairs)) ban)
 
 -- What was given, and the pairs of a ban whose cover is checked.
 pub record Beside : Type 0 where
   pub given : Given
-  pub held : List Pair
+  pub pairs : List Pair
 
 -- what was found missing of a ban, if it was looked for
 abbrev pub kept_of : List (ℕ × Missing) → ℕ → Option Missing
@@ -55,4 +55,4 @@ kept_of entries ban = lookup (λ other. ban == other) entries
 -- what was found missing of bans is what is missing of them
 abbrev pub AreKept : Beside → List (ℕ × Missing) → Type 0
 AreKept beside entries = (ban : ℕ) (missing : Missing) → kept_of entries ban ≡ Some missing
-    → AreMissing beside.held (ban_at beside.given ban) missing
+    → AreMissing beside.pairs (ban_at beside.given ban) missing

@@ -1,6 +1,6 @@
 use Rattle.std.proofs.lemmas.List.{get_or_default}
-use Rattle.ban_check.proofs.HeldLemmas.{index_put}
-use Rattle.ban_check.proofs.held.add_pair.Goals as goal
+use Rattle.ban_check.proofs.PairIndexLemmas.{index_put}
+use Rattle.ban_check.proofs.pair_index.add_pair.Goals as goal
 
 pub returns : goal.returns
 returns c =
