@@ -83,8 +83,9 @@ pub struct Ending {
 }
 
 impl Outcome {
-    /// The exit status of the program: 0 a match, a report or netlists, 1 no match, 2 an account rejected, 3 a spent budget,
-    /// 4 words of no known form, 5 a file that isn't there or isn't a netlist, 6 a fault of the outside, 7 no memory.
+    /// The exit status of the program: 0 a match, a report or netlists, 1 no match, 2 an account rejected, 3 a spent
+    /// budget, 4 words of no known form, 5 a file that isn't there or isn't a netlist, 6 a fault of the outside, 7 no
+    /// memory.
     pub fn status(&self) -> u8
         ensures { result ≡ status_of self.now }
     {

@@ -49,9 +49,9 @@ const OUT_OF_MEMORY: &[u8] = b"out of memory\n";
 /// - `check FIRST SECOND ACCOUNT`: FIRST and SECOND are netlists, and ACCOUNT is a text that claims a matching and
 ///   proves, by refutations, that it is a match of the two, or that proves by bans that no matching is one. A match
 ///   that it proves is printed as a port table.
-/// - `restore FIRST SECOND ACCOUNT NEW`: where ACCOUNT proves a match of the netlists FIRST and SECOND, as a check by these
-///   names would say, NEW is written, in the binary form of AIGER: SECOND's gates behind FIRST's ports, with their names and
-///   in their order. The name NEW is none of the others.
+/// - `restore FIRST SECOND ACCOUNT NEW`: where ACCOUNT proves a match of the netlists FIRST and SECOND, as a check by
+///   these names would say, NEW is written, in the binary form of AIGER: SECOND's gates behind FIRST's ports, with
+///   their names and in their order. The name NEW is none of the others.
 /// - `info FILE [BUDGET]`: FILE is a netlist. Its supports, unateness and symmetries are decided; at most BUDGET
 ///   clauses are learned for that, by default 1,000,000,000.
 /// - `make NUMBER FIRST SECOND`: the pair of netlists that NUMBER gives is made, and written to the files FIRST, in the
@@ -146,9 +146,10 @@ pub fn run<S: Shelf, K: Sink>(
     ensures made { IsTold result → ((result ≡ Outcome.Made) ↔ AskForPair (bytes_of words.now)) }
     ensures pair { IsTrue S.tells → result ≡ Outcome.Made → HoldsPair (S.state shelf.new).held (bytes_of words.now) }
 
-    // A netlist is restored exactly where the words ask for it and a check by the first three names accepts the account,
-    // which proves a match, unless a fault came or memory ran out. The new file has it then: it has the first netlist's
-    // ports, in their order and by their names, and computes what that does, with no more gates than the second's graph.
+    // A netlist is restored exactly where the words ask for it and a check by the first three names accepts the
+    // account, which proves a match, unless a fault came or memory ran out. The new file has it then: it has the first
+    // netlist's ports, in their order and by their names, and computes what that does, with no more gates than the
+    // second's graph.
     ensures restored { IsTrue S.tells → IsDecided result → (gates : ℕ)
         → ((result ≡ Outcome.Restored gates)
         ↔ IsRestorable (S.state shelf.old).held (bytes_of words.now) gates) }
@@ -183,10 +184,10 @@ pub fn run<S: Shelf, K: Sink>(
     ensures no_call_follows { NoCallFollows (S.state shelf.old) (S.state shelf.new) }
     ensures no_put_follows { NoPutFollows (K.state out.old) (K.state out.new) }
 
-    // No file changes but the account of a match, and that one only where there is an answer, the two files of a pair, and
-    // that of a netlist which is restored. A failed write or running out of memory may leave a first part of an account that
-    // is accepted, of a netlist that is restored, or of the pair's first netlist, and only where that is whole a part of the
-    // second.
+    // No file changes but the account of a match, and that one only where there is an answer, the two files of a pair,
+    // and that of a netlist which is restored. A failed write or running out of memory may leave a first part of an
+    // account that is accepted, of a netlist that is restored, or of the pair's first netlist, and only where that is
+    // whole a part of the second.
     ensures files { IsTrue S.tells → (name : List ℕ)
         → (NamesAccount (bytes_of words.now) name → ⊥)
         → (NamesPair (bytes_of words.now) name → ⊥)

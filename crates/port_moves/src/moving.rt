@@ -9,8 +9,8 @@ ghost use Rattle.port_moves.specs.Moved.{signed, moved_literal, moved_gate, AreM
 use net_core::{Gate, Graph, Lit, Matching};
 use std::alloc::{AllocError, Global};
 
-/// The graph whose ports are those of `graph`, moved as the matching says, which is a match of the two. The operands of each
-/// gate are exchanged.
+/// The graph whose ports are those of `graph`, moved as the matching says, which is a match of the two. The operands
+/// of each gate are exchanged.
 ///
 /// # Errors
 ///

@@ -19,9 +19,9 @@ use shelf_core::Shelf;
 use std::alloc::{AllocError, Global};
 use watch_core::Watch;
 
-/// Has the account that the words name judged as a check does, and where it proves a match of the two netlists, writes the second
-/// one behind the first one's ports, in the binary form of AIGER. Any other verdict is the answer, and nothing is written. The
-/// error is an outcome whose report is one line: a file is no netlist, or there was a fault.
+/// Has the account that the words name judged as a check does, and where it proves a match of the two netlists, writes
+/// the second one behind the first one's ports, in the binary form of AIGER. Any other verdict is the answer, and
+/// nothing is written. The error is an outcome whose report is one line: a file is no netlist, or there was a fault.
 pub fn restore_files<S: Shelf, W: Watch>(
     alloc: Global,
     asked: &Restore<'_>,
@@ -63,8 +63,8 @@ fn reported(alloc: Global, verdict: Outcome) -> Result<Ending, Outcome>
     })
 }
 
-/// Writes the second of two netlists behind the first one's ports, by a match of them. The error is that memory ran out, or
-/// that the file wasn't written.
+/// Writes the second of two netlists behind the first one's ports, by a match of them. The error is that memory ran
+/// out, or that the file wasn't written.
 fn restore_by<S: Shelf>(
     alloc: Global,
     name: &str,
