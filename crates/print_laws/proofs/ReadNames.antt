@@ -1,5 +1,5 @@
 -- A symbol's line can hold each name that a file gives a port, but for a carriage return at its end.
-use Rattle.std.proofs.Common.{◌≡◌, ◌≢◌, ◌⊎◌, ℕ, zero, suc, ◌+◌, ◌-◌, ◌<◌, ◌≤◌, ◌^◌, ◌==◌, Bool, true, false, cond, List, [], ◌∷◌, ◌++◌, length, get_or, set, take, drop, map, filter, All, inl, inr, if◌then◌else◌, refl, sym, ap, subst, ◌∙◌, arith}
+use Rattle.std.proofs.Common.{◌≡◌, ◌≢◌, ◌⊎◌, ℕ, zero, suc, ◌+◌, ◌-◌, ◌<◌, ◌≤◌, ◌^◌, ◌==◌, Bool, true, false, cond, List, [], ◌∷◌, ◌++◌, length, get_or, set, take, drop, map, All, inl, inr, if◌then◌else◌, refl, sym, ap, subst, ◌∙◌, arith}
 use Rattle.std.specs.Fmt.{decimal}
 use Rattle.std.specs.List.{before_first, onto_first, position_or_len, slice_split}
 use Rattle.std.proofs.lemmas.Bool.{eq-eqb, false≢true}
@@ -21,10 +21,10 @@ use Rattle.aiger_reader.proofs.OneSymbols.{port_or_not}
 use Rattle.blif_reader.specs.Blif.{IsBlif, blif_lines}
 use Rattle.blif_reader.specs.Directives.{directive_of}
 use Rattle.blif_reader.specs.JoinedLines.{content, ends_with_backslash, goes_on, has_words, is_comment_sign, joined, line_words, lines_at, onto_next, placed, without_backslash}
-use Rattle.blif_reader.specs.Names.{input_words, is_same_kind, output_words, port_words, ports_on, words_of_kind}
+use Rattle.blif_reader.specs.Names.{input_words, named_ports, output_words, port_words, ports_on, words_of_kind}
+use Rattle.blif_reader.proofs.NumberLemmas.{words_of_kind-append}
 use Rattle.blif_reader.specs.declared.directive.Directive.{Directive}
 use Rattle.blif_reader.specs.declared.directive.Directive.TheVariants.{Inputs, Outputs}
-use Rattle.blif_reader.specs.declared.survey.Port.{Port as BlifPort}
 use Rattle.print_laws.specs.Printable.{IsSymbolName, symbol_name}
 use Rattle.print_laws.proofs.NumberLines.{IsLine-decimal}
 use Rattle.print_laws.proofs.SymbolLines.{letter_on_line}
@@ -152,9 +152,6 @@ aiger_names bytes circuit i o is =
 abbrev IsGoodWord : Piece → Type 0
 IsGoodWord word = IsNameOnLine word.bytes
 
-abbrev IsGoodPort : BlifPort → Type 0
-IsGoodPort port = IsNameOnLine port.word.bytes
-
 abbrev IsLinePiece : Piece → Type 0
 IsLinePiece line = IsLine line.bytes
 
@@ -211,28 +208,33 @@ blif_words_good bytes =
     let text : Piece = record { bytes = bytes; at = 0 } in
     All-filter has_words (All IsGoodWord) (joined (lines_at text)) (joined_good (lines_at text) (placed_all IsLine 0 (lines bytes) (lines-each bytes)))
 
-on_good : (directive : Directive) (line : List Piece) → All IsGoodWord line → All IsGoodPort (ports_on directive line)
-on_good Inputs line good = All-map IsGoodPort (λ word. record { kind = Input; word = word }) (drop 1 line) (All-drop IsGoodWord 1 line good)
-on_good Outputs line good = All-map IsGoodPort (λ word. record { kind = Output; word = word }) (drop 1 line) (All-drop IsGoodWord 1 line good)
-on_good other line good = All-nil IsGoodPort
+kind_good : (kind given : PortKind) (words : List Piece) → All IsGoodWord words → All IsGoodWord (words_of_kind kind (named_ports given words))
+kind_good kind given [] good = All-nil IsGoodWord
+kind_good Input Input (word ∷ words) good =
+    All-cons IsGoodWord word (words_of_kind Input (named_ports Input words)) (All-head IsGoodWord word words good) (kind_good Input Input words (All-tail IsGoodWord word words good))
+kind_good Output Output (word ∷ words) good =
+    All-cons IsGoodWord word (words_of_kind Output (named_ports Output words)) (All-head IsGoodWord word words good) (kind_good Output Output words (All-tail IsGoodWord word words good))
+kind_good Input Output (word ∷ words) good = kind_good Input Output words (All-tail IsGoodWord word words good)
+kind_good Output Input (word ∷ words) good = kind_good Output Input words (All-tail IsGoodWord word words good)
 
-ports_good : (all : List (List Piece)) → All (All IsGoodWord) all → All IsGoodPort (port_words all)
-ports_good [] good = All-nil IsGoodPort
-ports_good (line ∷ all) good =
-    All-append IsGoodPort (ports_on (directive_of line) line) (port_words all) (on_good (directive_of line) line (All-head (All IsGoodWord) line all good)) (ports_good all (All-tail (All IsGoodWord) line all good))
+on_good : (kind : PortKind) (directive : Directive) (line : List Piece) → All IsGoodWord line → All IsGoodWord (words_of_kind kind (ports_on directive line))
+on_good kind Inputs line good = kind_good kind Input (drop 1 line) (All-drop IsGoodWord 1 line good)
+on_good kind Outputs line good = kind_good kind Output (drop 1 line) (All-drop IsGoodWord 1 line good)
+on_good kind other line good = All-nil IsGoodWord
 
-kind_good : (kind : PortKind) (ports : List BlifPort) → All IsGoodPort ports → All IsGoodWord (words_of_kind kind ports)
-kind_good kind ports good =
-    let of_kind : BlifPort → Bool = λ port. is_same_kind port.kind kind in
-    All-map IsGoodWord (λ port. port.word) (filter of_kind ports) (All-filter of_kind IsGoodPort ports good)
+ports_good : (kind : PortKind) (all : List (List Piece)) → All (All IsGoodWord) all → All IsGoodWord (words_of_kind kind (port_words all))
+ports_good kind [] good = All-nil IsGoodWord
+ports_good kind (line ∷ all) good =
+    subst (All IsGoodWord) (sym (words_of_kind-append kind (ports_on (directive_of line) line) (port_words all)))
+    (All-append IsGoodWord (words_of_kind kind (ports_on (directive_of line) line)) (words_of_kind kind (port_words all)) (on_good kind (directive_of line) line (All-head (All IsGoodWord) line all good))
+    (ports_good kind all (All-tail (All IsGoodWord) line all good)))
 
 bytes_good : (words : List Piece) (names : List (List ℕ)) → names ≡ map (λ word. word.bytes) words → All IsGoodWord words → All IsNameOnLine names
 bytes_good words names are good = subst (All IsNameOnLine) (sym are) (All-map IsNameOnLine (λ word. word.bytes) words good)
 
 pub blif_names : (bytes : List ℕ) (circuit : Circuit) (i o : List (List ℕ)) → IsBlif bytes circuit i o → All IsNameOnLine i × All IsNameOnLine o
 blif_names bytes circuit i o is =
-    let ports = port_words (blif_lines bytes) in
-    let good = ports_good (blif_lines bytes) (blif_words_good bytes) in (
-      bytes_good (input_words (blif_lines bytes)) i is.input_names_are (kind_good Input ports good),
-      bytes_good (output_words (blif_lines bytes)) o is.output_names_are (kind_good Output ports good),
+    let good = blif_words_good bytes in (
+      bytes_good (input_words (blif_lines bytes)) i is.input_names_are (ports_good Input (blif_lines bytes) good),
+      bytes_good (output_words (blif_lines bytes)) o is.output_names_are (ports_good Output (blif_lines bytes) good),
     )
