@@ -119,9 +119,9 @@ fn put_matched(words: &[String], text: &mut String) -> Result<(), ReadStop> {
     let Some(Command::Match(asked)) = command_asked(words) else {
         return Ok(());
     };
-    let first = Shown::name(asked.first);
-    let second = Shown::name(asked.second);
-    let account = Shown::name(asked.account);
+    let first = TerminalText::name(asked.first);
+    let second = TerminalText::name(asked.second);
+    let account = TerminalText::name(asked.account);
     writeln!(
         text,
         "npnp: `npnp restore {first} {second} {account} NEW` gives the names back: NEW is {second} behind the ports of {first}"
