@@ -14,7 +14,8 @@ ghost use Rattle.check_steps.specs.Check.{IsAccepted, IsRejected, IsMatchOfFiles
 ghost use Rattle.run_steps.specs.Make.{HoldsPair, NamesPair, WriteFiles};
 ghost use Rattle.run_steps.specs.Match.{HasNoMatch, IsAskedToMatch, IsMatchFound, IsProved, IsSpentOnTwo, NamesAccount};
 ghost use Rattle.check_steps.specs.Ends.{EndsEarly, IsAbsent};
-ghost use Rattle.run_steps.specs.Outcomes.{FollowsWords, IsAskedOf, IsDecided, IsOfMatch, IsOfTrial, IsRight, IsSettled, IsSoundAnswer, IsSpentOn, IsTold, Leaves, LeavesFiles, MayBeCut};
+ghost use Rattle.run_steps.specs.Outcomes.{FollowsWords, IsAskedOf, IsDecided, IsOfMatch, IsOfTrial, IsRight, IsSettled};
+ghost use Rattle.run_steps.specs.Outcomes.{IsSoundAnswer, IsSpentOn, IsTold, Leaves, LeavesFiles, MayBeCut};
 ghost use Rattle.run_steps.specs.Restore.{AsChecked, HoldsRestored, IsRestorable, NamesRestored};
 ghost use Rattle.run_steps.specs.Report.{IsReport};
 ghost use Rattle.check_steps.specs.Lines.{line_of};
@@ -96,8 +97,8 @@ pub fn run<S: Shelf, K: Sink>(
         → IsAskedToMatch (S.state shelf.old).held (bytes_of words.now) → IsOfMatch result }
 
     // Where no call failed and memory did not run out, the words and the files decide the outcome: an account that is
-    // accepted, or its first bad line; a netlist that isn't there, is too large, or is malformed, and where. Of the words
-    // of `restore` their first three files say what a check of them says, but for an accepted match.
+    // accepted, or its first bad line; a netlist that isn't there, is too large, or is malformed, and where. Words of
+    // `restore` say of their first three files what a check of these says, but for an accepted match.
     ensures accepted { IsTrue S.tells → IsDecided result → (matching : Matching)
         → ((result ≡ Outcome.AcceptedMatch matching)
         ↔ IsAccepted (S.state shelf.old).held (bytes_of words.now) (Verdict.Match matching)) }
