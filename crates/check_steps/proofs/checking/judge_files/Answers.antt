@@ -8,7 +8,7 @@ use Rattle.check_steps.specs.Stops.{outcome_of}
 use Rattle.check_steps.specs.declared.outcome.Which.TheVariants.{Second}
 use Rattle.check_steps.proofs.CheckingLemmas.{at_first, at_second, judging_stopped, stop_end}
 use Rattle.check_steps.proofs.ReadLemmas.{stop_reading, stop_is}
-use Rattle.shelf_core.proofs.FaultLemmas.{none_failed, rose_after}
+use Rattle.shelf_core.proofs.FaultLemmas.{rose_after}
 use Rattle.check_steps.proofs.checking.judge_files.Goals as goal
 
 pub returns-in_err-first : goal.returns-in_err-first
@@ -58,6 +58,6 @@ returns g c =
       right = λ tells words asks. tt;
       early = tt;
       clean = clean;
-      last = none_failed _ _ clean;
+      last = omega (arith, c.in_ok-first.ensures.clean, c.in_ok-second.ensures.clean, judges.clean);
       failed = λ e. cc;
     }
