@@ -58,7 +58,7 @@ pub fn solve_dense<L: Charge, W: Watch>(
     search_dense(alloc, cones, &dense, lemmas, &mut tab, ledger)
 }
 
-// The search over names, of whose clauses the first are those of the cones.
+// The search over the variables that occur. Its clauses are those of the cones, and then the lemmas.
 fn search_dense<L: Charge, W: Watch>(
     alloc: Global,
     cones: &ConeClauses<'_>,

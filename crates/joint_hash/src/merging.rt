@@ -168,7 +168,7 @@ fn keep(
     Ok(())
 }
 
-// Whether a gate has the variable of the first one with its operands, or is joined to it.
+// Whether a gate has the variable of the first one that has its operands, or is joined to it.
 fn is_joined(twins: &IndexMap<u64, Twin>, gate: &ConeGate, first: &ConeGate) -> bool
     ensures { result ≡ ((variable_of gate.now.output == variable_of first.now.output)
         || is_some (twin_of twins.now.entries (variable_of gate.now.output))) }
@@ -177,8 +177,7 @@ fn is_joined(twins: &IndexMap<u64, Twin>, gate: &ConeGate, first: &ConeGate) -> 
     (variable == first.output.variable()) | twin_of(twins, variable).is_some()
 }
 
-// Makes a gate one with the first that has its operands: adds the lemmas that the first one implies it, and that it
-// implies the first one.
+// Joins a gate to the first one that has its operands: adds the lemmas that either of the two implies the other.
 fn equate(
     alloc: Global,
     cones: &ConeClauses<'_>,
