@@ -82,6 +82,7 @@ fn search_dense<L: Charge, W: Watch>(
         (formula_of cones.now.graphs cones.now.query) lemmas.now
         (L.charging ledger.old) (L.charging ledger.new)) }
 {
+    // a formula has fewer than 2^62 clauses
     let _count = dense.count();
     let next = cones.count() + lemmas.len() as u64;
     let mut solver = solver_of(alloc, dense)?;

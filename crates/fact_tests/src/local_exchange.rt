@@ -58,7 +58,7 @@ pub(crate) enum Went {
 }
 
 impl Sides {
-    /// The same bit for each way of the leaves, on either side.
+    /// A bit on one side and a bit on the other, each the same for all ways of the leaves.
     fn of_bits(one: bool, other: bool) -> Sides
         ensures { result ≡ sides_of_bits one other }
     {

@@ -48,6 +48,7 @@ fn merge_ids(
     ensures joined { IfOk result (λ lines. AreJoined cones.now.graphs cones.now.query lines.items) }
 {
     let graphs = cones.graphs();
+    // the gates of a graph are in order, and its ports fewer than 2^32
     let _first = graphs.first();
     let _second = graphs.second();
     let mut merged = Merged {
@@ -129,6 +130,7 @@ fn add_gate(
         merged.new.lines.items merged.new.firsts.entries merged.new.twins.entries) }
 {
     let graphs = cones.graphs();
+    // the gates of a graph are in order, and its ports fewer than 2^32
     let _first = graphs.first();
     let _second = graphs.second();
     let operands = operands_of(&merged.twins, gate);
@@ -198,6 +200,7 @@ fn equate(
     ensures { OnOk result (AreEquated (formula_of cones.now.graphs cones.now.query) first.now gate.now
         lines.old.items lines.new.items (twin_of twins.old.entries) (twin_of twins.new.entries)) }
 {
+    // they are the numbers of the cones' clauses, ascending
     let _ids = cones.ids();
     let lemma = cones.count() + lines.len() as u64;
     let there = chain(alloc, twins, first, gate)?;
