@@ -25,8 +25,8 @@ use watch_core::Watch;
 ///
 /// # Errors
 ///
-/// `Spent` at a conflict that is met with the budget spent: its line is the ledger's refused one. Running out of memory
-/// may leave the ledger anyhow.
+/// `Spent` at a conflict that is met with the budget spent: its line is the ledger's refused one. Out of memory,
+/// nothing is said of the ledger.
 pub fn solve_dense<L: Charge, W: Watch>(
     alloc: Global,
     cones: &ConeClauses<'_>,
