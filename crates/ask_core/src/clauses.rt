@@ -59,7 +59,7 @@ fn short(clause: &[SatLit]) -> Clause3
     }
 }
 
-/// The clauses over the places of names in place of these.
+/// The clauses with the place of each name in place of the name.
 pub(crate) fn over_names(
     alloc: Global,
     clauses: &[Clause3],

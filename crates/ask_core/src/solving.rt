@@ -25,8 +25,8 @@ use watch_core::Watch;
 ///
 /// # Errors
 ///
-/// `Spent` at a conflict that is met with the budget spent: its line is the ledger's refused one. Running out of memory
-/// may leave the ledger anyhow.
+/// `Spent` at a conflict that is met with the budget spent: its line is the ledger's refused one. Out of memory,
+/// nothing is said of the ledger.
 pub fn solve_dense<L: Charge, W: Watch>(
     alloc: Global,
     cones: &ConeClauses<'_>,
@@ -58,7 +58,7 @@ pub fn solve_dense<L: Charge, W: Watch>(
     search_dense(alloc, cones, &dense, lemmas, &mut tab, ledger)
 }
 
-// The search over names, of whose clauses the first are those of the cones.
+// The search over the variables that occur. Its clauses are those of the cones, and then the lemmas.
 fn search_dense<L: Charge, W: Watch>(
     alloc: Global,
     cones: &ConeClauses<'_>,
@@ -82,6 +82,7 @@ fn search_dense<L: Charge, W: Watch>(
         (formula_of cones.now.graphs cones.now.query) lemmas.now
         (L.charging ledger.old) (L.charging ledger.new)) }
 {
+    // a formula has fewer than 2^62 clauses
     let _count = dense.count();
     let next = cones.count() + lemmas.len() as u64;
     let mut solver = solver_of(alloc, dense)?;

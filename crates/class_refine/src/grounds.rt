@@ -2,7 +2,7 @@ use crate::rows::Rows;
 use account_core::{Fact, PairableGraphs};
 use circuits::Pair;
 
-/// What pairs are settled by: two circuits, facts of them, what these tell of all outputs, and which inputs have an
+/// By what pairs are settled: two circuits, facts about them, what these say of all outputs, and which inputs have an
 /// assigned pair.
 #[derive(Clone, Copy)]
 pub(crate) struct Grounds<'a> {

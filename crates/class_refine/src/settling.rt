@@ -34,8 +34,8 @@ pub(crate) enum Exclusion {
     Shown(Ban),
 }
 
-/// Settles all pairs, unless a ban within the assigned ones is found, whose number is answered then. Which kind comes
-/// first is free: no pair is assigned meanwhile, so that a pair that is deleted excludes no other.
+/// Settles all pairs, or answers the number of a ban within the assigned ones, where one is found. The order of the two
+/// kinds of pairs doesn't matter: no pair is assigned meanwhile, and a deleted pair excludes no other.
 pub(crate) fn settle_all(
     alloc: Global,
     grounds: &Grounds<'_>,

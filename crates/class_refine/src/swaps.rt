@@ -32,8 +32,8 @@ pub(crate) struct Exchange {
 }
 
 /// The ban of the pairs of an output and two inputs where a claim of both inputs holds and its image under the pairs
-/// fails, or the other way round. All facts are gone over, for each open way anew. That is good enough, because the
-/// search refines whole matchings alone: no way is open there, and each fact is looked at once.
+/// fails, or the other way round. All facts are gone over, for each open way anew. That is cheap enough: the search
+/// refines whole matchings alone, which have no open way, so each fact is looked at once.
 pub(crate) fn swap_ban(
     alloc: Global,
     grounds: &Grounds<'_>,

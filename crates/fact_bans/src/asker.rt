@@ -3,8 +3,8 @@ use oracle_core::Oracle;
 use query_core::Ledger;
 use std::alloc::Global;
 
-/// Who has claims decided, by what it is lent: an oracle that decides them, what vectors showed of them and which facts
-/// were noted, and the ledger that is charged for what is learned.
+/// What functions are lent that have claims decided: an oracle that decides them, what vectors showed of them and which
+/// facts were noted, and the ledger that is charged for what is learned.
 #[derive(Drop)]
 pub struct Asker<'a, O: Oracle> {
     pub alloc: Global,

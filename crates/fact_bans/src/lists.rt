@@ -17,8 +17,8 @@ use net_core::Side;
 use oracle_core::Oracle;
 use query_core::Claim;
 
-/// An output of a circuit, and which facts are wanted of it: that claims hold, or that they fail, both of each input
-/// that is asked of, or one.
+/// An output of a circuit, and which facts of it are wanted: that claims hold, or that they fail; and of each input
+/// that is asked about both claims, or one.
 #[derive(Clone, Copy, Debug, Drop)]
 pub(crate) struct Wanted {
     pub(crate) side: Side,

@@ -64,8 +64,9 @@ fn more_on(pair: Pair, kind: Tallied, seen: &BrokenClaims) -> Option<Side> {
     }
 }
 
-// Of the output that is of a kind in more inputs, each is asked that vectors show, by the claims that they break. Of
-// the other one as many inputs are asked as it then may not lack.
+// Plans the tally of one kind: inputs in the support, or binate ones. Of the output that has more of the kind all
+// inputs are asked that vectors show to be of it, by the claims that they break. Of the other output one input more is
+// asked, not to be of the kind, than the first one has of these: so the two lists are longer than there are inputs.
 fn by_kind(
     alloc: Global,
     pair: Pair,

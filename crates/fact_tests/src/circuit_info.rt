@@ -19,8 +19,8 @@ use watch_core::Watch;
 /// Of each output of the first circuit the inputs that it depends on, and how, and the pairs of these inputs that may
 /// be exchanged. An output depends on no input that it doesn't reach through gates, and of these nothing is asked. The
 /// others are decided by claims; of two swaps that make a symmetry the second is asked only where the first holds, and
-/// neither where the gates near the two inputs show it. Inputs that may be exchanged are classes, so each input is held
-/// against one of each class.
+/// neither where the gates near the two inputs show it. Inputs that may be exchanged are a class, so each input is
+/// compared with one of each class.
 ///
 /// # Errors
 ///

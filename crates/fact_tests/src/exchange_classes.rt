@@ -289,7 +289,7 @@ fn try_class<O: Oracle>(
     Ok(found_by(number, class, others))
 }
 
-/// What was found by a class's others, once the input is the last of them.
+/// The class that was found, once the input is the last of its others; None where it doesn't belong to the class.
 fn found_by(number: usize, class: Class, others: Option<OtherInputs>) -> Option<FoundClass>
     ensures { result ≡ found_by number class others }
 {
@@ -301,7 +301,7 @@ fn found_by(number: usize, class: Class, others: Option<OtherInputs>) -> Option<
     })
 }
 
-/// The others of a class once the input is the last of them; None where it doesn't belong to the class.
+/// The others of a class with the input as the last of them; None where it doesn't belong to the class.
 fn join<O: Oracle>(
     alloc: Global,
     output: &FirstOutput<'_>,

@@ -16,11 +16,11 @@ use word_sim::alternating;
 /// How many leaves a lane has bits for: 64 lanes are all ways of six.
 const MOST_LEAVES: usize = 6;
 
-/// Few gates lie between inputs that are side by side in the circuit, and each is looked up in the list of those that
-/// may differ.
+/// How many signals that may differ are listed at most. Few gates lie between inputs that are side by side in the
+/// circuit, and each is looked up in this list.
 const MOST_CHANGED: usize = 32;
 
-/// How many gates are gone over for one exchange.
+/// How many gates are gone over for one exchange. Where that isn't enough nothing is shown, and the exchange is asked.
 const MOST_GATES: u32 = 1024;
 
 /// A signal's bits where the two inputs have a pair of bits, and where they have the opposite one: a bit for each way
@@ -58,7 +58,7 @@ pub(crate) enum Went {
 }
 
 impl Sides {
-    /// The same bit for each way of the leaves, on either side.
+    /// A bit on one side and a bit on the other, each the same for all ways of the leaves.
     fn of_bits(one: bool, other: bool) -> Sides
         ensures { result ≡ sides_of_bits one other }
     {
@@ -91,8 +91,8 @@ impl Sides {
     }
 }
 
-/// Whether an exchange of two inputs leaves an output as it is, as the gates near the inputs show: as they are, or each
-/// inverted. It is shown where the signals that may differ depend on few others, and the output isn't among them;
+/// Whether the gates near two inputs show that an exchange of these leaves an output as it is: as they are, or each
+/// inverted. They show it where the signals that may differ depend on few others, and the output isn't among them;
 /// `false` says nothing.
 pub(crate) fn hides(
     alloc: Global,

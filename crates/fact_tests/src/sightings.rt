@@ -12,7 +12,7 @@ use std::alloc::{AllocError, Global};
 use std::marker::Model;
 
 /// How many blocks of 64 bytes are kept of a circuit: an output has one for each input, and one more. They take 8 MiB,
-/// and are of all outputs of a circuit with 362 inputs and as many outputs.
+/// which is enough for all outputs of a circuit with 361 inputs and as many outputs.
 const MOST: u32 = 131_072;
 
 /// What is seen of the outputs of a circuit, a group of them at a time: as many as their signatures are kept of. They

@@ -15,10 +15,11 @@ use oracle_core::Oracle;
 use query_core::{Ledger, Shape};
 use std::alloc::Global;
 
-/// Whether the two inputs may be exchanged: as they are, or each inverted. That is so where two swaps hold, which
-/// aren't asked where unateness tells the inputs apart, and where the gates near the inputs show it. The one that
-/// starts is asked first, and where it holds the other starts from then on: of a carry one holds for the inputs of
-/// lesser digits, and is expensive, and the other one for those of greater digits.
+/// Whether the two inputs may be exchanged: as they are, or each inverted. That is so where two swaps hold, claims of
+/// both inputs. Neither is asked where unateness tells the inputs apart, or where the gates near the inputs show the
+/// exchange. `start` says which swap is asked first, by the value of the lesser input; where that swap holds, the other
+/// one is asked first from then on: of a carry one holds for the inputs of lesser digits, and is expensive, and the
+/// other one for those of greater digits.
 pub(crate) fn are_alike<O: Oracle>(
     alloc: Global,
     output: &FirstOutput<'_>,
@@ -74,7 +75,7 @@ fn may_be_alike(first: Unate, second: Unate, inverted: bool) -> bool
     }
 }
 
-/// One of the two swaps by which inputs may be exchanged: that in which the lesser input has this value.
+/// One of the two swaps that show that inputs may be exchanged: that in which the lesser input has this value at first.
 fn half_swap(i: u32, j: u32, inverted: bool, a: bool) -> Shape
     ensures shape { result ≡ half_swap i j inverted a }
     ensures placed { (n : ℕ) → i < j → j < n → IsPlaced n result }

@@ -30,8 +30,10 @@ pub(crate) fn gate_of(cones: &ConeClauses<'_>, last: u64) -> ConeGate
     ensures last { result.id + 2 ≡ last }
 {
     let graphs = cones.graphs();
+    // the gates of a graph are in order, and its ports fewer than 2^32
     let _first = graphs.first();
     let _second = graphs.second();
+    // they are the numbers of the cones' clauses, ascending
     let _ids = cones.ids();
     let clause = cones.clause(last);
     let [output, first, second] = clause.lits;

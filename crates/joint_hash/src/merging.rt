@@ -48,6 +48,7 @@ fn merge_ids(
     ensures joined { IfOk result (λ lines. AreJoined cones.now.graphs cones.now.query lines.items) }
 {
     let graphs = cones.graphs();
+    // the gates of a graph are in order, and its ports fewer than 2^32
     let _first = graphs.first();
     let _second = graphs.second();
     let mut merged = Merged {
@@ -129,6 +130,7 @@ fn add_gate(
         merged.new.lines.items merged.new.firsts.entries merged.new.twins.entries) }
 {
     let graphs = cones.graphs();
+    // the gates of a graph are in order, and its ports fewer than 2^32
     let _first = graphs.first();
     let _second = graphs.second();
     let operands = operands_of(&merged.twins, gate);
@@ -168,7 +170,7 @@ fn keep(
     Ok(())
 }
 
-// Whether a gate has the variable of the first one with its operands, or is joined to it.
+// Whether a gate has the variable of the first one that has its operands, or is joined to it.
 fn is_joined(twins: &IndexMap<u64, Twin>, gate: &ConeGate, first: &ConeGate) -> bool
     ensures { result ≡ ((variable_of gate.now.output == variable_of first.now.output)
         || is_some (twin_of twins.now.entries (variable_of gate.now.output))) }
@@ -177,8 +179,7 @@ fn is_joined(twins: &IndexMap<u64, Twin>, gate: &ConeGate, first: &ConeGate) -> 
     (variable == first.output.variable()) | twin_of(twins, variable).is_some()
 }
 
-// Makes a gate one with the first that has its operands: adds the lemmas that the first one implies it, and that it
-// implies the first one.
+// Joins a gate to the first one that has its operands: adds the lemmas that either of the two implies the other.
 fn equate(
     alloc: Global,
     cones: &ConeClauses<'_>,
@@ -199,6 +200,7 @@ fn equate(
     ensures { OnOk result (AreEquated (formula_of cones.now.graphs cones.now.query) first.now gate.now
         lines.old.items lines.new.items (twin_of twins.old.entries) (twin_of twins.new.entries)) }
 {
+    // they are the numbers of the cones' clauses, ascending
     let _ids = cones.ids();
     let lemma = cones.count() + lines.len() as u64;
     let there = chain(alloc, twins, first, gate)?;

@@ -281,6 +281,7 @@ fn add_implication(
     if !implications.has(gate.output.variable()) {
         return Ok(());
     }
+    // the query fits the graphs, and the numbers are those of the cones' clauses
     let _graphs = cones.graphs();
     let _ids = cones.ids();
     let place = lines.len();
@@ -314,6 +315,7 @@ fn steps(
     ensures { IfOk result
         (λ ids. AreBetween (length (query_clauses cones.now.graphs cones.now.query)) gate.now copy.now ids.items) }
 {
+    // a formula has fewer than 2^62 clauses
     let _count = cones.count();
     let mut ids = Vec::new(alloc);
     ids.push(gate.id)?;
@@ -387,6 +389,7 @@ fn push_class(
     ensures { OnOk result
         (AddsLines (length (query_clauses cones.now.graphs cones.now.query)) ids.old.items ids.new.items) }
 {
+    // a formula has fewer than 2^62 clauses
     let _count = cones.count();
     push_lemma(ids, twins, one, true)?;
     push_lemma(ids, twins, other, false)

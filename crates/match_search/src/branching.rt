@@ -212,8 +212,8 @@ fn compare_assigned<O: Oracle>(
     }
 }
 
-// Answers a match, once the claims of one input of all outputs are decided. Neither these nor bans exclude the pairs of
-// a match, so that the other answer of refining is not expected here; but it is no harm, and goes the way of any ban.
+// Answers a match, once the claims of one input of all outputs are decided. Neither claims nor bans exclude the pairs
+// of a match, so refining isn't expected to find a ban; if it does, that is a conflict like any other.
 fn confirm<O: Oracle>(
     graphs: &PairableGraphs<'_>,
     session: &mut Session<'_, O>,

@@ -14,8 +14,8 @@ use fact_bans::{SwapPairs, swap_mismatch};
 use oracle_core::Oracle;
 
 /// Makes a ban that claims of two inputs show of the newest assigned pair and two others, and answers its number; None
-/// where none was shown. It looks at any two others, which is good enough because a look takes what vectors showed of
-/// two claims: one is asked only where that tells the pairs apart.
+/// where none was shown. It goes over all pairs of others. That is cheap enough: a look compares what vectors showed of
+/// two claims, and a claim is asked only where that differs.
 pub(crate) fn exclude_by_swaps<O: Oracle>(
     graphs: &PairableGraphs<'_>,
     session: &mut Session<'_, O>,

@@ -21,12 +21,13 @@ struct Candidate {
     weight: u64,
 }
 
-/// Of the ports that are in no pair the one of either circuit that has the fewest ways left for its weight: ports of
+/// Of the ports of either circuit that are in no pair, the one that has the fewest ways left for its weight: ports of
 /// the last conflicts are decided first, so that these come again sooner and lead to bans of few pairs. Of the inputs
-/// those alone are looked at that an output in a pair reads. An output counts as if it had this many times its ways.
+/// only those are looked at that a paired output reads. An output counts as if it had this many times its ways.
 ///
-/// All ports are gone over, and no heap of them is kept, for the numbers of ways change with each pair that is deleted,
-/// and a decision deletes all other ways of two ports, which are about four times the ports of its kind in a circuit.
+/// All ports are gone over, and no heap of them is kept, since the numbers of ways change with each pair that is
+/// deleted, and a decision deletes all other ways of two ports: about four times as many as a circuit has ports of the
+/// kind.
 pub(crate) fn fewest_ways(
     alloc: Global,
     reads: &Reads,

@@ -127,7 +127,7 @@ fn settle<O: Oracle>(
 }
 
 // Makes the tallies of the next output that has none. After the last output it makes the bans that decided claims show
-// of the next assigned pair, and deletes the ways that they tell from it. Answers whether there was a next one.
+// of the next assigned pair, and deletes the ways that they exclude beside it. Answers whether there was a next one.
 fn ask_next<O: Oracle>(
     graphs: &PairableGraphs<'_>,
     session: &mut Session<'_, O>,
@@ -146,8 +146,8 @@ fn ask_next<O: Oracle>(
 }
 
 // Makes the bans that decided claims show of the next assigned pair that wasn't compared yet. Where there are some,
-// what follows of them comes first, and the pair is compared again; where there are none, the ways that claims tell
-// from the pair are deleted. Answers whether there is such a pair.
+// what follows of them comes first, and the pair is compared again; where there are none, the ways are deleted that
+// claims exclude beside the pair. Answers whether there is such a pair.
 fn ask_next_pair<O: Oracle>(
     graphs: &PairableGraphs<'_>,
     session: &mut Session<'_, O>,
@@ -176,7 +176,7 @@ fn next_assigned(domains: &Domains, place: usize) -> Option<Pair>
     domains.pairs().get(place).copied()
 }
 
-// Deletes the ways that decided claims tell from an assigned pair.
+// Deletes the ways that decided claims exclude beside an assigned pair.
 fn delete_beside<O: Oracle>(
     graphs: &PairableGraphs<'_>,
     session: &mut Session<'_, O>,
@@ -193,7 +193,7 @@ fn delete_beside<O: Oracle>(
     delete_unlike(graphs, session, domains, pair, &ways)
 }
 
-// The ways that vectors tell from an assigned pair.
+// The ways that claims may exclude beside an assigned pair, by what vectors show.
 fn ways_beside<O: Oracle>(
     asker: &Asker<'_, O>,
     domains: &Domains,

@@ -8,7 +8,7 @@ use account_core::PairableGraphs;
 use match_guess::Trials;
 use std::alloc::{AllocError, Global};
 
-/// What a search goes by: what guides it, and vectors that pairs are tried on.
+/// What guides a search, and vectors that pairs are tried on.
 pub(crate) struct Heuristics {
     pub(crate) guide: Guide,
     pub(crate) trials: Trials,

@@ -1,7 +1,7 @@
 use account_core::{Ban, Step};
 
-/// How many bytes the bans may take. With the facts and what isn't counted a search took less than a gigabyte then,
-/// where it was measured.
+/// How many bytes the bans may take. Searches that were measured with this bound took less than a gigabyte in all, with
+/// facts and what isn't counted.
 const MOST: u64 = 600_000_000;
 
 /// What a ban takes, with few pairs and its places in the indices of bans. Bans of wide circuits have more pairs, and

@@ -10,7 +10,7 @@ const SHORTEST: u64 = 100;
 /// three of 11 near misses took 1.5 seconds and more that take less than one with 4.
 const OUTPUT_FACTOR: u64 = 4;
 
-/// And in the others this many times.
+/// In the other rounds it counts as if it had this many times its ways.
 const OTHER_FACTOR: u64 = 2;
 
 /// The rounds of a search, after each of which it starts over. Their lengths are as the numbers 1, 1, 2, 1, 1, 2, 4, 1,
@@ -69,7 +69,7 @@ impl Rounds {
         }
     }
 
-    /// As how many times its ways an output counts in the round.
+    /// By how much the number of an output's ways is multiplied in this round.
     pub(crate) fn output_factor(&self) -> u64 {
         if self.is_other {
             OTHER_FACTOR

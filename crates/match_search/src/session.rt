@@ -4,7 +4,7 @@ use fact_bans::Asker;
 use oracle_core::Oracle;
 use watch_core::Stage;
 
-/// What the steps of a search are lent: who has claims decided, what the search goes by, and the book of its bans.
+/// What the steps of a search are lent: what claims are decided by, the heuristic state, and the book of its bans.
 #[derive(Drop)]
 pub(crate) struct Session<'a, O: Oracle> {
     pub(crate) asker: Asker<'a, O>,
@@ -19,7 +19,7 @@ impl<O: Oracle> Session<'_, O> {
         asker.ledger.learned()
     }
 
-    /// Whoever watches is told what the run is at.
+    /// Tells the watcher what the run is at.
     pub(crate) fn at(&self, stage: Stage) {
         let asker = &self.asker;
         asker.oracle.at(stage);

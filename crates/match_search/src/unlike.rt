@@ -1,4 +1,4 @@
-//! Ways that claims of one input tell from an assigned pair.
+//! Ways that claims of one input exclude beside an assigned pair.
 
 ghost use Rattle.std.specs.Prelude.{IfOk, IfSome, OnOk, map, Contains};
 ghost use Rattle.account_core.specs.Given.{decided_by};
@@ -29,9 +29,10 @@ struct Beside {
     broken: u8,
 }
 
-/// Lists the ways of the other kind that vectors tell from an assigned pair and that aren't deleted: a vector breaks a
-/// claim of one input of the one circuit, and none does that which the pair and the way carry it to. Ports of which a
-/// pair is assigned are passed over: their other ways are deleted, and assigned pairs are compared for themselves.
+/// Lists the ways of the other kind that claims may exclude beside an assigned pair, and that aren't deleted: vectors
+/// break a claim of one input of the one circuit, and not the claim that the pair and the way carry it to. Ports that
+/// are in an assigned pair are passed over: their other ways are deleted, and assigned pairs are compared by
+/// themselves.
 ///
 /// Of a pair that was compared before the last ports come first: a port's first way is assigned when it is decided, so
 /// what follows of the last ones is followed before it. With the first ports first a near miss of 16 copies of a
@@ -140,7 +141,7 @@ fn list_way(
     Ok(())
 }
 
-/// Deletes those of some ways that decided claims tell from an assigned pair.
+/// Deletes those of some ways that decided claims exclude beside an assigned pair.
 pub(crate) fn delete_unlike<O: Oracle>(
     graphs: &PairableGraphs<'_>,
     session: &mut Session<'_, O>,
@@ -159,7 +160,7 @@ pub(crate) fn delete_unlike<O: Oracle>(
     Ok(())
 }
 
-// Deletes a way if it is open, and decided claims tell it from an assigned pair.
+// Deletes a way if it is open, and decided claims exclude it beside an assigned pair.
 fn delete_way<O: Oracle>(
     graphs: &PairableGraphs<'_>,
     session: &mut Session<'_, O>,
@@ -186,7 +187,7 @@ fn delete_way<O: Oracle>(
     Ok(())
 }
 
-// The facts that tell a way from an assigned pair, if they are of different kinds.
+// The facts that exclude a way beside an assigned pair, if the two are of different kinds.
 fn unlike_beside<O: Oracle>(
     graphs: &PairableGraphs<'_>,
     session: &mut Session<'_, O>,

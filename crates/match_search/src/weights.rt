@@ -9,8 +9,8 @@ use std::alloc::{AllocError, Global};
 /// What a conflict adds at first: so much that little is lost where its sixteenth is rounded.
 const FIRST_STEP: u64 = 1 << 10;
 
-/// A conflict adds more than the one before it by what that one added divided by this. `learn_solver` counts so too;
-/// MiniSat divides by 0.95. No other number was measured in this search.
+/// Each conflict adds what the one before it added, and that divided by this. `learn_solver` counts so too; MiniSat
+/// divides what it adds by 0.95. No other number was measured in this search.
 const GROWTH: u64 = 16;
 
 /// What it adds at most: then all weights are made smaller, so that their sums stay far below 2^64.
@@ -71,9 +71,9 @@ impl Weights {
         weight.saturating_add(self.step / 10)
     }
 
-    // The ports whose ways a step covers: those of the circuit of which they are fewer, which are short of ways to the
-    // others. With those of the other circuit in their place a near miss of a decoder (`decoder6`) took 180,000
-    // conflicts in place of 3,300.
+    // Raises the ports whose ways a step covers, those of one circuit alone: of the one that has fewer of them, since
+    // these are short of ways. With the other circuit's in their place a near miss of a decoder (`decoder6`) took
+    // 180,000 conflicts in place of 3,300.
     fn raise_covered(&mut self, step: &Step) {
         let Step::Cover { kind, from, to, .. } = step else {
             return;

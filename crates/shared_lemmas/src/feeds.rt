@@ -5,7 +5,8 @@ ghost use Rattle.shared_lemmas.specs.Shared.{HaveSameFeeds};
 
 use query_core::Query;
 
-/// Whether two queries are of the same circuits, whose inputs get the same bits in both.
+/// Whether two queries are of the same circuits, whose inputs get the same bits in both. Only `true` is promised to
+/// be right.
 pub(crate) fn have_same_feeds(one: &Query, other: &Query) -> bool
     ensures { IsTrue result → HaveSameFeeds one.now other.now }
 {

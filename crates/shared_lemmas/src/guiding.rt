@@ -6,8 +6,8 @@ use query_core::{Ledger, QueryBase};
 use std::alloc::{AllocError, Global};
 use watch_core::{Stage, Watch};
 
-/// From how many more lines on one is told of the question's own search. They come by the thousand in a second, and
-/// what is shown changes once in one.
+/// The watcher is told once in this many learned lines of the question's own search. Thousands are learned in a second,
+/// and what is shown changes once a second.
 const TOLD_EVERY: u64 = 64;
 
 /// The pairs of a question's gates that seem to be equal, each of which is two candidates. Those that questions before
@@ -30,7 +30,7 @@ pub(crate) struct Reporter<'a, W: Watch> {
     learned: u64,
     /// How many of the question's lines were learned before it.
     lemmas: u64,
-    /// With how many of them it is told again.
+    /// From how many of them on it is told again.
     next: u64,
 }
 

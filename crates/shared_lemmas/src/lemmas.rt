@@ -85,7 +85,8 @@ fn note_twins(
     }
 }
 
-// Lists the line of a place of a stock, where the lemma of a number has its clause.
+// Lists that a line of a stock, told by its place, stands among the lemmas under a number, if that lemma has its
+// clause.
 fn note_twin(
     count: u64,
     stock: &[LogLine],

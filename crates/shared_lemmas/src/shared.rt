@@ -267,7 +267,7 @@ fn only(alloc: Global, query: &Query) -> Result<Vec<Query>, AllocError>
     Ok(held)
 }
 
-// Whether a query has the feeds of the first that is held.
+// Whether a query has the feeds of the query that was asked last, if there is one.
 fn is_under(query: &Query, held: &[Query]) -> bool
     ensures { IsTrue result → IsUnder query.now held.now }
 {
