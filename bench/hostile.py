@@ -78,6 +78,13 @@ def each_fails_account(outputs):
     return "npnp 1\n" + "".join(f"fails a {k} down 3 =1111\n" for k in range(outputs)) + "end\n"
 
 
+def holds_account(claims, gates):
+    """Claims of one input that their output doesn't reach, in a circuit of this many gates, by outputs and inputs. The last two clauses
+    of each query, of the same literal, refute it."""
+    log = f"l : {1 + 6 * gates} {2 + 6 * gates}\n"
+    return "npnp 1\n" + "".join(f"holds a {k} up {i}\n{log}" for k, i in claims) + "end\n"
+
+
 def long_chain(gates):
     """A long chain of gates over four inputs, from input 0 to the signal p."""
     lines, last = [], "i0"
@@ -142,6 +149,8 @@ def rows():
     yield "vector bans of outputs in turn, of 100 gates each (check)", (32, 64), lambda n: (own_chains(n, AND), own_chains(n, "0- 1\n-0 1\n"), own_vector_account(n)), checked, "rejected line"
     yield "fails, each beside 200,000 gates (check)", (50_000, 100_000), lambda n: (beside_chain(200_000),) * 2 + (fails_account(n),), checked, "rejected line"
     yield "fails, each of another output over 20,000 gates (check)", (500, 1000), lambda n: (over_chain(20_000, n),) * 2 + (each_fails_account(n),), checked, "rejected line"
+    yield "holds, of each AND and each input that it doesn't have (check)", (256, 512), lambda n: (ands(n),) * 2 + (holds_account([(k, i) for k in range(n) for i in range(2 * n) if i // 2 != k], n),), checked, "rejected line"
+    yield "holds, each beside 200,000 gates (check)", (50_000, 100_000), lambda n: (beside_chain(200_000),) * 2 + (holds_account([(0, 3)] * n, 200_000),), checked, "rejected line"
     yield "ANDs against as many with one XOR (match)", (256, 512), lambda n: (ands(n), ands(n, XOR), ""), ("match", *both), "no matching"
     yield "ANDs with themselves (match)", (256, 512), lambda n: (ands(n), ands(n), ""), ("match", *both), "matched"
     yield "XOR of all inputs with itself (match)", (512, 1024), lambda n: (chain(n, XOR),) * 2 + ("",), ("match", *both), "matched"

@@ -1,6 +1,6 @@
 -- The logs of a match: what a line that is taken leaves, and what closed logs show.
 use Rattle.std.proofs.Common.{◌≡◌, ℕ, ◌+◌, ◌*◌, ◌/◌, ◌%◌, ◌==◌, ◌<◌, ◌||◌, Bool, true, false, List, [], ◌∷◌, ◌++◌, length, Option, None, Some, Result, Ok, Err, inl, inr, refl, sym, ap, subst, ◌∙◌, arith}
-use Rattle.std.specs.List.{list_any}
+use Rattle.std.specs.List.{list_all, list_any}
 use Rattle.std.proofs.lemmas.Bool.{cases_lt}
 use Rattle.std.proofs.lemmas.List.{map-append}
 use Rattle.std.proofs.lemmas.List.Folds.{list_any-append}
@@ -12,6 +12,10 @@ use Rattle.cnf_core.specs.Derivations.{is_empty, line_fault}
 use Rattle.net_core.specs.Sides.{Graphs}
 use Rattle.net_core.specs.declared.matching.Matching.{Matching}
 use Rattle.net_core.specs.Graph.{IsGraph}
+use Rattle.claim_core.specs.declared.claims.Claim.{Claim}
+use Rattle.claim_core.specs.ClaimQueries.{claim_query}
+use Rattle.query_core.specs.ClaimClauses.{Telling, tells, told_formula}
+use Rattle.query_core.proofs.ClaimClauseLemmas.{told_fault}
 use Rattle.claim_core.specs.declared.query.Query.{Query}
 use Rattle.claim_core.specs.Formulas.{formula_of, IsRefuted}
 use Rattle.claim_core.specs.MatchQueries.{match_query}
@@ -24,8 +28,8 @@ use Rattle.refute_check.specs.Refutations.{answer_of}
 use Rattle.account_check.specs.declared.reject.Reject.{Reject}
 use Rattle.account_check.specs.declared.reject.RecordStop.{RecordStop}
 use Rattle.account_check.specs.declared.reject.RecordStop.TheVariants as stop
-use Rattle.account_check.specs.Logs.{Proof, match_reject, log_count, log_query, refutation_of}
-use Rattle.account_check.specs.Proofs.{AreRefuted, IsLog, IsLogSoFar, IsOpen, LogSoFar, MatchLogs, lines_in}
+use Rattle.account_check.specs.Logs.{Proof, fact_reject, match_reject, log_count, log_query, refutation_of}
+use Rattle.account_check.specs.Proofs.{AreRefuted, FactProof, IsLog, IsLogSoFar, IsOpen, LogSoFar, MatchLogs, lines_in}
 
 -- a log with one line more
 pub log_more : (graphs : Graphs) (query : Query) (taken : List (List SatLit)) (line : LogLine) → IsLogSoFar graphs query taken → line_fault (formula_of graphs query) taken line ≡ None → IsLogSoFar graphs query (taken ++ line.clause ∷ [])
@@ -114,3 +118,14 @@ handed_on {X} answer error reject is same =
 
 pub failed : {X : Type 0} (a b : RecordStop) → a ≡ b → ◌≡◌ {A = Result X RecordStop} (Err a) (Err b)
 failed {X} a b e = ap (λ (stop : RecordStop). Err stop) e
+
+-- what is wrong with a line of a fact's log, as the clauses tell that its hints name
+pub told_reject : (now old : Telling) (claim : Claim) (taken before : List (List SatLit)) (line : LogLine) (log : FactProof) → list_all (tells now) line.hints ≡ true → now.graphs ≡ old.graphs → now.query ≡ old.query → taken ≡ before → old.query ≡ claim_query old.graphs claim
+    → record { graphs = old.graphs; fact = record { claim = claim; taken = before } } ≡ log
+    → refutation_of (line_fault (told_formula now) taken line) ≡ fact_reject log.graphs log.fact line
+told_reject now old claim taken before line log told graphs query same asks is =
+    ap refutation_of (told_fault now taken line told)
+    ∙ (ap (λ g. refutation_of (line_fault (formula_of g now.query) taken line)) graphs
+    ∙ (ap (λ q. refutation_of (line_fault (formula_of old.graphs q) taken line)) (query ∙ asks)
+    ∙ (ap (λ ts. refutation_of (line_fault (formula_of old.graphs (claim_query old.graphs claim)) ts line)) same
+    ∙ ap (λ (v : FactProof). fact_reject v.graphs v.fact line) is)))

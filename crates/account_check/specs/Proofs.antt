@@ -6,12 +6,15 @@ use Rattle.cnf_core.specs.declared.literal.SatLit.{SatLit}
 use Rattle.cnf_core.specs.declared.log.LogLine.{LogLine}
 use Rattle.cnf_core.specs.Derivations.{is_empty, clauses_of, AreDerived}
 use Rattle.net_core.specs.Sides.{Graphs}
+use Rattle.net_core.specs.declared.graphs.Side.{Side}
+use Rattle.net_core.specs.declared.graphs.Side.TheVariants.{First, Second}
 use Rattle.net_core.specs.declared.matching.Matching.{Matching}
 use Rattle.claim_core.specs.declared.claims.Claim.{Claim}
 use Rattle.claim_core.specs.declared.query.Query.{Query}
 use Rattle.claim_core.specs.ClaimQueries.{claim_query}
 use Rattle.claim_core.specs.Queries.{IsQuery}
 use Rattle.claim_core.specs.Formulas.{formula_of, IsRefuted}
+use Rattle.query_core.specs.ClaimClauses.{Telling}
 use Rattle.account_check.specs.Logs.{OpenFact, Proof, log_count, log_query}
 
 -- A log of a query of two circuits, as far as its lines were taken.
@@ -32,9 +35,23 @@ pub record FactProof : Type 0 where
   pub graphs : Graphs
   pub fact : OpenFact
 
--- a log is of a claim
-abbrev pub IsFactLog : Claim → LogSoFar → Type 0
-IsFactLog claim log = log.query ≡ claim_query log.graphs claim
+-- a claim's clauses are told
+abbrev pub IsFactLog : Claim → Telling → Type 0
+IsFactLog claim base = base.query ≡ claim_query base.graphs claim
+
+-- The last log of a circuit's claims, if there was one.
+pub record IsLogOf (graphs : Graphs) (side : Side) (log : FactProof) : Type 0 where
+  pub graphs_are : log.graphs ≡ graphs
+  pub side_is : log.fact.claim.side ≡ side
+
+abbrev pub IsLastOf : Graphs → Side → Option FactProof → Type 0
+IsLastOf graphs side None = Unit {0}
+IsLastOf graphs side (Some log) = IsLogOf graphs side log
+
+-- The last logs of the claims of two circuits.
+pub record AreLastLogs (graphs : Graphs) (first second : Option FactProof) : Type 0 where
+  pub first_is : IsLastOf graphs First first
+  pub second_is : IsLastOf graphs Second second
 
 -- A match of two circuits and its logs.
 pub record MatchLogs : Type 0 where

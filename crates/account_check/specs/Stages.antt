@@ -44,3 +44,8 @@ IsStage graphs (stage.Showing log) = log.graphs ≡ graphs
 IsStage graphs (stage.Proving logs) = logs.graphs ≡ graphs
 IsStage graphs (stage.Proved logs) = (logs.graphs ≡ graphs) × (logs.proof.closed ≡ log_count logs.proof.matching)
 IsStage graphs other = Unit {0}
+
+-- What is kept of an account: its stage, and the last logs of facts of its circuits.
+pub record IsChecker (graphs : Graphs) (stage : CheckStage) (logs : Graphs) : Type 0 where
+  pub stage_is : IsStage graphs stage
+  pub logs_are : logs ≡ graphs

@@ -6,6 +6,7 @@ ghost use Rattle.account_core.specs.declared.conclusion.Conclusion.TheVariants a
 ghost use Rattle.account_core.specs.declared.fact.FactHead.TheVariants as head;
 ghost use Rattle.account_file.specs.Order.{next_place};
 ghost use Rattle.account_check.specs.Accounts.{after, empty_account, verdict_of, HasFault, Takes};
+ghost use Rattle.account_check.specs.Stages.{IsStage};
 ghost use Rattle.account_file.specs.declared.place.Place.TheVariants as place;
 ghost use Rattle.account_file.specs.declared.record.Record.TheVariants as entry;
 ghost use Rattle.account_check.specs.declared.reject.RecordStop.TheVariants as stop;
@@ -15,6 +16,7 @@ ghost use Rattle.net_core.specs.declared.matching.Matching.{Matching as AnyMatch
 
 use crate::bans::test_ban;
 use crate::fact_log::FactLog;
+use crate::fact_logs::FactLogs;
 use crate::facts::{test_fails, test_holds};
 use crate::logs::Logs;
 use crate::pairs::{matching, test_empty_ban, test_ports};
@@ -57,12 +59,13 @@ pub(crate) enum CheckStage<'a> {
 pub struct Checker<'a> {
     evaluator: Evaluator<'a>,
     given: Given,
+    facts: FactLogs<'a>,
     stage: CheckStage<'a>,
 }
 
 impl<'a> Model for Checker<'a> {
     ghost use Rattle.account_check.specs.Accounts.{Account};
-    ghost use Rattle.account_check.specs.Stages.{concluded_of, fact_of, place_of, proof_of, IsStage};
+    ghost use Rattle.account_check.specs.Stages.{concluded_of, fact_of, place_of, proof_of, IsChecker};
 
     ghost Value = { Account };
 
@@ -75,7 +78,7 @@ impl<'a> Model for Checker<'a> {
       concluded = concluded_of a.stage;
     } };
 
-    ghost invariant = { λ a. IsStage a.evaluator a.stage };
+    ghost invariant = { λ a. IsChecker a.evaluator a.stage a.facts };
 }
 
 // By hand: a derived drop is expanded, field by field, wherever a value ends, and makes proofs long.
@@ -84,6 +87,7 @@ impl Drop for Checker<'_> {
         let Checker {
             evaluator: _evaluator,
             given: _given,
+            facts: _facts,
             stage: _stage,
         } = self;
     }
@@ -97,6 +101,7 @@ impl<'a> Checker<'a> {
         Ok(Checker {
             evaluator: Evaluator::new(alloc, graphs),
             given: Given::new(alloc),
+            facts: FactLogs::new(graphs),
             stage: CheckStage::Empty,
         })
     }
@@ -181,7 +186,7 @@ impl<'a> Checker<'a> {
         if let Some(reject) = test_holds(graphs, claim) {
             return Err(RecordStop::Reject(reject));
         }
-        let log = FactLog::new(alloc, graphs, claim)?;
+        let log = self.facts.open(alloc, claim)?;
         go_to(&mut self.stage, CheckStage::Showing(log));
         Ok(())
     }
@@ -192,14 +197,13 @@ impl<'a> Checker<'a> {
         ensures { Takes self.old (entry.Line line.now) self.new result }
     {
         if let CheckStage::Showing(_) = &self.stage {
-            return self.fact_line(line);
+            return self.fact_line(alloc, line);
         }
         self.match_line(alloc, line)
     }
 
-    // Takes a line of a fact's log. After the empty line the fact is given; memory for it comes first, since nothing
-    // may be refused once the line is taken.
-    fn fact_line(&mut self, line: &LogLine) -> Result<(), RecordStop>
+    // Takes a line of a fact's log. After the empty line the fact is given.
+    fn fact_line(&mut self, alloc: Global, line: &LogLine) -> Result<(), RecordStop>
         requires { self.old.place ≡ place.FactLog }
         ensures { Takes self.old (entry.Line line.now) self.new result }
     {
@@ -207,14 +211,14 @@ impl<'a> Checker<'a> {
             unreachable!()
         };
         if !line.clause.is_empty() {
-            return log.line(line);
+            return log.line(alloc, line);
         }
         self.given.add_fact(log.claim(), true)?;
-        if let Err(stop) = log.line(line) {
+        if let Err(stop) = log.line(alloc, line) {
             self.given.forget_fact();
             return Err(stop);
         }
-        go_to(&mut self.stage, CheckStage::Begun);
+        close_fact(&mut self.stage, &mut self.facts);
         Ok(())
     }
 
@@ -300,6 +304,18 @@ impl<'a> Checker<'a> {
             CheckStage::Refusing => go_to(&mut self.stage, CheckStage::Refused),
             _ => unreachable!(),
         }
+    }
+}
+
+// Closes the log of a fact.
+fn close_fact<'a>(stage: &mut CheckStage<'a>, facts: &mut FactLogs<'a>)
+    requires { IsStage facts.old stage.old }
+    ensures begun { stage.new ≡ CheckStage.Begun }
+    ensures facts { facts.new ≡ facts.old }
+{
+    match mem::replace(stage, CheckStage::Begun) {
+        CheckStage::Showing(log) => facts.close(log),
+        _ => {}
     }
 }
 

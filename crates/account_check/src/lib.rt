@@ -7,6 +7,7 @@
 mod bans;
 mod checker;
 mod fact_log;
+mod fact_logs;
 mod facts;
 mod laws;
 mod logs;

@@ -4,6 +4,7 @@
 
 mod asked_query;
 mod base;
+mod claim_base;
 mod clauses;
 mod cone_clauses;
 mod cones;
@@ -14,6 +15,7 @@ mod variables;
 
 pub use asked_query::AskedQuery;
 pub use base::QueryBase;
+pub use claim_base::ClaimBase;
 pub use claim_core::{Claim, Cone, Feed, Feeds, Query, Shape, image, of_claim, of_match, pair_of};
 pub use clauses::count_of;
 pub use cone_clauses::ConeClauses;

@@ -1,13 +1,16 @@
 //! Which signals of a circuit reach an input whose two feeds differ.
 
-ghost use Rattle.std.specs.Prelude.{◌≡◌, ◌+◌, ◌<◌, ◌++◌, ◌∷◌, ℕ, false, All, IfOk, OnOk, length, take};
+ghost use Rattle.std.specs.Prelude.{◌≡◌, ◌+◌, ◌-◌, ◌<◌, ◌++◌, ◌∷◌, ℕ, false, All, IfOk, OnOk, length, take};
 ghost use Rattle.circuits.specs.Literals.{bit};
 ghost use Rattle.net_core.specs.Graph.{AreInOrder};
+ghost use Rattle.claim_core.specs.Claims.{IsPlaced};
+ghost use Rattle.claim_core.specs.ClaimQueries.{opposite_shape, values_feed};
 ghost use Rattle.claim_core.specs.ConeClauses.{AreReached, IsSomeCone};
 ghost use Rattle.claim_core.specs.Formulas.{feeds_differ, reaching, reaches};
+ghost use Rattle.query_core.specs.Reaching.{with_shape};
 
 use bit_list::Marks;
-use claim_core::{Feeds, Query};
+use claim_core::{Claim, Feeds, Query, Shape};
 use net_core::{Gate, Graph};
 use std::alloc::{AllocError, Global};
 
@@ -43,6 +46,60 @@ pub(crate) fn reaches_in_cone(
     let mut marked = marked_inputs(alloc, &query.left.feed, &query.right.feed, right.signals())?;
     mark_cone(alloc, right, gates, &mut marked)?;
     Ok(marked)
+}
+
+/// Whether each of these gates, which a claim's output reaches, reaches an input of the claim's shape: these get one value on the
+/// left and the other one on the right. What is said of the other gates is nothing.
+pub(crate) fn reaches_of_claim(
+    alloc: Global,
+    claim: &Claim,
+    graph: &Graph,
+    gates: &[u32],
+) -> Result<Marks, AllocError>
+    requires placed { IsPlaced graph.now.inputs claim.now.shape }
+    requires gates { AreReached graph.now claim.now.output gates.now }
+    ensures marks { IfOk result (λ marked. let n = graph.now.inputs in
+        let differ = feeds_differ (values_feed n claim.now.shape) (values_feed n (opposite_shape claim.now.shape)) in
+        All (λ t. bit marked (n + 1 + t) ≡ bit (reaching (false ∷ differ) graph.now.gates) (n + 1 + t)) gates.now) }
+    ensures count { IfOk result
+        (λ marked. length marked ≡ graph.now.inputs + 1 + length graph.now.gates) }
+{
+    let mut marked = shape_marks(alloc, claim.shape, graph.inputs(), graph.signals())?;
+    mark_cone(alloc, graph, gates, &mut marked)?;
+    Ok(marked)
+}
+
+// Marks of signals, where those of a shape's inputs are marked.
+fn shape_marks(
+    alloc: Global,
+    shape: Shape,
+    inputs: u32,
+    signals: usize,
+) -> Result<Marks, AllocError>
+    requires placed { IsPlaced inputs shape }
+    requires room { inputs < signals }
+    ensures start { IfOk result (λ marked. take (inputs + 1) marked
+        ≡ false ∷ feeds_differ (values_feed inputs shape) (values_feed inputs (opposite_shape shape))) }
+    ensures rest { IfOk result (λ marked. (s : ℕ) → inputs < s → bit marked s ≡ false) }
+    ensures size { IfOk result (λ marked. length marked ≡ signals) }
+{
+    let mut marked = Marks::none(alloc, signals);
+    mark_shape(alloc, shape, &mut marked)?;
+    Ok(marked)
+}
+
+// Marks the signals of a shape's inputs.
+fn mark_shape(alloc: Global, shape: Shape, marked: &mut Marks) -> Result<(), AllocError>
+    requires { IsPlaced (length marked.old - 1) shape }
+    ensures { OnOk result (marked.new ≡ with_shape shape marked.old) }
+{
+    match shape {
+        Shape::Up(i) | Shape::Down(i) => marked.mark(alloc, i as usize + 1),
+        Shape::Swap { i, j, .. } => {
+            marked.mark(alloc, i as usize + 1)?;
+            marked.mark(alloc, j as usize + 1)
+        }
+    }
 }
 
 // Marks of n signals, where those of the inputs whose two feeds differ are marked.

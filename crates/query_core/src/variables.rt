@@ -1,12 +1,15 @@
 ghost use Rattle.std.specs.Prelude.{◌≡◌, ◌+◌, ◌<◌, ◌^◌, All, IfOk, length, slice_index_or};
+ghost use Rattle.net_core.specs.Sides.{graph_of};
+ghost use Rattle.claim_core.specs.Claims.{IsClaim};
+ghost use Rattle.claim_core.specs.ClaimQueries.{claim_query};
 ghost use Rattle.claim_core.specs.ConeClauses.{AreReached, left_gates, right_gates};
 ghost use Rattle.claim_core.specs.Formulas.{left_variables, right_variables};
 ghost use Rattle.claim_core.specs.Queries.{IsQuery, bits_in, circuit_of};
 ghost use Rattle.query_core.specs.Variables.{AreFor, HasGate, variable_at, variables_in};
 
-use crate::reaching::{reaches, reaches_in_cone};
+use crate::reaching::{reaches, reaches_in_cone, reaches_of_claim};
 use bit_list::Marks;
-use claim_core::Query;
+use claim_core::{Claim, Query};
 use net_core::Graphs;
 use std::alloc::{AllocError, Global};
 
@@ -89,6 +92,30 @@ pub(crate) fn cone_variables(
     }
     let right = graphs.side(query.right.side);
     let marked = reaches_in_cone(alloc, query, right, gates)?;
+    Ok(Variables::Shared { first, own, marked })
+}
+
+/// The variables of the right circuit's gates in a claim's query, right for these, which the claim's output reaches. It takes a
+/// step for each of these, whatever else the circuit has.
+pub(crate) fn claim_variables(
+    alloc: Global,
+    graphs: &Graphs<'_>,
+    claim: &Claim,
+    query: &Query,
+    gates: &[u32],
+) -> Result<Variables, AllocError>
+    requires claim { IsClaim graphs.now claim.now }
+    requires query { query.now ≡ claim_query graphs.now claim.now }
+    requires fits { IsQuery graphs.now query.now }
+    requires gates { AreReached (graph_of graphs.now claim.now.side) claim.now.output gates.now }
+    ensures values { IfOk result (λ variables.
+        All (λ t. variable_at variables t ≡ slice_index_or (right_variables graphs.now query.now) t 0) gates.now) }
+    ensures fits { IfOk result (AreFor (right_gates graphs.now query.now)) }
+{
+    let first = left_from(graphs, query);
+    let own = right_from(graphs, query);
+    let graph = graphs.side(claim.side);
+    let marked = reaches_of_claim(alloc, claim, graph, gates)?;
     Ok(Variables::Shared { first, own, marked })
 }
 

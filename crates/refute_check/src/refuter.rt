@@ -45,9 +45,26 @@ impl<B: Base + Drop> Refuter<B> {
             closed: false,
         })
     }
+
+    /// Goes over to another base of as many variables. The lines that were taken stay, and so does the room.
+    pub fn set_base(&mut self, base: B)
+        requires { (B.formula base).variables ≡ (B.formula self.old.base).variables }
+        ensures base { self.new.base ≡ base }
+        ensures taken { self.new.taken ≡ self.old.taken }
+        ensures room { self.new.room ≡ self.old.room }
+    {
+        self.base = base;
+    }
 }
 
 impl<B: Base> Refuter<B> {
+    /// The base.
+    pub fn base(&self) -> &B
+        ensures { result.now ≡ self.now.base }
+    {
+        &self.base
+    }
+
     /// No line was taken, and there is no room for one; the values are those of a refuter over as many variables.
     pub fn with_values(alloc: Global, base: B, values: Values) -> Refuter<B>
         requires { values ≡ record { variables = (B.formula base).variables; made = [] } }

@@ -10,7 +10,7 @@ returns c =
     let graphs = c.self.inside.evaluator in
     let logs = c.in-Proving.logs in
     let line = c.args.line.now in
-    let same : logs.graphs ≡ graphs = subst (IsStage graphs) c.in-Proving.is c.self.invariant in
+    let same : logs.graphs ≡ graphs = subst (IsStage graphs) c.in-Proving.is c.self.invariant.stage_is in
     let told_by = ap (λ s. line_reject graphs (fact_of s) (proof_of s) line) (sym c.in-Proving.is) in
     let rule = ap (λ g. match_reject g logs.proof line) same ∙ told_by in
     record {
