@@ -1,4 +1,3 @@
 mod GateLemmas
-mod NameLemmas
 mod RestoreLemmas
 mod WrittenLemmas

@@ -155,7 +155,7 @@ module _ (tells : Bool) (asked : RestoreWords) (old now : ShelfState) (answer : 
       let name = asked.restored.now in
       elim (restores.part t) [
         | inl same ↦ inl (λ n. everywhere old.held new.held name (λ m other. restores.others t m other ∙ judges.files m) (same ∙ judges.files name) n (bytes_eq n name) refl)
-        | inr (restored, behind, count, part) ↦ inr (inr (inr (record {
+        | inr (restored, behind, first_part) ↦ inr (inr (inr (record {
           wished = wished_by asked;
           asks = asks;
           first = netlist_of judges.first.circuit answer.first;
@@ -165,8 +165,8 @@ module _ (tells : Bool) (asked : RestoreWords) (old now : ShelfState) (answer : 
           gates = length restored.graph.gates;
           bytes = aig_text restored;
           restored = is_restored (old.held asked.first.now) (old.held asked.second.now) judges.first.circuit answer.first answer.second restored (judges.first.held t) judges.first.computes (second_netlist t) behind;
-          count = count;
-          part = part;
+          count = first_part.0;
+          part = first_part.1;
         })))
       ]
 

@@ -16,6 +16,6 @@ pub returns-in-AcceptedMatch : goal.returns-in-AcceptedMatch
 returns-in-AcceptedMatch g c =
     restores_decides _ c.args.asked.now _ _ c.in_ok-judgement.judgement c.in_ok-judgement.ensures c.in-AcceptedMatch.matching c.in-AcceptedMatch.is _ _ c.restore_by.ensures
 
-pub returns-in_default : goal.returns-in_default
-returns-in_default g c =
+pub returns : goal.returns
+returns g c =
     verdict_told _ c.args.asked.now _ _ c.in_ok-judgement.judgement c.in_ok-judgement.ensures c.reported.result c.in_default.not-AcceptedMatch c.reported.ensures.same c.reported.ensures.line c.reported.ensures.memory
