@@ -1,18 +1,17 @@
 ghost use Rattle.std.specs.Prelude.{◌≡◌, IfOk, IfSome};
 ghost use Rattle.circuits.specs.Matches.{HavePorts};
 
-use crate::choice::{Next, next_point};
+use crate::choice::Next;
 use crate::choice_point::{ChoicePoint, next_state};
 use crate::effort::{Allowance, Effort};
 use crate::kept::Kept;
-use crate::leaf::with_paired_outputs;
 use crate::matching::matching_of;
 use crate::patience::Patience;
 use crate::refiner::Refiner;
 use crate::signs::{has_one_open_cell, with_plain_signs};
 use account_core::PairableGraphs;
 use bit_list::Bits;
-use cell_splits::{Likeness, Starts, State, anchored, open_in};
+use cell_splits::{Likeness, State, open_in};
 use net_core::Matching;
 use std::alloc::{AllocError, Global};
 
@@ -221,17 +220,7 @@ impl<'a> Guesser<'a> {
         if self.are_signs_linked {
             return Ok(Vec::new(alloc));
         }
-        anchored(
-            alloc,
-            root,
-            Starts {
-                first: &self.refiner.first_rare,
-                second: &self.refiner.second_rare,
-            },
-            &mut self.refiner.first.simulator,
-            &mut self.refiner.second.simulator,
-            &mut self.refiner.draws,
-        )
+        self.refiner.anchored(alloc, root)
     }
 
     // Searches from the last of these states on.
@@ -319,14 +308,7 @@ impl<'a> Guesser<'a> {
     // Chooses what is guessed next.
     fn next_point(&mut self, alloc: Global, state: State) -> Result<Next, AllocError> {
         let likeness = self.likeness(alloc, &state)?;
-        next_point(
-            alloc,
-            state,
-            &self.refiner.first.counts,
-            likeness.as_ref(),
-            self.refiner.round,
-            &mut self.refiner.draws,
-        )
+        self.refiner.next_point(alloc, state, likeness.as_ref())
     }
 
     // How alike inputs are, where guesses go by that.
@@ -334,13 +316,7 @@ impl<'a> Guesser<'a> {
         if !self.goes_by_likeness(state) {
             return Ok(None);
         }
-        let likeness = Likeness::new(
-            alloc,
-            state,
-            &mut self.refiner.first.simulator,
-            &mut self.refiner.second.simulator,
-            &mut self.refiner.draws,
-        )?;
+        let likeness = self.refiner.likeness(alloc, state)?;
         self.responses = self.responses.saturating_sub(likeness.responses());
         Ok(Some(likeness))
     }
@@ -357,14 +333,7 @@ impl<'a> Guesser<'a> {
     }
 
     fn paired(&mut self, alloc: Global, state: State) -> Result<Visit, AllocError> {
-        match with_paired_outputs(
-            alloc,
-            state,
-            &mut self.refiner.first,
-            &mut self.refiner.second,
-            &self.kept,
-            &mut self.refiner.draws,
-        )? {
+        match self.refiner.with_paired_outputs(alloc, state, &self.kept)? {
             Some(state) => Ok(Visit::Paired(state)),
             None => Ok(Visit::Fails),
         }

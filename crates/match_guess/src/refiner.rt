@@ -1,9 +1,14 @@
 //! Cells of ports, split by counts and by vectors until nothing splits them any more.
 
+use crate::choice::{Next, next_point};
 use crate::circuit::{Blocks, Circuit, Sample};
+use crate::kept::Kept;
+use crate::leaf::with_paired_outputs;
 use crate::signs::has_known_sign;
 use account_core::PairableGraphs;
-use cell_splits::{Assignment, BEST, Keys, Link, Patterns, State, climbed};
+use cell_splits::{
+    Assignment, BEST, Keys, Likeness, Link, Patterns, Starts, State, anchored, climbed,
+};
 use items::Items;
 use net_core::Side;
 use port_cells::{Cells, Draws, FlipSim, Lanes, Slack};
@@ -115,6 +120,74 @@ impl<'a> Refiner<'a> {
     pub(crate) fn words_of_flips(&self) -> u64 {
         let first = self.first.simulator.words_of_flips();
         first.max(self.second.simulator.words_of_flips())
+    }
+
+    /// How alike inputs are by the gates that they reach.
+    pub(crate) fn likeness(
+        &mut self,
+        alloc: Global,
+        state: &State,
+    ) -> Result<Likeness, AllocError> {
+        Likeness::new(
+            alloc,
+            state,
+            &mut self.first.simulator,
+            &mut self.second.simulator,
+            &mut self.draws,
+        )
+    }
+
+    /// Chooses what is guessed next, by how alike inputs are where that is known.
+    pub(crate) fn next_point(
+        &mut self,
+        alloc: Global,
+        state: State,
+        likeness: Option<&Likeness>,
+    ) -> Result<Next, AllocError> {
+        next_point(
+            alloc,
+            state,
+            &self.first.counts,
+            likeness,
+            self.round,
+            &mut self.draws,
+        )
+    }
+
+    /// States in which vectors with one profile decide the signs that are open at the root.
+    pub(crate) fn anchored(
+        &mut self,
+        alloc: Global,
+        root: &State,
+    ) -> Result<Vec<State>, AllocError> {
+        anchored(
+            alloc,
+            root,
+            Starts {
+                first: &self.first_rare,
+                second: &self.second_rare,
+            },
+            &mut self.first.simulator,
+            &mut self.second.simulator,
+            &mut self.draws,
+        )
+    }
+
+    /// The state with its outputs paired by vectors, or None where these allow no pairs of them.
+    pub(crate) fn with_paired_outputs(
+        &mut self,
+        alloc: Global,
+        state: State,
+        kept: &Kept,
+    ) -> Result<Option<State>, AllocError> {
+        with_paired_outputs(
+            alloc,
+            state,
+            &mut self.first,
+            &mut self.second,
+            kept,
+            &mut self.draws,
+        )
     }
 
     /// Splits the root's cells by what was counted at first.
