@@ -168,8 +168,7 @@ if command -v berkeley-abc >/dev/null; then
   is_equal oai221.blif oai221.aig
   is_equal processor.blif processor.aig
   # the processor with its ports lost, resynthesized
-  berkeley-abc -q 'read_blif lost.blif; strash; dch; map -B 0.9 -D 0; strash; dc2; write_aiger lost.aig' >/dev/null 2>&1 ||
-    berkeley-abc -q 'read_blif lost.blif; strash; dc2; dc2; write_aiger lost.aig' >/dev/null
+  berkeley-abc -q 'read_blif lost.blif; strash; dch; if -K 5; strash; dc2; write_aiger lost.aig' >/dev/null
   restores processor.blif lost.aig processor_again.aig
   is_equal processor.blif processor_again.aig
   # a whole cell library
