@@ -63,8 +63,9 @@ impl<'a> FactLog<'a> {
         })
     }
 
-    /// The log of another claim of the same circuit, of which no line was taken. What the last log used serves it, so that
-    /// it costs no more than a step for each gate that its output reaches, where the last claim was of the same output.
+    /// The log of another claim of the same circuit, of which no line was taken. What the last log used serves it, so
+    /// that it costs no more than a step for each gate that its output reaches, where the last claim was of the same
+    /// output.
     pub(crate) fn turned(self, alloc: Global, claim: &Claim) -> Result<FactLog<'a>, AllocError>
         requires claim { IsClaim self.graphs claim.now }
         requires side { claim.now.side ≡ self.fact.claim.side }
@@ -89,9 +90,9 @@ impl<'a> FactLog<'a> {
         self.claim
     }
 
-    /// Takes a line exactly where it is derived. What is refused changes nothing, nor does running out of memory. A line
-    /// whose hints name clauses of gates that the claim's output doesn't reach takes a step for each signal of the circuit,
-    /// once.
+    /// Takes a line exactly where it is derived. What is refused changes nothing, nor does running out of memory. A
+    /// line whose hints name clauses of gates that the claim's output doesn't reach takes a step for each signal of the
+    /// circuit, once.
     pub(crate) fn line(&mut self, alloc: Global, line: &LogLine) -> Result<(), RecordStop>
         ensures refused { (reject : AnyReject) → result ≡ Err (stop.Reject reject)
             → Some reject ≡ fact_reject self.old.graphs self.old.fact line.now }

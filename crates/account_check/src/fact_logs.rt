@@ -11,8 +11,8 @@ use query_core::Claim;
 use std::alloc::{AllocError, Global};
 use std::marker::Model;
 
-/// Opens the logs of two circuits' claims. What a log used serves the next one of its circuit: room for the value of each
-/// signal, and the cone of the output. Contracts see the two circuits.
+/// Opens the logs of two circuits' claims. What a log used serves the next one of its circuit: room for the value of
+/// each signal, and the cone of the output. Contracts see the two circuits.
 pub(crate) struct FactLogs<'a> {
     graphs: &'a Graphs<'a>,
     /// The last log of a claim of either circuit.

@@ -5,7 +5,8 @@ ghost use Rattle.std.specs.List.Sorted.{IsNonDecreasing};
 ghost use Rattle.cnf_core.specs.Clauses.{clause_at, literals_of, variable_of, AreKnown};
 ghost use Rattle.cnf_core.specs.Derivations.{clauses_of};
 ghost use Rattle.claim_core.specs.Formulas.{formula_of, query_clauses};
-ghost use Rattle.ask_core.specs.Renamings.{AreNames, AreOver, AreShort, AreTurned, IsNamed, IsOver, TellPlaces, renamed};
+ghost use Rattle.ask_core.specs.Renamings.{AreNames, AreOver, AreShort, AreTurned, IsNamed, IsOver, TellPlaces};
+ghost use Rattle.ask_core.specs.Renamings.{renamed};
 
 use crate::places::{Places, places_for};
 use cnf_core::{Clause3, LogLine, SatLit};

@@ -1,6 +1,7 @@
 //! The book of bans, and how they are looked up.
 
-ghost use Rattle.std.specs.Prelude.{◌≡◌, ◌↔◌, [], ◌∷◌, ◌++◌, All, Contains, IfNone, IfOk, IfSome, IsTrue, OnErr, OnOk, length};
+ghost use Rattle.std.specs.Prelude.{◌≡◌, ◌↔◌, [], ◌∷◌, ◌++◌, All, Contains, IfNone, IfOk, IfSome, IsTrue, OnErr, OnOk};
+ghost use Rattle.std.specs.Prelude.{length};
 ghost use Rattle.ban_book.specs.Chains.{HasNoneWithin, first_of};
 ghost use Rattle.ban_book.specs.Covering.{Covers, IsWithin};
 

@@ -1,6 +1,7 @@
 //! Pairs that a ban needs, in the order that bans have.
 
-ghost use Rattle.std.specs.Prelude.{◌≡◌, ◌≢◌, ◌⊎◌, ◌≤◌, All, Contains, IfNone, IfSome, IsTrue, OnOk, ◌↔◌, ◌<◌, length, slice_index_or, take};
+ghost use Rattle.std.specs.Prelude.{◌≡◌, ◌≢◌, ◌⊎◌, ◌≤◌, All, Contains, IfNone, IfSome, IsTrue, OnOk, ◌↔◌, ◌<◌, length};
+ghost use Rattle.std.specs.Prelude.{slice_index_or, take};
 ghost use Rattle.circuits.specs.declared.port.Pair.{Pair as AnyPair};
 ghost use Rattle.account_core.specs.Ports.{AreOrdered};
 ghost use Rattle.account_core.specs.Held.{AreApart, StandsBefore};

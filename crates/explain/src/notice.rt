@@ -17,7 +17,8 @@ npnp --help
 
 /// What the words mean, and how a run ends.
 const MEANING: &str = "\
-FIRST, SECOND and FILE are netlists, BLIF or AIGER (text or binary). `match` looks for a match, which gives every port of
+FIRST, SECOND and FILE are netlists, BLIF or AIGER (text or binary). `match` looks for a match, which gives every \
+port of
 FIRST its partner in SECOND, plain or inverted. It prints `matched` and the port table, or `no matching`, and writes
 ACCOUNT, which proves either. `check` tests such an account, whoever wrote it. Where it proves a match, `restore` writes
 NEW, as binary AIGER: the gates of SECOND behind the ports of FIRST, with their names. `info` prints supports, unateness

@@ -4,7 +4,9 @@ ghost use Rattle.std.specs.Prelude.{◌≡◌, ◌<◌, ◌++◌, ◌∷◌, [],
 ghost use Rattle.oracle_core.specs.Oracles.{Serves};
 ghost use Rattle.claim_core.specs.Rows.{IsEntry, ListsSupport};
 ghost use Rattle.fact_tests.specs.Outputs.{IsOutput, MayAsk, arity, function};
-ghost use Rattle.fact_tests.specs.Exchanges.{Adds, AreClasses, IsClass, IsFound, IsJoined, IsNext, IsSecond, IsTried, IsWay, Sorts, classes_with, found_by, next_by, place_in, second_by, skew_by};
+ghost use Rattle.fact_tests.specs.Exchanges.{Adds, AreClasses, IsClass, IsFound, IsJoined, IsNext, IsSecond, IsTried};
+ghost use Rattle.fact_tests.specs.Exchanges.{IsWay, Sorts, classes_with, found_by, next_by, place_in, second_by};
+ghost use Rattle.fact_tests.specs.Exchanges.{skew_by};
 
 use crate::first_output::FirstOutput;
 use crate::symmetry_test::are_alike;

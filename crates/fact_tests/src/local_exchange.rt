@@ -4,7 +4,8 @@ ghost use Rattle.std.specs.Prelude.{◌≡◌, ◌<◌, [], None, IfOk, IfSome, 
 ghost use Rattle.circuits.specs.Literals.{signal_of};
 ghost use Rattle.claim_core.specs.Claims.{output_bit};
 ghost use Rattle.net_core.specs.Values.{signed_word};
-ghost use Rattle.fact_tests.specs.LocalExchanges.{IsLeaf, IsListed, IsListing, IsUnchanged, IsWent, IsWhole, Tells, first_listed, sides_of_bits};
+ghost use Rattle.fact_tests.specs.LocalExchanges.{IsLeaf, IsListed, IsListing, IsUnchanged, IsWent, IsWhole, Tells};
+ghost use Rattle.fact_tests.specs.LocalExchanges.{first_listed, sides_of_bits};
 ghost use Rattle.fact_tests.specs.Outputs.{IsAlike};
 
 use crate::readers::Readers;

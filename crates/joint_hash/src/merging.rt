@@ -1,6 +1,7 @@
 //! Gates of one structure, merged by lemmas.
 
-ghost use Rattle.std.specs.Prelude.{◌≡◌, ◌≢◌, ◌<◌, ◌^◌, ◌+◌, ◌==◌, ◌||◌, ◌&&◌, ◌↔◌, ◌∷◌, ◌++◌, [], ℕ, All, AllPairs, Contains, Some, IfOk, OnOk, is_some, length, map, nat_lt, if◌then◌else◌};
+ghost use Rattle.std.specs.Prelude.{◌≡◌, ◌≢◌, ◌<◌, ◌^◌, ◌+◌, ◌==◌, ◌||◌, ◌&&◌, ◌↔◌, ◌∷◌, ◌++◌, [], ℕ, All, AllPairs};
+ghost use Rattle.std.specs.Prelude.{Contains, Some, IfOk, OnOk, is_some, length, map, nat_lt, if◌then◌else◌};
 ghost use Rattle.cnf_core.specs.Clauses.{opposite, variable_of};
 ghost use Rattle.cnf_core.specs.Derivations.{clauses_of};
 ghost use Rattle.claim_core.specs.ConeClauses.{IsConeId};
@@ -8,7 +9,8 @@ ghost use Rattle.claim_core.specs.Queries.{IsQuery};
 ghost use Rattle.claim_core.specs.Formulas.{formula_of, query_clauses};
 ghost use Rattle.joint_hash.specs.Trees.{AreJoined, IsGateOf};
 ghost use Rattle.joint_hash.specs.Chains.{AreListed, LeadOn, clauses_with};
-ghost use Rattle.joint_hash.specs.Classes.{AreEquated, AreTwins, HasAlso, IsUnderWay, chain_ids, first_with, is_last, lemma_ids, operands_of, twin_of};
+ghost use Rattle.joint_hash.specs.Classes.{AreEquated, AreTwins, HasAlso, IsUnderWay, chain_ids, first_with, is_last};
+ghost use Rattle.joint_hash.specs.Classes.{lemma_ids, operands_of, twin_of};
 ghost use Rattle.joint_hash.specs.Merging.{AreLemmas};
 
 use crate::gates::{ConeGate, gate_of, is_last};

@@ -1,11 +1,14 @@
 //! Analysis of a conflict: the clause that is learned from it.
 
-ghost use Rattle.std.specs.Prelude.{◌≡◌, ◌+◌, ◌<◌, ◌≤◌, ◌==◌, false, All, IfOk, OnOk, length, map, replicate, ℕ, if◌then◌else◌};
+ghost use Rattle.std.specs.Prelude.{◌≡◌, ◌+◌, ◌<◌, ◌≤◌, ◌==◌, false, All, IfOk, OnOk, length, map, replicate, ℕ};
+ghost use Rattle.std.specs.Prelude.{if◌then◌else◌};
 ghost use Rattle.cnf_core.specs.Clauses.{opposite, AreKnown};
 ghost use Rattle.cnf_core.specs.Derivations.{is_empty};
 ghost use Rattle.trail_core.specs.Trails.{IsPlace, IsTrail, entry_at};
 ghost use Rattle.watch_lists.specs.Propagations.{IsSound};
-ghost use Rattle.learn_solver.specs.Analyses.{AreBefore, AreMarked, AreOnTrail, CanAnalyse, HasPlace, IsAnalysis, IsBackLevel, IsLearned, IsMinimized, IsReducing, StayFrom, StayMarked, here_in, kept_literals, kept_here};
+ghost use Rattle.learn_solver.specs.Analyses.{AreBefore, AreMarked, AreOnTrail, CanAnalyse, HasPlace, IsAnalysis};
+ghost use Rattle.learn_solver.specs.Analyses.{IsBackLevel, IsLearned, IsMinimized, IsReducing, StayFrom, StayMarked};
+ghost use Rattle.learn_solver.specs.Analyses.{here_in, kept_literals, kept_here};
 
 use cnf_core::{ClauseStore, SatLit};
 use items::Items;

@@ -1,6 +1,7 @@
 //! Numbers in a heap, by keys.
 
-ghost use Rattle.std.specs.Prelude.{ℕ, ◌≡◌, ◌/◌, ◌<◌, ◌≤◌, true, false, All, IfOk, IfSome, IfNone, length, nat_lt, replicate, slice_set};
+ghost use Rattle.std.specs.Prelude.{ℕ, ◌≡◌, ◌/◌, ◌<◌, ◌≤◌, true, false, All, IfOk, IfSome, IfNone, length, nat_lt};
+ghost use Rattle.std.specs.Prelude.{replicate, slice_set};
 ghost use Rattle.std.specs.List.{range_with_len};
 ghost use Rattle.circuits.specs.Literals.{bit};
 ghost use Rattle.learn_solver.specs.Heaps.{AreInverse, are_held, exchanged};

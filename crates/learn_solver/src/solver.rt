@@ -1,13 +1,16 @@
 //! The solver.
 
-ghost use Rattle.std.specs.Prelude.{◌≡◌, ◌+◌, ◌<◌, ◌≤◌, ◌++◌, ◌∷◌, [], true, false, None, All, MatchOption, IfOk, IfErr, IfNone, OnOk, OnErr, length, map};
+ghost use Rattle.std.specs.Prelude.{◌≡◌, ◌+◌, ◌<◌, ◌≤◌, ◌++◌, ◌∷◌, [], true, false, None, All, MatchOption, IfOk};
+ghost use Rattle.std.specs.Prelude.{IfErr, IfNone, OnOk, OnErr, length, map};
 ghost use Rattle.std.specs.List.{list_any};
 ghost use Rattle.cnf_core.specs.Derivations.{AreDerived, clauses_of, is_empty, line_fault};
 ghost use Rattle.trail_core.specs.Trails.{literals};
 ghost use Rattle.watch_lists.specs.Propagations.{IsConflict, IsQuiet};
 ghost use Rattle.cnf_core.specs.Charges.{IsCharged, IsRefused};
-ghost use Rattle.learn_solver.specs.Searches.{CanGo, HasEnded, HasGone, IsDecided, IsLearning, IsLearnt, IsLesson, IsRunning, IsSame, last_line, remaining};
-ghost use Rattle.learn_solver.specs.Solvers.{IsAsking, IsBounded, IsBoundedStop, IsExtended, IsStopped, IsVerdict, active, id_at};
+ghost use Rattle.learn_solver.specs.Searches.{CanGo, HasEnded, HasGone, IsDecided, IsLearning, IsLearnt, IsLesson};
+ghost use Rattle.learn_solver.specs.Searches.{IsRunning, IsSame, last_line, remaining};
+ghost use Rattle.learn_solver.specs.Solvers.{IsAsking, IsBounded, IsBoundedStop, IsExtended, IsStopped, IsVerdict};
+ghost use Rattle.learn_solver.specs.Solvers.{active, id_at};
 ghost use Rattle.learn_solver.specs.Findings.{IsFinding};
 ghost use Rattle.learn_solver.specs.Starts.{IsBegun};
 

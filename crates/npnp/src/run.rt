@@ -14,7 +14,8 @@ ghost use Rattle.check_steps.specs.Check.{IsAccepted, IsRejected, IsMatchOfFiles
 ghost use Rattle.run_steps.specs.Make.{HoldsPair, NamesPair, WriteFiles};
 ghost use Rattle.run_steps.specs.Match.{HasNoMatch, IsAskedToMatch, IsMatchFound, IsProved, IsSpentOnTwo, NamesAccount};
 ghost use Rattle.check_steps.specs.Ends.{EndsEarly, IsAbsent};
-ghost use Rattle.run_steps.specs.Outcomes.{FollowsWords, IsAskedOf, IsDecided, IsOfMatch, IsOfTrial, IsRight, IsSettled};
+ghost use Rattle.run_steps.specs.Outcomes.{FollowsWords, IsAskedOf, IsDecided, IsOfMatch, IsOfTrial, IsRight};
+ghost use Rattle.run_steps.specs.Outcomes.{IsSettled};
 ghost use Rattle.run_steps.specs.Outcomes.{IsSoundAnswer, IsSpentOn, IsTold, Leaves, LeavesFiles, MayBeCut};
 ghost use Rattle.run_steps.specs.Restore.{AsChecked, HoldsRestored, IsRestorable, NamesRestored};
 ghost use Rattle.run_steps.specs.Report.{IsReport};

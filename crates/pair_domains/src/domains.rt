@@ -1,10 +1,13 @@
 //! The pairs that are assigned and deleted, in order.
 
-ghost use Rattle.std.specs.Prelude.{◌≡◌, ◌≢◌, ◌+◌, ◌*◌, ◌^◌, ◌<◌, ◌≤◌, [], ◌∷◌, ◌++◌, AllPairs, Contains, IfNone, IfOk, IfSome, IsTrue, None, OnErr, OnOk, Option, false, length, replicate, slice_index_or, take};
+ghost use Rattle.std.specs.Prelude.{◌≡◌, ◌≢◌, ◌+◌, ◌*◌, ◌^◌, ◌<◌, ◌≤◌, [], ◌∷◌, ◌++◌, AllPairs, Contains, IfNone, IfOk};
+ghost use Rattle.std.specs.Prelude.{IfSome, IsTrue, None, OnErr, OnOk, Option, false, length, replicate};
+ghost use Rattle.std.specs.Prelude.{slice_index_or, take};
 ghost use Rattle.circuits.specs.declared.port.Pair.{Pair as AnyPair};
 ghost use Rattle.net_core.specs.declared.graphs.Side.TheVariants.{First, Second};
 ghost use Rattle.pair_domains.specs.Kept.{TellsHeld, TellsPlace};
-ghost use Rattle.pair_domains.specs.Trails.{AreDomains, IsDeleted, IsFreePort, IsOpen, IsPairOf, gone_in, held_in, ports_of};
+ghost use Rattle.pair_domains.specs.Trails.{AreDomains, IsDeleted, IsFreePort, IsOpen, IsPairOf, gone_in, held_in};
+ghost use Rattle.pair_domains.specs.Trails.{ports_of};
 ghost use Rattle.account_core.specs.Held.{AreApart};
 
 use crate::entry::{Cause, Entry, Fate, Reason};

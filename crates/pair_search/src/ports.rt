@@ -1,6 +1,7 @@
 //! The ways that a port has left.
 
-ghost use Rattle.std.specs.Prelude.{◌≡◌, ◌<◌, ◌≤◌, ◌*◌, ◌^◌, ℕ, ◌⊎◌, Contains, IfNone, IfOk, IfSome, IsTrue, List, OnOk, false};
+ghost use Rattle.std.specs.Prelude.{◌≡◌, ◌<◌, ◌≤◌, ◌*◌, ◌^◌, ℕ, ◌⊎◌, Contains, IfNone, IfOk, IfSome, IsTrue, List};
+ghost use Rattle.std.specs.Prelude.{OnOk, false};
 ghost use Rattle.account_core.specs.declared.step.Ban.{Ban as AnyBan};
 ghost use Rattle.net_core.specs.declared.graphs.Side.TheVariants.{First, Second};
 ghost use Rattle.ban_book.specs.Ways.{nth_way};

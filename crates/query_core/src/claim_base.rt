@@ -19,9 +19,9 @@ use net_core::{Graph, Graphs};
 use std::alloc::{AllocError, Global};
 use std::marker::Model;
 
-/// The clauses of a claim's query. Those of the gates that the claim's output reaches are told, and those of other gates only once
-/// it is made whole: till then the clause of variable 0 stands in their place. So a claim costs by its output's cone, and not
-/// by the circuit.
+/// The clauses of a claim's query. Those of the gates that the claim's output reaches are told, and those of other
+/// gates only once it is made whole: till then the clause of variable 0 stands in their place. So a claim costs by its
+/// output's cone, and not by the circuit.
 pub struct ClaimBase<'a> {
     graphs: &'a Graphs<'a>,
     query: Query,
@@ -43,7 +43,8 @@ impl<'a> Model for ClaimBase<'a> {
     ghost invariant = { λ a. IsTelling a.graphs.now a.query a.left a.right a.cone.gates.items a.cone.marked a.whole };
 }
 
-// By hand, and so one call wherever a value ends: a derived drop is expanded there, field by field, and makes proofs long.
+// By hand, and so one call wherever a value ends: a derived drop is expanded there, field by field, and makes proofs
+// long.
 impl Drop for ClaimBase<'_> {
     fn drop(self) {
         let ClaimBase {
@@ -65,7 +66,8 @@ struct MarkedCone {
 }
 
 impl<'a> ClaimBase<'a> {
-    /// The clauses of the query of a claim of two circuits. To find the output's cone takes some steps for each of its gates.
+    /// The clauses of the query of a claim of two circuits. To find the output's cone takes some steps for each of its
+    /// gates.
     ///
     /// # Errors
     ///
@@ -85,8 +87,8 @@ impl<'a> ClaimBase<'a> {
         ClaimBase::over(alloc, graphs, claim, cone)
     }
 
-    /// The clauses of the query of another claim of the same circuits. Where it is of the same output, it takes a step for each
-    /// gate of its cone; else it costs as much as a new one.
+    /// The clauses of the query of another claim of the same circuits. Where it is of the same output, it takes a step
+    /// for each gate of its cone; else it costs as much as a new one.
     ///
     /// # Errors
     ///

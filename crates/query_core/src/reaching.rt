@@ -48,8 +48,8 @@ pub(crate) fn reaches_in_cone(
     Ok(marked)
 }
 
-/// Whether each of these gates, which a claim's output reaches, reaches an input of the claim's shape: these get one value on the
-/// left and the other one on the right. What is said of the other gates is nothing.
+/// Whether each of these gates, which a claim's output reaches, reaches an input of the claim's shape: these get one
+/// value on the left and the other one on the right. What is said of the other gates is nothing.
 pub(crate) fn reaches_of_claim(
     alloc: Global,
     claim: &Claim,

@@ -95,8 +95,8 @@ pub(crate) fn cone_variables(
     Ok(Variables::Shared { first, own, marked })
 }
 
-/// The variables of the right circuit's gates in a claim's query, right for these, which the claim's output reaches. It takes a
-/// step for each of these, whatever else the circuit has.
+/// The variables of the right circuit's gates in a claim's query, right for these, which the claim's output reaches. It
+/// takes a step for each of these, whatever else the circuit has.
 pub(crate) fn claim_variables(
     alloc: Global,
     graphs: &Graphs<'_>,

@@ -1,10 +1,12 @@
 //! The gates of a circuit on 512 vectors, and on these with an input inverted.
 
-ghost use Rattle.std.specs.Prelude.{◌≡◌, ◌≢◌, ◌+◌, ◌<◌, ◌≤◌, ◌||◌, [], ℕ, Bool, false, not, List, length, slice_index_or};
+ghost use Rattle.std.specs.Prelude.{◌≡◌, ◌≢◌, ◌+◌, ◌<◌, ◌≤◌, ◌||◌, [], ℕ, Bool, false, not, List, length};
+ghost use Rattle.std.specs.Prelude.{slice_index_or};
 ghost use Rattle.circuits.specs.Literals.{bit, signal_of};
 ghost use Rattle.circuits.specs.Netlists.{signals_of};
 ghost use Rattle.claim_core.specs.Claims.{with_input};
-ghost use Rattle.sim_signature.specs.Blocks.{AreSimulated, IsEvaluated, IsFlipped, IsRunOrKept, IsValuation, bit_of_gate, block_after as the_block_after, block_bit, pattern};
+ghost use Rattle.sim_signature.specs.Blocks.{AreSimulated, IsEvaluated, IsFlipped, IsRunOrKept, IsValuation};
+ghost use Rattle.sim_signature.specs.Blocks.{bit_of_gate, block_after as the_block_after, block_bit, pattern};
 
 use net_core::{Gate, Graph, put_inputs};
 use std::simd::prelude::*;

@@ -1,6 +1,7 @@
 //! What outputs are on 512 vectors and with an input inverted, and the claims that these vectors break.
 
-ghost use Rattle.std.specs.Prelude.{◌≡◌, ◌<◌, ◌≤◌, ◌+◌, ◌↔◌, ℕ, Bool, List, true, false, length, IfOk, IfSome, IsSome, IsTrue};
+ghost use Rattle.std.specs.Prelude.{◌≡◌, ◌<◌, ◌≤◌, ◌+◌, ◌↔◌, ℕ, Bool, List, true, false, length, IfOk, IfSome, IsSome};
+ghost use Rattle.std.specs.Prelude.{IsTrue};
 ghost use Rattle.circuits.specs.Literals.{bit};
 ghost use Rattle.claim_core.specs.Claims.{BreaksShape, HasValues, IsPlaced, output_bit};
 ghost use Rattle.sim_signature.specs.Changes.{AreEnds, IsChange, changed};

@@ -6,7 +6,8 @@ ghost use Rattle.circuits.specs.Netlists.{signals_of};
 ghost use Rattle.claim_core.specs.Claims.{output_bit};
 ghost use Rattle.sim_signature.specs.declared.change.Change.TheVariants.{Inverted as inverted, Nothing as nothing};
 ghost use Rattle.sim_signature.specs.Changes.{changed};
-ghost use Rattle.sim_signature.specs.Blocks.{IsValuation, bit_of_literal, block_after as the_block_after, block_bit, pattern};
+ghost use Rattle.sim_signature.specs.Blocks.{IsValuation, bit_of_literal, block_after as the_block_after, block_bit};
+ghost use Rattle.sim_signature.specs.Blocks.{pattern};
 
 use crate::change::Change;
 use crate::gates::{block_after, evaluate, evaluate_inverted};

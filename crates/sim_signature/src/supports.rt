@@ -1,6 +1,7 @@
 //! Which inputs an output reaches through gates.
 
-ghost use Rattle.std.specs.Prelude.{◌≡◌, ◌+◌, ◌/◌, ◌%◌, ◌*◌, ◌^◌, ◌<◌, ◌==◌, [], ◌∷◌, ◌++◌, ℕ, All, IfOk, OnOk, cond, length, map, slice_index_or};
+ghost use Rattle.std.specs.Prelude.{◌≡◌, ◌+◌, ◌/◌, ◌%◌, ◌*◌, ◌^◌, ◌<◌, ◌==◌, [], ◌∷◌, ◌++◌, ℕ, All, IfOk, OnOk, cond};
+ghost use Rattle.std.specs.Prelude.{length, map, slice_index_or};
 ghost use Rattle.std.specs.List.{range_with_len};
 ghost use Rattle.circuits.specs.Literals.{signal_of};
 ghost use Rattle.net_core.specs.Graph.{AreInOrder};

@@ -1,6 +1,7 @@
 //! Refutation of a query by splitting on one input after the other.
 
-ghost use Rattle.std.specs.Prelude.{◌≡◌, ◌+◌, ◌<◌, ◌≤◌, ◌++◌, ◌∷◌, [], List, false, true, None, IfOk, IfErr, IfSome, IfNone, OnOk, length, map};
+ghost use Rattle.std.specs.Prelude.{◌≡◌, ◌+◌, ◌<◌, ◌≤◌, ◌++◌, ◌∷◌, [], List, false, true, None, IfOk, IfErr, IfSome};
+ghost use Rattle.std.specs.Prelude.{IfNone, OnOk, length, map};
 ghost use Rattle.cnf_core.specs.declared.literal.SatLit.{SatLit as AnyLiteral};
 ghost use Rattle.cnf_core.specs.Clauses.{opposite};
 ghost use Rattle.cnf_core.specs.Derivations.{IsRefutation, hint_fault, has_all};
@@ -11,7 +12,8 @@ ghost use Rattle.claim_core.specs.Queries.{IsQuery, IsUnmet, bits_in};
 ghost use Rattle.learn_solver.specs.Searches.{last_line};
 ghost use Rattle.learn_solver.specs.Solvers.{IsAsking, IsExtended, IsStopped as IsHalted};
 ghost use Rattle.fact_tests.specs.Asking.{Decides};
-ghost use Rattle.table_oracle.specs.Splits.{AllExcluded, IsBeginning, IsClosed, IsCovering, IsExcluded, IsNew, IsSplitting, clauses_in, excluding, solving_of};
+ghost use Rattle.table_oracle.specs.Splits.{AllExcluded, IsBeginning, IsClosed, IsCovering, IsExcluded, IsNew};
+ghost use Rattle.table_oracle.specs.Splits.{IsSplitting, clauses_in, excluding, solving_of};
 
 use crate::clauses::has_all;
 use crate::vectors::vector_of;

@@ -1,8 +1,11 @@
 //! The trail.
 
-ghost use Rattle.std.specs.Prelude.{◌≡◌, ◌≢◌, ◌+◌, ◌^◌, ◌<◌, ◌≤◌, ◌++◌, ◌∷◌, [], None, Some, IfOk, IfSome, IfNone, All, length, take, drop, filter, min, replicate, nat_le, ◌==◌, is_none, if◌then◌else◌, slice_set, vec_len, vec_capacity};
+ghost use Rattle.std.specs.Prelude.{◌≡◌, ◌≢◌, ◌+◌, ◌^◌, ◌<◌, ◌≤◌, ◌++◌, ◌∷◌, [], None, Some, IfOk, IfSome, IfNone, All};
+ghost use Rattle.std.specs.Prelude.{length, take, drop, filter, min, replicate, nat_le, ◌==◌, is_none, if◌then◌else◌};
+ghost use Rattle.std.specs.Prelude.{slice_set, vec_len, vec_capacity};
 ghost use Rattle.cnf_core.specs.Clauses.{variable_of};
-ghost use Rattle.trail_core.specs.Trails.{IsTrail, IsPlace, IsFree, IsCutAt, IsBack, entry_at, literals, value_in, with_assigned, with_decision};
+ghost use Rattle.trail_core.specs.Trails.{IsTrail, IsPlace, IsFree, IsCutAt, IsBack, entry_at, literals, value_in};
+ghost use Rattle.trail_core.specs.Trails.{with_assigned, with_decision};
 ghost use Rattle.trail_core.specs.Places.{IsUnset};
 
 use crate::assigned::Assigned;

@@ -1,6 +1,7 @@
 //! Vectors on which an output differs from its partner.
 
-ghost use Rattle.std.specs.Prelude.{◌≡◌, ◌^◌, ◌<◌, ◌↔◌, [], ◌∷◌, ◌++◌, All, Contains, IfOk, IfSome, IsTrue, List, length, map, remove};
+ghost use Rattle.std.specs.Prelude.{◌≡◌, ◌^◌, ◌<◌, ◌↔◌, [], ◌∷◌, ◌++◌, All, Contains, IfOk, IfSome, IsTrue, List};
+ghost use Rattle.std.specs.Prelude.{length, map, remove};
 ghost use Rattle.circuits.specs.declared.port.Pair.{Pair as AnyPair};
 ghost use Rattle.circuits.specs.declared.port.PortKind.TheVariants.{Input};
 ghost use Rattle.circuits.specs.Matches.{HavePorts};
@@ -8,7 +9,8 @@ ghost use Rattle.claim_core.specs.Images.{Extends};
 ghost use Rattle.account_core.specs.Ports.{IsKnown};
 ghost use Rattle.ban_book.specs.Covering.{Covers};
 ghost use Rattle.word_sim.specs.ThreeValues.{of_bit};
-ghost use Rattle.vector_bans.specs.Differences.{pair_from, pairs_from, AreShown, IsLeftOut, IsShown, IsWrong, MayTry, Differs};
+ghost use Rattle.vector_bans.specs.Differences.{pair_from, pairs_from, AreShown, IsLeftOut, IsShown, IsWrong, MayTry};
+ghost use Rattle.vector_bans.specs.Differences.{Differs};
 ghost use Rattle.account_core.specs.Held.{IsWhole};
 ghost use Rattle.fact_bans.specs.Asking.{AreSame, HoldsBy, MayHoldBy, loans};
 

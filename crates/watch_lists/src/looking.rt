@@ -6,7 +6,8 @@ ghost use Rattle.cnf_core.specs.Clauses.{clause_at, variable_of, AreKnown};
 ghost use Rattle.cnf_core.specs.Derivations.{effect_of, is_false, is_true};
 ghost use Rattle.trail_core.specs.Trails.{literals};
 ghost use Rattle.watch_lists.specs.Looks.{IsBeside, IsHalfFalse, IsIn, IsLook, IsOut, IsTarget};
-ghost use Rattle.watch_lists.specs.Feet.{ArePair, IsAtTop, IsElsewhere, IsFallen, IsFoot, IsMade, IsNotAtTop, IsOpen, IsReached, IsSettled};
+ghost use Rattle.watch_lists.specs.Feet.{ArePair, IsAtTop, IsElsewhere, IsFallen, IsFoot, IsMade, IsNotAtTop, IsOpen};
+ghost use Rattle.watch_lists.specs.Feet.{IsReached, IsSettled};
 ghost use Rattle.watch_lists.specs.Watched.{IsRooted};
 
 use crate::arena::Arena;

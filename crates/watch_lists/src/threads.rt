@@ -1,7 +1,9 @@
 //! The lists of watches, threaded through one arena.
 
-ghost use Rattle.std.specs.Prelude.{◌≡◌, ◌≢◌, ◌+◌, ◌-◌, ◌*◌, ◌/◌, ◌%◌, ◌^◌, ◌<◌, ◌≤◌, ℕ, [], ◌++◌, ◌∷◌, length, slice_set, vec_len, vec_capacity};
-ghost use Rattle.watch_lists.specs.Threads.{AreAlike, ArePut, AreThreaded, IsAttached, IsIn, head_at, links, literal_at, partner, watch_at};
+ghost use Rattle.std.specs.Prelude.{◌≡◌, ◌≢◌, ◌+◌, ◌-◌, ◌*◌, ◌/◌, ◌%◌, ◌^◌, ◌<◌, ◌≤◌, ℕ, [], ◌++◌, ◌∷◌, length};
+ghost use Rattle.std.specs.Prelude.{slice_set, vec_len, vec_capacity};
+ghost use Rattle.watch_lists.specs.Threads.{AreAlike, ArePut, AreThreaded, IsAttached, IsIn, head_at, links};
+ghost use Rattle.watch_lists.specs.Threads.{literal_at, partner, watch_at};
 
 use cnf_core::SatLit;
 use std::alloc::{AllocError, Global};

@@ -1,13 +1,15 @@
 //! The watches of clauses.
 
-ghost use Rattle.std.specs.Prelude.{ℕ, ◌≡◌, ◌≢◌, ◌+◌, ◌-◌, ◌*◌, ◌^◌, ◌<◌, ◌≤◌, ◌++◌, ◌∷◌, [], false, All, IfOk, IfSome, IfNone, OnOk, OnErr, length, replicate};
+ghost use Rattle.std.specs.Prelude.{ℕ, ◌≡◌, ◌≢◌, ◌+◌, ◌-◌, ◌*◌, ◌^◌, ◌<◌, ◌≤◌, ◌++◌, ◌∷◌, [], false, All, IfOk, IfSome};
+ghost use Rattle.std.specs.Prelude.{IfNone, OnOk, OnErr, length, replicate};
 ghost use Rattle.cnf_core.specs.Clauses.{clause_at, opposite, AreKnown};
 ghost use Rattle.cnf_core.specs.Derivations.{is_empty};
 ghost use Rattle.trail_core.specs.Trails.{entry_at, literals};
 ghost use Rattle.watch_lists.specs.Propagations.{AreImplied, IsConflict, IsGrown};
 ghost use Rattle.watch_lists.specs.Feet.{IsReached};
 ghost use Rattle.watch_lists.specs.Threads.{IsAttached, links, no_head};
-ghost use Rattle.watch_lists.specs.Watched.{AreQuiet, Fits, IsCovered, IsPresent, IsReady, IsRewatched, IsWalking, StayAttached, with_clause};
+ghost use Rattle.watch_lists.specs.Watched.{AreQuiet, Fits, IsCovered, IsPresent, IsReady, IsRewatched, IsWalking};
+ghost use Rattle.watch_lists.specs.Watched.{StayAttached, with_clause};
 
 use crate::arena::Arena;
 use crate::looking::{Foot, find_foot, target};

@@ -10,8 +10,8 @@ use net_core::Graphs;
 /// is None where that doesn't fit 64 bits: then no budget is known to be enough.
 ///
 /// Of circuits of `n` inputs and `m` outputs, which have `g` gates in all, it is
-/// `3^(n + 2 g + 1) * (4 m n^2 + 4 m^2 (2 n)^n)`; of circuits that haven't as many ports it is 0, since nothing is asked
-/// of them.
+/// `3^(n + 2 g + 1) * (4 m n^2 + 4 m^2 (2 n)^n)`; of circuits that haven't as many ports it is 0, since nothing is
+/// asked of them.
 pub fn enough(graphs: &Graphs<'_>) -> Option<u64>
     ensures { SomeIff result (enough graphs.now < 2 ^ 64) (enough graphs.now) }
 {
