@@ -12,7 +12,8 @@ use Rattle.account_check.specs.declared.verdict.Verdict.TheVariants as verdict
 use Rattle.check_steps.specs.Lines.{HasMatching}
 use Rattle.check_steps.specs.declared.outcome.Which.TheVariants.{Account}
 use Rattle.check_steps.specs.declared.outcome.Outcome.{Outcome}
-use Rattle.check_steps.specs.declared.outcome.Outcome.TheVariants.{AcceptedMatch, AcceptedRefusal, Rejected, Matched, NoMatching, Usage, Absent, Informed, Made, Restored}
+use Rattle.check_steps.specs.declared.outcome.Outcome.TheVariants.{AcceptedMatch, AcceptedRefusal, Rejected, Matched, NoMatching, Usage, Absent, Informed, Made}
+use Rattle.check_steps.specs.declared.outcome.Outcome.TheVariants.{Restored}
 use Rattle.check_steps.specs.declared.outcome.Outcome.TheVariants.{Tried, ReadFault, WriteFault}
 use Rattle.check_steps.specs.declared.files.ReadStop.{ReadStop}
 use Rattle.check_steps.specs.declared.files.ReadStop.TheVariants as stop

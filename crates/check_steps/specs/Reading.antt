@@ -14,7 +14,8 @@ use Rattle.check_steps.specs.Ends.{EndsAt}
 use Rattle.check_steps.specs.Lines.{IsOneLine}
 use Rattle.check_steps.specs.declared.outcome.Which.{Which}
 use Rattle.check_steps.specs.declared.outcome.Outcome.{Outcome}
-use Rattle.check_steps.specs.declared.outcome.Outcome.TheVariants.{AcceptedRefusal, NoMatching, Usage, Malformed, Made, Restored, Tried, ReadFault, WriteFault, Memory}
+use Rattle.check_steps.specs.declared.outcome.Outcome.TheVariants.{AcceptedRefusal, NoMatching, Usage, Malformed, Made, Restored, Tried, ReadFault, WriteFault}
+use Rattle.check_steps.specs.declared.outcome.Outcome.TheVariants.{Memory}
 
 -- an outcome that ends a run early: it has a line, and is no answer and none of the words alone
 pub record IsEarly (outcome : Outcome) : Type 0 where

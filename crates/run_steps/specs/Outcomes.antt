@@ -13,7 +13,8 @@ use Rattle.run_steps.specs.Restore.{AsChecked, HoldsPartOfRestored, HoldsRestore
 use Rattle.run_steps.specs.Trial.{IsSpentOnPair, IsSpentOnPairOf, IsTried}
 use Rattle.check_steps.specs.Words.{AskForPair, AsksInfo, AskNothing, AsksTrial, ReadFiles}
 use Rattle.check_steps.specs.declared.outcome.Outcome.{Outcome}
-use Rattle.check_steps.specs.declared.outcome.Outcome.TheVariants.{AcceptedMatch, AcceptedRefusal, Rejected, Matched, NoMatching, Spent, Usage, Absent, TooLarge, Malformed, Informed, Made, Restored, Tried, ReadFault, WriteFault, Memory}
+use Rattle.check_steps.specs.declared.outcome.Outcome.TheVariants.{AcceptedMatch, AcceptedRefusal, Rejected, Matched, NoMatching, Spent, Usage, Absent}
+use Rattle.check_steps.specs.declared.outcome.Outcome.TheVariants.{TooLarge, Malformed, Informed, Made, Restored, Tried, ReadFault, WriteFault, Memory}
 use Rattle.check_steps.specs.Ends.{EndsEarly, IsAbsent}
 
 -- The words ask for what is known of a file that is a netlist.

@@ -1,6 +1,7 @@
 -- Trails: assigned literals in order, with levels and reasons (the implication graph of Marques-Silva and Sakallah,
 -- GRASP, 1999; the trail of Eén and Sörensson, MiniSat, 2003).
-use Rattle.std.specs.Prelude.{◌≡◌, ◌≢◌, ℕ, ◌+◌, ◌-◌, ◌<◌, ◌≤◌, ◌++◌, ◌∷◌, [], Bool, true, false, List, length, map, take, filter, min, nat_le, Option, None, Some, count_by, is_none, slice_index_or, if◌then◌else◌}
+use Rattle.std.specs.Prelude.{◌≡◌, ◌≢◌, ℕ, ◌+◌, ◌-◌, ◌<◌, ◌≤◌, ◌++◌, ◌∷◌, [], Bool, true, false, List, length, map, take, filter, min, nat_le, Option, None}
+use Rattle.std.specs.Prelude.{Some, count_by, is_none, slice_index_or, if◌then◌else◌}
 use Rattle.cnf_core.specs.declared.literal.SatLit.{SatLit}
 use Rattle.cnf_core.specs.Clauses.{variable_of}
 use Rattle.cnf_core.specs.Derivations.{is_true, is_false}
