@@ -1,7 +1,9 @@
 -- What an exchange of two inputs changes near them, gate by gate.
-use Rattle.std.proofs.Common.{◌≡◌, ◌≢◌, ◌⊎◌, ℕ, zero, suc, ◌+◌, ◌-◌, ◌*◌, ◌/◌, ◌%◌, ◌^◌, ◌==◌, ◌<◌, ◌≤◌, ◌&&◌, Bool, true, false, not, List, [], ◌∷◌, ◌++◌, length, map, All, Option, None, Some, bit_and, get_or, max, min, set, refl, sym, subst, ap, ◌∙◌, inl, inr, arith}
+use Rattle.std.proofs.Common.{◌≡◌, ◌≢◌, ◌⊎◌, ℕ, zero, suc, ◌+◌, ◌-◌, ◌*◌, ◌/◌, ◌%◌, ◌^◌, ◌==◌, ◌<◌, ◌≤◌, ◌&&◌, Bool, true, false, not, List, [], ◌∷◌, ◌++◌}
+use Rattle.std.proofs.Common.{length, map, All, Option, None, Some, bit_and, get_or, max, min, set, refl, sym, subst, ap, ◌∙◌, inl, inr, arith}
 use Rattle.std.proofs.lemmas.Bool.{cases_eq, cases_lt}
-use Rattle.std.proofs.lemmas.List.{get_or_append_left, get_or_default, get_or_push, get_or-map, get_or-set_other, get_or-set_same, length-map, length-set, length_push}
+use Rattle.std.proofs.lemmas.List.{get_or_append_left, get_or_default, get_or_push, get_or-map, get_or-set_other, get_or-set_same, length-map, length-set}
+use Rattle.std.proofs.lemmas.List.{length_push}
 use Rattle.std.proofs.lemmas.List.Elements.{All-push}
 use Rattle.std.proofs.Math.Nat.{pow-le-pow_right}
 use Rattle.circuits.specs.declared.netlist.Lit.{Lit}
@@ -21,7 +23,8 @@ use Rattle.fact_tests.specs.declared.local_exchange.Changed.{Changed}
 use Rattle.fact_tests.specs.declared.local_exchange.Near.{Near}
 use Rattle.fact_tests.specs.declared.local_exchange.Went.{Went}
 use Rattle.fact_tests.specs.declared.local_exchange.Went.TheVariants.{Same, Differs, TooFar}
-use Rattle.fact_tests.specs.LocalExchanges.{AreSpans, GoesOver, HasMore, HasSides, IsChanged, IsCovered, IsGateOf, IsLane, IsLeaf, IsListed, IsListing, IsSpan, IsUnchanged, IsWent, IsWhole, Spreads, Tells, Tracks, Widens, first_listed, side, sides_of_bits}
+use Rattle.fact_tests.specs.LocalExchanges.{AreSpans, GoesOver, HasMore, HasSides, IsChanged, IsCovered, IsGateOf, IsLane, IsLeaf, IsListed, IsListing, IsSpan}
+use Rattle.fact_tests.specs.LocalExchanges.{IsUnchanged, IsWent, IsWhole, Spreads, Tells, Tracks, Widens, first_listed, side, sides_of_bits}
 use Rattle.fact_tests.specs.Outputs.{IsAlike}
 use Rattle.fact_tests.proofs.ExchangeLemmas.{at_alike}
 

@@ -7,7 +7,8 @@ use Rattle.account_core.specs.Held.{AreHeld, IsWhole}
 use Rattle.pair_search.proofs.PivotLemmas.{held_known}
 use Rattle.match_search.proofs.CompareLemmas.{shown_match}
 use Rattle.match_search.proofs.SearchLemmas.{may_ask}
-use Rattle.match_search.proofs.StepLemmas.{goes_asked, may_go_on, same_asker, steps_cut, steps_fail, steps_ok, steps_stop, steps_unkept, way_bans, way_start, way_tried}
+use Rattle.match_search.proofs.StepLemmas.{goes_asked, may_go_on, same_asker, steps_cut, steps_fail, steps_ok, steps_stop, steps_unkept, way_bans, way_start}
+use Rattle.match_search.proofs.StepLemmas.{way_tried}
 use Rattle.match_search.proofs.candidate.compare_whole.Goals as goal
 
 pub matching_of-requires : goal.matching_of-requires
