@@ -95,6 +95,7 @@ fn search_dense<L: Charge, W: Watch>(
         }
         Err(Stop::Spent(_)) => {
             let found = solver.into_log();
+            // the solver's lines are one more than the budget has left, so that charging them stops before their end
             let _lines = charge_told(alloc, dense, next, &found.lines, ledger)?;
             unreachable!()
         }

@@ -8,16 +8,17 @@ use std::alloc::{AllocError, Global};
 /// The most generations. With half as many adders of 128 bits aren't guessed, and twice as many gain nothing.
 const MOST_GENERATIONS: u64 = 300;
 
-/// How many words of gates may be computed for them, a fifth of a second's (with half of that adders of 128 bits get
-/// too few generations), and how many generations there are at least, where two or 32 do as well for ten wide circuits.
+/// How many words of gates may be computed for them, a fifth of a second's. With half of that adders of 128 bits get
+/// too few generations.
 const MOST_WORDS: u64 = 1 << 28;
 
+/// How many generations there are at least, whatever they take. Two or 32 do as well for ten wide circuits.
 const FEWEST_GENERATIONS: u64 = 8;
 
-/// How many generations an input adds, since each sets few right, and how many there are beside these: without the
-/// latter `content_match8x8` takes 0.7 s instead of 0.2.
+/// How many generations an input adds, since each sets few right.
 const GENERATIONS_EACH: u64 = 2;
 
+/// How many there are beside these. Without them `content_match8x8` takes 0.7 s instead of 0.2.
 const FIRST_GENERATIONS: u64 = 40;
 
 /// How many of 256 vectors have descendants. They stay too, as the first ones: one of the four words, so that the other

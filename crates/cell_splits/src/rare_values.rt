@@ -18,11 +18,11 @@ const FEW_VECTORS: u32 = 8;
 /// pairs.
 const MOST_WALKS: usize = 8;
 
-/// How many steps an input adds to a walk, and how many there are beside these. A drawn vector has half of the inputs
-/// of an AND wrong, and a step sets one right, so that this is four times what that takes; what is beside it is for few
-/// inputs, and wasn't tuned.
+/// How many steps an input adds to a walk. A drawn vector has half of the inputs of an AND wrong, and a step sets one
+/// right, so that this is four times what that takes.
 const STEPS_EACH: u64 = 2;
 
+/// How many there are beside these, for circuits of few inputs. It wasn't tuned: such walks are short with any number.
 const FIRST_STEPS: u64 = 40;
 
 /// How many words of gates a walk may compute, about a thirtieth of a second's: all walks then take no more than

@@ -11,10 +11,12 @@ use std::alloc::{AllocError, Global};
 /// bans.
 const MOST_WORDS: u64 = 1 << 28;
 
-/// The most blocks. Claims of two inputs break more often than those of one.
+/// The most blocks, 4,096 vectors. Claims of two inputs break more often than those of one. With fewer blocks more
+/// claims are asked that fail; each block takes as long as the first one, and shows less.
 const MOST_BLOCKS: u64 = 16;
 
-/// How many pairs of inputs are kept at most, over all outputs: 64 MiB.
+/// How many pairs of inputs are kept at most, over all outputs: 64 MiB, as many as 128 outputs have that 512 inputs
+/// reach. Of a circuit with more nothing is seen, and nothing asked; twice as many take twice the memory.
 const MOST_PAIRS: u64 = 1 << 24;
 
 /// Which claims of two inputs vectors break, by how the inputs change.

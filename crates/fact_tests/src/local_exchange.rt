@@ -18,10 +18,13 @@ use word_sim::alternating;
 const MOST_LEAVES: usize = 6;
 
 /// How many signals that may differ are listed at most. Few gates lie between inputs that are side by side in the
-/// circuit, and each is looked up in this list.
+/// circuit, and both operands of each gate are looked up in this list: with more signals that takes longer, mostly for
+/// exchanges of which nothing is shown in the end, and with fewer more exchanges are asked.
 const MOST_CHANGED: usize = 32;
 
 /// How many gates are gone over for one exchange. Where that isn't enough nothing is shown, and the exchange is asked.
+/// With fewer that is so of inputs whose readers stand farther apart in the netlist; this many take some 65,000 steps at
+/// most, which is little beside a question, and more would be spent on inputs that are far from each other.
 const MOST_GATES: u32 = 1024;
 
 /// A signal's bits where the two inputs have a pair of bits, and where they have the opposite one: a bit for each way

@@ -68,6 +68,7 @@ fn add_pairs(
         (ListsPairs (arity output.now) (function output.now)
         (input_at (arity output.now) support.now (place + 1)) 0 pairs.new) }
 {
+    // contracts alone read the output
     let _ = output;
     for other in place + 1..support.len() {
         let sym = sym_of(&sorted.classes, sorted.places[place], sorted.places[other]);

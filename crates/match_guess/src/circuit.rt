@@ -12,7 +12,9 @@ use std::alloc::{AllocError, Global};
 /// of all vectors is exact, and splits most.
 const MOST_EXACT: u64 = 1 << 27;
 
-/// How many words of gates may be computed so that drawn vectors are counted. More vectors tell more literals apart.
+/// How many words of gates may be computed so that drawn vectors are counted: about a tenth of a second. With a fourth
+/// of them the counts of two literals have to be twice as far apart, as shares of the vectors, to tell these apart;
+/// with four times as many large circuits take four times as long before the first guess.
 const MOST_DRAWN: u64 = 1 << 26;
 
 /// The most blocks of 256 vectors that are drawn, 65,536 vectors. Influences below a thousandth aren't seen on them,

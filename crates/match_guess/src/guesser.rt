@@ -43,10 +43,11 @@ const MOST_STATES: u32 = 100_000;
 /// which isn't proved in ten seconds.
 const MOST_RESPONSES: u64 = 1 << 24;
 
-/// Up to how many words of gates are computed for it at once, and of how many inputs, which bounds the memory to some
-/// twenty megabytes.
+/// Up to how many words of gates are computed for it at once. Together with the next number that bounds the memory to
+/// some twenty megabytes; where it is more, inputs are paired by draws.
 const MOST_COMPARED: u64 = 1 << 21;
 
+/// Of how many inputs: what each shares with each one of the other circuit is a number of eight bytes, 8 MiB in all.
 const MOST_INPUTS: u32 = 1 << 10;
 
 /// How many literals are tried with the one whose sign is to decide all others. Those of a majority or a sorter all

@@ -22,11 +22,12 @@ const MOST_ROUNDS: u32 = 100_000;
 /// longer.
 const MANY_ASSIGNMENTS: u32 = 8;
 
-/// Under how many more where these told nothing, one turn, and on how many blocks of 256 vectors each. Deviations grow
-/// by the square root, so that sixteen times the vectors show influences a fourth as large. Without these the minimum
-/// and maximum of 16 bits takes two seconds longer; a fourth of the blocks does as well for 29 pairs.
+/// Under how many more where these told nothing: one turn. Without these the minimum and maximum of 16 bits takes two
+/// seconds longer.
 const FEW_ASSIGNMENTS: u32 = 4;
 
+/// On how many blocks of 256 vectors each of them. Deviations grow by the square root, so that sixteen times the
+/// vectors show influences a fourth as large; a fourth of the blocks does as well for 29 pairs.
 const MANY_BLOCKS: u64 = 16;
 
 /// How often in a round assignments of inputs whose signs are known may tell nothing. Of inputs that are alike, as

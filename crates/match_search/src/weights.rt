@@ -13,6 +13,10 @@ const FIRST_STEP: u64 = 1 << 10;
 /// divides what it adds by 0.95. No other number was measured in this search.
 const GROWTH: u64 = 16;
 
+/// What part of a conflict each port has as its weight from the first, a tenth. With a fiftieth a near miss of a funnel
+/// shifter took three times as many conflicts; with more, conflicts decide less beside the number of ways.
+const FIRST_PART: u64 = 10;
+
 /// What it adds at most: then all weights are made smaller, so that their sums stay far below 2^64.
 const MOST_STEP: u64 = 1 << 40;
 
@@ -60,15 +64,15 @@ impl Weights {
         }
     }
 
-    /// The weight of a port, with a tenth of a conflict for each, so that among ports that were in none the number of
-    /// ways decides. With a fiftieth a near miss of a funnel shifter took three times as many conflicts.
+    /// The weight of a port, with a part of a conflict for each, so that among ports that were in none the number of
+    /// ways decides.
     pub(crate) fn of(&self, port: Port) -> u64 {
         let place = self.place(port.side, port.kind, port.number);
         let weight = match self.weights.get(place) {
             Some(weight) => *weight,
             None => 0,
         };
-        weight.saturating_add(self.step / 10)
+        weight.saturating_add(self.step / FIRST_PART)
     }
 
     // Raises the ports whose ways a step covers, those of one circuit alone: of the one that has fewer of them, since
