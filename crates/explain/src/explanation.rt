@@ -124,7 +124,8 @@ fn put_matched(words: &[String], text: &mut String) -> Result<(), ReadStop> {
     let account = TerminalText::name(asked.account);
     writeln!(
         text,
-        "npnp: `npnp restore {first} {second} {account} NEW` gives the names back: NEW is {second} behind the ports of {first}"
+        "npnp: `npnp restore {first} {second} {account} NEW` gives the names back: NEW is {second} \
+         behind the ports of {first}"
     )?;
     Ok(())
 }
