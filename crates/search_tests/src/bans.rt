@@ -35,7 +35,7 @@ fn two_bans(alloc: Global) -> Result<BanBook, AllocError> {
 }
 
 /// Pairs, and the number of the first of the two bans that is within them.
-const COVERED: &[(&[Pair], Option<u64>)] = &[
+static COVERED: [(&[Pair], Option<u64>); 4] = [
     (&[CROSSED], None),
     (&[BACK, CROSSED], Some(0)),
     (&[CROSSED, OWN], Some(1)),

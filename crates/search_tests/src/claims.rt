@@ -108,7 +108,7 @@ fn by_table(
 }
 
 /// Claims of an AND gate, each with a budget and with what a book says of it.
-const OF_AND_GATE: &[(Shape, u64, Outcome)] = &[
+static OF_AND_GATE: [(Shape, u64, Outcome); 7] = [
     // it rises with input 0: that is asked
     (Shape::Up(0), 0, Outcome::Spent(0)),
     (Shape::Up(0), 9, Outcome::Holds(1)),
@@ -136,7 +136,7 @@ fn decides_claims_of_an_and_gate(rt: HostRuntime) -> Result<(), Fail> {
 }
 
 /// Claims of the first of two circuits, each with a budget and with what the oracle that tries all vectors says of it.
-const CHARGED: &[(Sample, Sample, Shape, u64, Outcome)] = &[
+static CHARGED: [(Sample, Sample, Shape, u64, Outcome); 6] = [
     // four vectors, two values of the first input, and the empty line
     (AND, WIRE, Shape::Up(0), 7, Outcome::Holds(7)),
     (AND, WIRE, Shape::Up(0), 6, Outcome::Spent(6)),
@@ -170,7 +170,7 @@ fn charges_each_line(rt: HostRuntime) -> Result<(), Fail> {
 }
 
 /// Claims about three inputs, each with a mask of its inputs and with their values.
-const SHAPES: &[(Shape, u32, u32)] = &[
+static SHAPES: [(Shape, u32, u32); 8] = [
     (Shape::Up(0), 1, 0),
     (Shape::Down(1), 2, 2),
     (Shape::Up(2), 4, 0),

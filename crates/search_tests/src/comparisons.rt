@@ -80,7 +80,7 @@ fn and_with_or(alloc: Global, flip: bool, budget: u64) -> Result<Comparison, Fai
 }
 
 /// Whether all signs are inverted; with a budget, what a book says of an AND and an OR.
-const COMPARED: &[(bool, u64, Comparison)] = &[
+static COMPARED: [(bool, u64, Comparison); 3] = [
     (true, 0, Comparison::Spent(0)),
     (true, 99, Comparison::Same),
     (false, 99, Comparison::Differs),

@@ -35,7 +35,7 @@ fn guess_inverts(alloc: Global, first: Sample, second: Sample) -> Result<Option<
 }
 
 /// A circuit beside an AND, and whether the matching that is guessed inverts the output.
-const GUESSED: &[(Sample, Option<bool>)] = &[(OR, Some(true)), (XOR, None)];
+static GUESSED: [(Sample, Option<bool>); 2] = [(OR, Some(true)), (XOR, None)];
 
 #[test]
 fn guesses_an_and_as_an_or_alone(rt: HostRuntime) -> Result<(), Fail> {

@@ -256,7 +256,7 @@ const OTHER_TO_ONE: Pair = port_pair!(Input, 1, 0, false);
 const NO_INPUT: Pair = port_pair!(Input, 2, 0, false);
 
 /// Two circuits by name, the pairs that are assigned, and what refining comes to.
-const REFININGS: &[(&str, Sample, Sample, &[Pair], Outcome)] = &[
+static REFININGS: [(&str, Sample, Sample, &[Pair], Outcome); 7] = [
     // both ways of the output are deleted: the one output depends on its input, and the other one doesn't
     (
         "a constant, an input",
@@ -316,7 +316,7 @@ fn refines_small_circuits(rt: HostRuntime) -> Result<(), Fail> {
 
 /// Pairs of the ports of two ANDs whose outputs are paired, and what becomes of them: the output's other way clashes,
 /// and an input that is inverted would make the output fall where the other one rises.
-const FATES: &[(Pair, Fate)] = &[
+static FATES: [(Pair, Fate); 6] = [
     (OUTPUT, Fate::Left),
     (OUTPUT_NEGATED, Fate::Clashes(OUTPUT)),
     (ONE_TO_ONE, Fate::Left),

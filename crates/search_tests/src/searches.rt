@@ -188,7 +188,7 @@ fn found(alloc: Global, first: Sample, second: Sample) -> Result<(Answer, Answer
 }
 
 /// Two circuits by name, and what a search of them comes to.
-const SEARCHES: &[(&str, Sample, Sample, Answer)] = &[
+static SEARCHES: [(&str, Sample, Sample, Answer); 7] = [
     ("AND, OR", AND, OR, Answer::Match(8)),
     ("two outputs", AND_AND_INPUT, CROSSED, Answer::Match(16)),
     ("constants", ZERO, ONE, Answer::Match(0)),

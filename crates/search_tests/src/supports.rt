@@ -24,7 +24,7 @@ const CHOICE: Sample = Sample {
 };
 
 /// A circuit of one output; with a budget, how many claims `info` decides of it, and the output's support.
-const INFORMED: &[(Sample, u64, usize, &[(u32, Unate)])] = &[
+static INFORMED: [(Sample, u64, usize, &[(u32, Unate)]); 3] = [
     // a constant reaches no input
     (CONSTANT, 0, 0, &[]),
     // two claims of either of two inputs; that they may be exchanged is seen at the gate that both feed, and both are
