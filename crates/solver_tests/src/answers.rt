@@ -195,7 +195,7 @@ fn outcome_of_row(alloc: Global, row: &Row<'_>) -> Result<Outcome, Fail> {
 
 const AND: (&[(u32, u32)], u32) = (&[(2, 4)], 6);
 
-const ROWS: [Row<'static>; 6] = [
+static ROWS: [Row<'static>; 6] = [
     // the AND doesn't fall where input 0 rises
     Row {
         first: AND,
@@ -254,7 +254,7 @@ fn asks_of_small_circuits(rt: HostRuntime) -> Result<(), Fail> {
 
 /// Inputs 1 to 4, each with the AND of input 0 and one of inputs 5 to 8 or instead, and of these four either the first
 /// two or the last two: it can't fall where input 0 rises, but neither half of it says so alone.
-const UNATE: &[(u32, u32)] = &[
+static UNATE: [(u32, u32); 11] = [
     (2, 12),
     (2, 14),
     (2, 16),
@@ -269,7 +269,7 @@ const UNATE: &[(u32, u32)] = &[
 ];
 
 fn unate_outcome(alloc: Global, budget: u64) -> Result<Outcome, Fail> {
-    let both = GraphPair::new(alloc, 9, (UNATE, 41), (&[], 0))?;
+    let both = GraphPair::new(alloc, 9, (&UNATE, 41), (&[], 0))?;
     let query = falls(alloc, 9)?;
     Ok(asked(alloc, &both.graphs(), &query, budget)?)
 }

@@ -53,7 +53,7 @@ struct Row<'a> {
 const BOTH_WAYS: &[[u64; 2]] = &[[7, 8], [6, 9]];
 
 /// Variables 1 and 2 are the inputs, those of the first circuit's gates and then of the second one's follow.
-const ROWS: [Row<'static>; 8] = [
+static ROWS: [Row<'static>; 8] = [
     // an AND, and one with its operands exchanged
     Row {
         first: (&[(2, 4)], 6),
@@ -117,7 +117,7 @@ fn merges_gates_of_one_structure(rt: HostRuntime) -> Result<(), Fail> {
 
 /// Gates of a circuit of three inputs and its output, and the lemmas where input 0 is 0 in the left cone and 1 in the
 /// right one.
-const RISES: [(&[(u32, u32)], u32, &[[u64; 2]]); 5] = [
+static RISES: [(&[(u32, u32)], u32, &[[u64; 2]]); 5] = [
     // an OR of two ANDs: each AND implies its copy, and the copy of the gate that is read inverted implies it
     (
         &[(2, 4), (2, 6), (9, 11)],
@@ -151,9 +151,9 @@ fn rise_holds(
 
 #[test]
 fn implies_copies_by_polarity(rt: HostRuntime) -> Result<(), Fail> {
-    for (gates, output, lemmas) in RISES {
+    for (gates, output, lemmas) in RISES.iter() {
         assert!(rt;
-            rise_holds(rt.alloc(), gates, output, lemmas)?,
+            rise_holds(rt.alloc(), gates, *output, lemmas)?,
             "at {gates:?} {output}"
         );
     }

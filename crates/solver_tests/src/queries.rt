@@ -106,7 +106,7 @@ fn wrong_difference_clause(
 
 /// The clauses of a match that inverts each port of an AND and an OR, where the AND is true. Variables 1 and 2 are the
 /// inputs, 3 and 4 the gates.
-const WHERE_TRUE: [&[u64]; 9] = [
+static WHERE_TRUE: [&[u64]; 9] = [
     &[0],
     &[7, 2],
     &[7, 4],
@@ -181,7 +181,7 @@ fn wrong_rise_clause(
 }
 
 /// The clauses of an AND of inputs 0 and 1: it reads input 0, whose feeds differ.
-const OWN_GATE: [&[u64]; 9] = [
+static OWN_GATE: [&[u64]; 9] = [
     &[0],
     &[7, 1],
     &[7, 4],
@@ -194,7 +194,7 @@ const OWN_GATE: [&[u64]; 9] = [
 ];
 
 /// Gate 0 is the AND of inputs 1 and 2, and has the left one's variable 4; gate 1 reads it and input 0.
-const SHARED_GATE: [&[u64]; 15] = [
+static SHARED_GATE: [&[u64]; 15] = [
     &[0],
     &[9, 4],
     &[9, 6],
@@ -255,18 +255,20 @@ fn has_rise_ids(alloc: Global, graphs: &Graphs<'_>, wanted: &[u64]) -> Result<bo
     Ok(has_cone_ids(alloc, graphs, &query, wanted)?)
 }
 
+/// Two gates over two inputs, and the numbers of the clauses of an output's cone, which gate 1 is.
+static CONE_IDS: [(&[(u32, u32)], &[u64]); 2] = [
+    // of gates 0 and 1 the output reads gate 1 alone
+    (&[(2, 4), (3, 5)], &[0, 4, 5, 6, 10, 11, 12, 13, 14]),
+    // gate 1 reads gate 0
+    (
+        &[(2, 4), (3, 6)],
+        &[0, 1, 2, 3, 4, 5, 6, 7, 8, 9, 10, 11, 12, 13, 14],
+    ),
+];
+
 #[test]
 fn numbers_the_clauses_of_cones(rt: HostRuntime) -> Result<(), Fail> {
-    let rows: [(&[(u32, u32)], &[u64]); 2] = [
-        // of gates 0 and 1 the output reads gate 1 alone
-        (&[(2, 4), (3, 5)], &[0, 4, 5, 6, 10, 11, 12, 13, 14]),
-        // gate 1 reads gate 0
-        (
-            &[(2, 4), (3, 6)],
-            &[0, 1, 2, 3, 4, 5, 6, 7, 8, 9, 10, 11, 12, 13, 14],
-        ),
-    ];
-    for (gates, wanted) in rows {
+    for (gates, wanted) in CONE_IDS.iter() {
         let both = circuits_of(rt.alloc(), 2, gates, 9)?;
         assert!(rt;
             has_rise_ids(rt.alloc(), &both.graphs(), wanted)?,

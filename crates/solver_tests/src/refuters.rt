@@ -88,7 +88,7 @@ fn first_answer_to(
 }
 
 /// Literals and hints of a first line, and what is answered.
-const FIRST_LINES: [(&[u64], &[u64], Result<(), LineFault>); 13] = [
+static FIRST_LINES: [(&[u64], &[u64], Result<(), LineFault>); 13] = [
     // both outputs are true, so both inputs are, and the OR isn't
     (&[], &[7, 8, 1, 2, 6], Ok(())),
     // the AND is false where an input is
@@ -117,7 +117,7 @@ fn takes_and_refuses_lines(rt: HostRuntime) -> Result<(), Fail> {
 }
 
 /// Literals and hints of one line after the other, what is answered, and whether the log is closed then.
-const LINES: [(&[u64], &[u64], Result<(), LineFault>, bool); 3] = [
+static LINES: [(&[u64], &[u64], Result<(), LineFault>, bool); 3] = [
     (&[2], &[7, 1], Ok(()), false),
     // the line taken has number 9
     (&[], &[9, 7, 2, 8, 6], Ok(()), true),

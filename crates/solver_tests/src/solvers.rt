@@ -159,7 +159,7 @@ fn outcome_of(
 
 /// Three pigeons sit in two holes, no two in one (Cook's formulas). Pigeon i sits in hole h where variable 3i + h is
 /// true.
-const THREE_PIGEONS: [(u64, u64, u64); 9] = [
+static THREE_PIGEONS: [(u64, u64, u64); 9] = [
     (0, 2, 2),
     (6, 8, 8),
     (12, 14, 14),
@@ -172,7 +172,7 @@ const THREE_PIGEONS: [(u64, u64, u64); 9] = [
 ];
 
 /// Four pigeons sit in three holes.
-const FOUR_PIGEONS: [(u64, u64, u64); 22] = [
+static FOUR_PIGEONS: [(u64, u64, u64); 22] = [
     (0, 2, 4),
     (6, 8, 10),
     (12, 14, 16),
@@ -198,10 +198,10 @@ const FOUR_PIGEONS: [(u64, u64, u64); 22] = [
 ];
 
 /// The clauses that say that the exclusive or of variables 1, 2 and 3 is true.
-const ODD: [(u64, u64, u64); 4] = [(2, 4, 6), (2, 5, 7), (3, 4, 7), (3, 5, 6)];
+static ODD: [(u64, u64, u64); 4] = [(2, 4, 6), (2, 5, 7), (3, 4, 7), (3, 5, 6)];
 
 /// The same with its opposite.
-const ODD_AND_EVEN: [(u64, u64, u64); 8] = [
+static ODD_AND_EVEN: [(u64, u64, u64); 8] = [
     (2, 4, 6),
     (2, 5, 7),
     (3, 4, 7),
