@@ -4,7 +4,7 @@ use bit_list::Bits;
 use std::alloc::{AllocError, Global};
 use std::test::Fail;
 
-const LENGTHS: [usize; 6] = [0, 1, 63, 64, 65, 130];
+static LENGTHS: [usize; 6] = [0, 1, 63, 64, 65, 130];
 
 fn every_third(alloc: Global, count: usize) -> Result<Vec<bool>, AllocError> {
     let mut bits = Vec::new(alloc);
@@ -58,8 +58,8 @@ fn is_equal_bit_by_bit(alloc: Global, count: usize) -> Result<bool, AllocError> 
 
 #[test]
 fn bits_are_as_they_were_given(rt: HostRuntime) -> Result<(), Fail> {
-    for count in LENGTHS {
-        assert!(rt; gives_back(rt.alloc(), count)?);
+    for count in LENGTHS.iter() {
+        assert!(rt; gives_back(rt.alloc(), *count)?);
     }
     Ok(())
 }
@@ -67,8 +67,8 @@ fn bits_are_as_they_were_given(rt: HostRuntime) -> Result<(), Fail> {
 #[test]
 fn lists_are_equal_bit_by_bit(rt: HostRuntime) -> Result<(), Fail> {
     let alloc = rt.alloc();
-    for count in LENGTHS {
-        assert!(rt; is_equal_bit_by_bit(alloc, count)?);
+    for count in LENGTHS.iter() {
+        assert!(rt; is_equal_bit_by_bit(alloc, *count)?);
     }
     assert!(rt; Bits::with_capacity(alloc, 65)? == Bits::new(alloc));
     Ok(())

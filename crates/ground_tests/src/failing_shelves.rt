@@ -45,19 +45,21 @@ fn stops_at(shelf: &mut MemShelf, call: u64, read: &[u8], report: Option<&[u8]>)
         & (shelf.file("letter") == Some(b"seven".as_slice()))
 }
 
+/// A call that fails, what is read before it, and what stands in the report then.
+static FAILURES: [(u64, &[u8], Option<&[u8]>); 7] = [
+    (0, b"-----", None),
+    (1, b"-----", None),
+    (2, b"sev--", None),
+    (3, b"sev--", None),
+    (4, b"sev--", Some(b"")),
+    (5, b"sev--", Some(b"one")),
+    (6, b"sev--", Some(b"onetwo")),
+];
+
 /// Each call fails in turn: what was written before it stands, and none is made after it.
 #[test]
 fn fails_at_each_call(rt: HostRuntime) -> Result<(), Fail> {
-    let rows = [
-        (0, b"-----".as_slice(), None),
-        (1, b"-----".as_slice(), None),
-        (2, b"sev--".as_slice(), None),
-        (3, b"sev--".as_slice(), None),
-        (4, b"sev--".as_slice(), Some(b"".as_slice())),
-        (5, b"sev--".as_slice(), Some(b"one".as_slice())),
-        (6, b"sev--".as_slice(), Some(b"onetwo".as_slice())),
-    ];
-    for (call, read, report) in rows.iter() {
+    for (call, read, report) in FAILURES.iter() {
         let mut shelf = shelf_failing_at(rt.alloc(), &[*call])?;
         assert!(rt;
             stops_at(&mut shelf, *call, read, *report),

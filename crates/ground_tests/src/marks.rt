@@ -6,7 +6,7 @@ use std::test::Fail;
 
 /// How many numbers there are, and which of them are marked, one after another. Below 1024 numbers the first mark goes
 /// to a table, of 5000 the fifth one does, and of 10,000 the three stay in a set.
-const MARKED: [(usize, &[usize]); 6] = [
+static MARKED: [(usize, &[usize]); 6] = [
     (0, &[]),
     (1, &[0]),
     (1023, &[1022, 5, 5]),
@@ -41,8 +41,8 @@ fn keeps_marks(alloc: Global, count: usize, numbers: &[usize]) -> Result<bool, A
 
 #[test]
 fn marks_are_kept(rt: HostRuntime) -> Result<(), Fail> {
-    for (count, numbers) in MARKED {
-        assert!(rt; keeps_marks(rt.alloc(), count, numbers)?, "of {count}");
+    for (count, numbers) in MARKED.iter() {
+        assert!(rt; keeps_marks(rt.alloc(), *count, numbers)?, "of {count}");
     }
     Ok(())
 }

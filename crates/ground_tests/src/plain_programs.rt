@@ -115,23 +115,25 @@ fn moves_to(
     Ok(move_vector(alloc, entries, vector)?.as_slice() == want)
 }
 
+/// Entries of two inputs and of two outputs, and whether they are a match of the netlists below.
+static MATCHINGS: [(&[(u32, bool)], &[(u32, bool)], bool); 5] = [
+    (&[(1, true), (0, false)], &[(1, false), (0, true)], true),
+    (&[(1, true), (0, false)], &[(1, false), (0, false)], false),
+    (&[(1, true), (0, false)], &[(0, true), (1, false)], false),
+    (&[(0, false), (1, false)], &[(1, false), (0, true)], false),
+    (&[(1, true), (1, false)], &[(1, false), (0, true)], false),
+];
+
 fn check_matches(
     rt: &impl Abort,
     alloc: Global,
     first: &Netlist,
     second: &Netlist,
 ) -> Result<(), AllocError> {
-    let crossed = [(1, true), (0, false)];
-    for (p, q, want) in [
-        (crossed, [(1, false), (0, true)], true),
-        (crossed, [(1, false), (0, false)], false),
-        (crossed, [(0, true), (1, false)], false),
-        ([(0, false), (1, false)], [(1, false), (0, true)], false),
-        ([(1, true), (1, false)], [(1, false), (0, true)], false),
-    ] {
+    for (p, q, want) in MATCHINGS.iter() {
         assert_eq!(rt;
-            matches(rt, alloc, (first, second), &p, &q)?,
-            want,
+            matches(rt, alloc, (first, second), p, q)?,
+            *want,
             "{p:?} and {q:?}"
         );
     }

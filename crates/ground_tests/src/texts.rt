@@ -1,25 +1,27 @@
 use std::test::Fail;
 use text_core::{Cursor, NumberFault, decimal, next_word, put_decimal};
 
+/// Texts, and the numbers that they write.
+static NUMBERS: [(&[u8], Result<u64, NumberFault>); 10] = [
+    (b"", Err(NumberFault::NotDigit)),
+    (b"0", Ok(0)),
+    (b"00", Ok(0)),
+    (b"18446744073709551615", Ok(u64::MAX)),
+    (b"18446744073709551616", Err(NumberFault::TooLarge)),
+    (b"18446744073709551619", Err(NumberFault::TooLarge)),
+    (b"99999999999999999999", Err(NumberFault::TooLarge)),
+    (b"000000000000000000000018446744073709551615", Ok(u64::MAX)),
+    (b"1x", Err(NumberFault::NotDigit)),
+    (b"-1", Err(NumberFault::NotDigit)),
+];
+
 #[test]
 fn reads_numbers(rt: HostRuntime) {
-    let table: [(&[u8], Result<u64, NumberFault>); 10] = [
-        (b"", Err(NumberFault::NotDigit)),
-        (b"0", Ok(0)),
-        (b"00", Ok(0)),
-        (b"18446744073709551615", Ok(u64::MAX)),
-        (b"18446744073709551616", Err(NumberFault::TooLarge)),
-        (b"18446744073709551619", Err(NumberFault::TooLarge)),
-        (b"99999999999999999999", Err(NumberFault::TooLarge)),
-        (b"000000000000000000000018446744073709551615", Ok(u64::MAX)),
-        (b"1x", Err(NumberFault::NotDigit)),
-        (b"-1", Err(NumberFault::NotDigit)),
-    ];
-    for (text, want) in table {
+    for (text, want) in NUMBERS.iter() {
         let word = Cursor::new(text)
             .take(text.len())
             .expect(&rt, "all of the text");
-        assert_eq!(rt; decimal(word), want, "at {text:?}");
+        assert_eq!(rt; decimal(word), *want, "at {text:?}");
     }
 }
 
@@ -70,18 +72,23 @@ fn takes_so(cursor: &mut Cursor, count: usize, want: Option<&[u8]>) -> bool {
     (taken.at() == at) & (Some(taken.bytes()) == want)
 }
 
+/// How many bytes are taken of three, one after the other, and which come.
+static TAKEN: [(usize, Option<&[u8]>); 5] = [
+    (4, None),
+    (2, Some(b"ab")),
+    (1, Some(b"c")),
+    (0, Some(b"")),
+    (1, None),
+];
+
 #[test]
 fn takes_no_more_than_is_left(rt: HostRuntime) {
     let mut cursor = Cursor::new(b"abc");
-    let rows: [(usize, Option<&[u8]>); 5] = [
-        (4, None),
-        (2, Some(b"ab")),
-        (1, Some(b"c")),
-        (0, Some(b"")),
-        (1, None),
-    ];
-    for (count, want) in rows {
-        assert!(rt; takes_so(&mut cursor, count, want), "{count} for {want:?}");
+    for (count, want) in TAKEN.iter() {
+        assert!(rt;
+            takes_so(&mut cursor, *count, *want),
+            "{count} for {want:?}"
+        );
     }
 }
 
