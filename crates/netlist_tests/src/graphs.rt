@@ -95,17 +95,17 @@ fn has_cone(alloc: Global, graph: &Graph, output: u32, gates: &[u32]) -> Result<
     Ok(graph.cone(alloc, output)?.as_slice() == gates)
 }
 
+// The outputs of these gates, each with the gates of its cone.
+static CONES: [(u32, &[u32]); 5] = [(0, &[0, 1]), (1, &[2]), (2, &[0]), (3, &[]), (4, &[])];
+
 #[test]
 fn lists_cones(rt: HostRuntime) -> Result<(), Fail> {
     let graph = three_gates(rt.alloc())?;
-    for (output, gates) in [
-        (0, [0, 1].as_slice()),
-        (1, [2].as_slice()),
-        (2, [0].as_slice()),
-        (3, [].as_slice()),
-        (4, [].as_slice()),
-    ] {
-        assert!(rt; has_cone(rt.alloc(), &graph, output, gates)?, "at {output}");
+    for (output, gates) in CONES.iter() {
+        assert!(rt;
+            has_cone(rt.alloc(), &graph, *output, gates)?,
+            "at {output}"
+        );
     }
     Ok(())
 }
