@@ -2,6 +2,7 @@
 //! alone: its texts, by their lengths and a digest of their bytes, and the ends of its match.
 
 use gen_pair::{GenPair, make};
+use net_core::Matching;
 use net_print::{put_aig, put_blif};
 use rand_core::utils::NextWord;
 use rand_pcg::Lcg64Xsh32;
@@ -37,33 +38,30 @@ fn sizes(pair: &GenPair) -> (u32, usize, usize) {
 #[test]
 fn a_number_gives_its_pair(rt: HostRuntime) -> Result<(), Fail> {
     let pair = make(rt.alloc(), 7)?;
-    assert_eq!(rt; binary_of_first(rt.alloc(), &pair)?, (5671, 507290980));
-    assert_eq!(rt; blif_of_second(rt.alloc(), &pair)?, (55965, 1118943907));
-    assert_eq!(rt; sizes(&pair), (64, 32, 2000));
+    let written = (
+        binary_of_first(rt.alloc(), &pair)?,
+        blif_of_second(rt.alloc(), &pair)?,
+    );
+    assert_eq!(rt;
+        (written, sizes(&pair)),
+        (((5671, 507290980), (55965, 1118943907)), (64, 32, 2000))
+    );
     Ok(())
+}
+
+// Whether a matching begins and ends with the entries of the table that 7 gives.
+fn is_table_of_seven(matching: &Matching) -> bool {
+    let inputs = matching.inputs.as_slice();
+    let outputs = matching.outputs.as_slice();
+    inputs.starts_with(&[(56, true), (18, false), (21, true), (16, true)])
+        & inputs.ends_with(&[(36, true), (0, false), (62, true)])
+        & outputs.starts_with(&[(28, false), (26, true), (30, false), (16, false)])
 }
 
 #[test]
 fn a_number_gives_its_table(rt: HostRuntime) -> Result<(), Fail> {
     let hidden = make(rt.alloc(), 7)?.hidden;
-    assert!(rt;
-        hidden
-            .inputs
-            .as_slice()
-            .starts_with(&[(56, true), (18, false), (21, true), (16, true)])
-    );
-    assert!(rt;
-        hidden
-            .inputs
-            .as_slice()
-            .ends_with(&[(36, true), (0, false), (62, true)])
-    );
-    assert!(rt;
-        hidden
-            .outputs
-            .as_slice()
-            .starts_with(&[(28, false), (26, true), (30, false), (16, false)])
-    );
+    assert!(rt; is_table_of_seven(&hidden));
     Ok(())
 }
 
