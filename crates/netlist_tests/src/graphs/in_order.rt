@@ -19,40 +19,35 @@ fn becomes(
     Ok(is_ordered_as(alloc, &net, gates, &[Lit(new_output)])?)
 }
 
+// Definitions of signals 3, 4 and 5 over two inputs, signals 1 and 2, and an output, and these in order.
+static ORDERED: [(&[Part<'static>], u32, &[(u32, u32)], u32); 3] = [
+    // in order: the literals stay
+    (
+        &[And(2, 4), And(6, 3), And(8, 7)],
+        11,
+        &[(2, 4), (6, 3), (8, 7)],
+        11,
+    ),
+    // in reverse: 6 = AND(8, 2), 8 = AND(10, 5), 10 = AND(2, 4)
+    (
+        &[And(8, 2), And(10, 5), And(2, 4)],
+        7,
+        &[(2, 4), (6, 5), (8, 2)],
+        11,
+    ),
+    // of one level, by position: 6 = AND(11, 8) comes after 8 and 10
+    (
+        &[And(11, 8), And(2, 5), And(3, 4)],
+        10,
+        &[(2, 5), (3, 4), (9, 6)],
+        8,
+    ),
+];
+
 #[test]
 fn orders_by_level_then_position(rt: HostRuntime) -> Result<(), Fail> {
-    // two inputs, signals 1 and 2; the definitions are signals 3, 4 and 5
-    for (ands, output, gates, new_output) in [
-        // in order: the literals stay
-        (
-            [And(2, 4), And(6, 3), And(8, 7)],
-            11,
-            [(2, 4), (6, 3), (8, 7)],
-            11,
-        ),
-        // in reverse: 6 = AND(8, 2), 8 = AND(10, 5), 10 = AND(2, 4)
-        (
-            [And(8, 2), And(10, 5), And(2, 4)],
-            7,
-            [(2, 4), (6, 5), (8, 2)],
-            11,
-        ),
-        // of one level, by position: 6 = AND(11, 8) comes after 8 and 10
-        (
-            [And(11, 8), And(2, 5), And(3, 4)],
-            10,
-            [(2, 5), (3, 4), (9, 6)],
-            8,
-        ),
-    ] {
-        let is_ordered = becomes(
-            rt.alloc(),
-            2,
-            ands.as_slice(),
-            output,
-            gates.as_slice(),
-            new_output,
-        )?;
+    for (ands, output, gates, new_output) in ORDERED.iter() {
+        let is_ordered = becomes(rt.alloc(), 2, ands, *output, gates, *new_output)?;
         assert!(rt; is_ordered, "as {gates:?}");
     }
     assert!(rt; becomes(rt.alloc(), 0, &[], 1, &[], 1)?);
@@ -65,19 +60,21 @@ fn fault_of(alloc: Global, parts: &[Part<'_>]) -> Result<Option<OrderFault>, Fai
     Ok(order(alloc, &net).err())
 }
 
+// Definitions of signals 2 to 5 over one input, signal 1, and which of them is the first without a level.
+static UNORDERED: [(&[Part<'static>], u32); 3] = [
+    // 4 = AND(4, 2)
+    (&[And(4, 2), And(2, 2), And(2, 2), And(2, 2)], 0),
+    // 8 = AND(10, 2) and 10 = AND(8, 3) are a cycle, and 6 = AND(8, 2) is above it
+    (&[And(2, 2), And(8, 2), And(10, 2), And(8, 3)], 1),
+    // 8 = AND(2, 9) is its own operand, 10 = AND(9, 2) is above it
+    (&[And(10, 11), And(4, 2), And(2, 9), And(9, 2)], 0),
+];
+
 #[test]
 fn names_the_first_without_a_level(rt: HostRuntime) -> Result<(), Fail> {
-    // one input, signal 1; the definitions are signals 2 to 5
-    for (ands, first) in [
-        // 4 = AND(4, 2)
-        ([And(4, 2), And(2, 2), And(2, 2), And(2, 2)], 0),
-        // 8 = AND(10, 2) and 10 = AND(8, 3) are a cycle, and 6 = AND(8, 2) is above it
-        ([And(2, 2), And(8, 2), And(10, 2), And(8, 3)], 1),
-        // 8 = AND(2, 9) is its own operand, 10 = AND(9, 2) is above it
-        ([And(10, 11), And(4, 2), And(2, 9), And(9, 2)], 0),
-    ] {
-        let fault = fault_of(rt.alloc(), ands.as_slice())?;
-        assert_eq!(rt; fault, Some(OrderFault::Cycle(first)));
+    for (ands, first) in UNORDERED.iter() {
+        let fault = fault_of(rt.alloc(), ands)?;
+        assert_eq!(rt; fault, Some(OrderFault::Cycle(*first)));
     }
     Ok(())
 }
