@@ -39,7 +39,7 @@ impl Drop for Joint {
 }
 
 /// A netlist that is being put together.
-struct Parts {
+struct JointBuilder {
     /// The signal of each variable.
     numbers: IndexMap<u64, usize>,
     signals: Vec<Signal>,
@@ -47,9 +47,9 @@ struct Parts {
 }
 
 // By hand, so that each exit of a function has one call for it (docs/IDIOMS.md).
-impl Drop for Parts {
+impl Drop for JointBuilder {
     fn drop(self) {
-        let Parts {
+        let JointBuilder {
             numbers: _numbers,
             signals: _signals,
             gates: _gates,
@@ -65,26 +65,26 @@ impl Joint {
     /// Only when out of memory.
     pub(crate) fn of(alloc: Global, gates: &[LitGate]) -> Result<Option<Joint>, AllocError> {
         let inputs = inputs_of(alloc, gates)?;
-        let mut parts = Parts::new(alloc, &inputs)?;
-        parts.add_gates(gates)?;
-        let outputs = plain_literals(alloc, parts.signals.len())?;
-        Ok(parts.into_joint(inputs.len(), outputs))
+        let mut builder = JointBuilder::new(alloc, &inputs)?;
+        builder.add_gates(gates)?;
+        let outputs = plain_literals(alloc, builder.signals.len())?;
+        Ok(builder.into_joint(inputs.len(), outputs))
     }
 }
 
-impl Parts {
+impl JointBuilder {
     // The constant, and inputs: signal 0 is 0, and variable 0 is true.
-    fn new(alloc: Global, inputs: &[SatLit]) -> Result<Parts, AllocError> {
-        let mut parts = Parts {
+    fn new(alloc: Global, inputs: &[SatLit]) -> Result<JointBuilder, AllocError> {
+        let mut builder = JointBuilder {
             numbers: IndexMap::new(alloc),
             signals: Vec::new(alloc),
             gates: Vec::new(alloc),
         };
-        parts.add(SatLit::of(0, false), 0)?;
+        builder.add(SatLit::of(0, false), 0)?;
         for input in inputs.iter() {
-            parts.add(*input, 0)?;
+            builder.add(*input, 0)?;
         }
-        Ok(parts)
+        Ok(builder)
     }
 
     // Adds gates each of which stands after its operands.
@@ -97,7 +97,7 @@ impl Parts {
 
     // The netlist with these outputs, where n signals are inputs. None where there are too many of them.
     fn into_joint(self, inputs: usize, outputs: Vec<Lit>) -> Option<Joint> {
-        let Parts {
+        let JointBuilder {
             numbers: _numbers,
             signals,
             gates,

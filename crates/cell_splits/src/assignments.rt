@@ -4,7 +4,7 @@ use crate::exact::is_shared;
 use crate::patterns::Patterns;
 use crate::state::State;
 use net_core::Side;
-use port_cells::{Cells, Counts, Draws, FlipSim, Lanes, Tally, all_lanes, port_at};
+use port_cells::{Cells, Counter, Counts, Draws, FlipSim, Lanes, all_lanes, port_at};
 use std::alloc::{AllocError, Global};
 
 /// Up to how many free inputs have all values: the 256 lanes of a block have all of eight.
@@ -13,7 +13,7 @@ const FREE_IN_BLOCK: usize = 8;
 /// An assignment that is constant on cells whose signs are known, so that it is known in both circuits. The free inputs
 /// have all values, or drawn ones: those whose signs are open, or, where none is, those that share a cell.
 #[derive(Drop)]
-pub struct Assignment {
+pub struct CellAssignment {
     patterns: Patterns,
     /// How many blocks of 256 vectors are counted.
     blocks: u64,
@@ -21,16 +21,16 @@ pub struct Assignment {
     is_all: bool,
 }
 
-impl Assignment {
+impl CellAssignment {
     /// A drawn assignment, on all vectors of few free inputs, else on blocks of drawn ones.
     pub fn draw(
         alloc: Global,
         inputs: &Cells,
         blocks: u64,
         draws: &mut Draws,
-    ) -> Result<Assignment, AllocError> {
+    ) -> Result<CellAssignment, AllocError> {
         let patterns = Patterns::draw_constant(alloc, inputs, draws)?;
-        Assignment::of(alloc, inputs, patterns, blocks)
+        CellAssignment::of(alloc, inputs, patterns, blocks)
     }
 
     /// The inputs of the first circuit whose signs are known have one bit: 0 or 1 on all is what few drawn assignments
@@ -40,9 +40,9 @@ impl Assignment {
         inputs: &Cells,
         bit: bool,
         blocks: u64,
-    ) -> Result<Assignment, AllocError> {
+    ) -> Result<CellAssignment, AllocError> {
         let patterns = Patterns::constant(alloc, inputs, bit)?;
-        Assignment::of(alloc, inputs, patterns, blocks)
+        CellAssignment::of(alloc, inputs, patterns, blocks)
     }
 
     /// An assignment that most literals of each cell have on a vector of the first circuit.
@@ -52,9 +52,9 @@ impl Assignment {
         vectors: &[Lanes],
         lane: usize,
         blocks: u64,
-    ) -> Result<Assignment, AllocError> {
+    ) -> Result<CellAssignment, AllocError> {
         let patterns = Patterns::by_majority(alloc, inputs, vectors, lane)?;
-        Assignment::of(alloc, inputs, patterns, blocks)
+        CellAssignment::of(alloc, inputs, patterns, blocks)
     }
 
     // On all vectors of few free inputs, of which both circuits have as many, else on blocks of drawn ones.
@@ -63,9 +63,9 @@ impl Assignment {
         inputs: &Cells,
         patterns: Patterns,
         blocks: u64,
-    ) -> Result<Assignment, AllocError> {
+    ) -> Result<CellAssignment, AllocError> {
         let is_all = free_inputs(alloc, inputs, Side::First)?.len() <= FREE_IN_BLOCK;
-        Ok(Assignment {
+        Ok(CellAssignment {
             patterns,
             blocks: if is_all { 1 } else { blocks },
             is_all,
@@ -88,19 +88,19 @@ impl Assignment {
         draws: &mut Draws,
     ) -> Result<Counts, AllocError> {
         let inputs = &state.inputs;
-        let mut tally = Tally::new(alloc, simulator)?;
+        let mut counter = Counter::new(alloc, simulator)?;
         if state.outputs.is_discrete() {
             let sizes = inputs.sizes(alloc)?;
-            leave_out_single(inputs.of(side), &sizes, &mut tally);
+            leave_out_single(inputs.of(side), &sizes, &mut counter);
         }
         let free = free_inputs(alloc, inputs, side)?;
         for _ in 0..self.blocks {
             self.patterns.put(inputs, side, simulator);
             self.put_free(&free, simulator, draws);
             simulator.run();
-            tally.add(simulator);
+            counter.add(simulator);
         }
-        tally.counts(alloc)
+        counter.counts(alloc)
     }
 
     // Gives the free inputs all values, or drawn ones.
@@ -117,13 +117,13 @@ impl Assignment {
 }
 
 // Leaves out the inputs that are alone in their cells.
-fn leave_out_single(cells: &[usize], sizes: &[usize], tally: &mut Tally) {
+fn leave_out_single(cells: &[usize], sizes: &[usize], counter: &mut Counter) {
     for input in 0..cells.len() / 2 {
         if let Some(cell) = cells.get(2 * input)
             && let Some(size) = sizes.get(*cell)
             && *size == 1
         {
-            tally.leave_out(port_at(input));
+            counter.leave_out(port_at(input));
         }
     }
 }

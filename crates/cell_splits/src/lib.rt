@@ -14,7 +14,7 @@ mod rare_values;
 mod state;
 
 pub use anchors::{Starts, anchored};
-pub use assignments::{Assignment, open_in};
+pub use assignments::{CellAssignment, open_in};
 pub use climbing::{BEST, climbed};
 pub use exact::{Keys, add_hashes};
 pub use likeness::Likeness;

@@ -1,7 +1,7 @@
 //! A line of an account by its number.
 
 use check_steps::ReadStop;
-use refusal_words::{Seek, Wanted};
+use refusal_words::{Need, Seek};
 use std::alloc::Global;
 use text_core::line_length;
 
@@ -31,29 +31,29 @@ impl LineSearch {
     }
 
     /// Takes the bytes up to a line feed or the end, and answers whether it was that of the line.
-    fn take_part(&mut self, part: &[u8], whole: bool) -> Result<Wanted, ReadStop> {
+    fn take_part(&mut self, part: &[u8], whole: bool) -> Result<Need, ReadStop> {
         if self.before > 0 {
             self.before -= u64::from(whole);
-            return Ok(Wanted::More);
+            return Ok(Need::More);
         }
         let room = MOST.saturating_sub(self.line.len());
         self.line.extend_from_slice(&part[..room.min(part.len())])?;
-        Ok(if whole { Wanted::Nothing } else { Wanted::More })
+        Ok(if whole { Need::Nothing } else { Need::More })
     }
 }
 
 impl Seek for LineSearch {
-    fn take(&mut self, _alloc: Global, piece: &[u8]) -> Result<Wanted, ReadStop> {
+    fn take(&mut self, _alloc: Global, piece: &[u8]) -> Result<Need, ReadStop> {
         let mut rest = piece;
         // each turn but the last takes a line feed
         for _ in 0..=piece.len() {
             let (part, after) = rest.split_at(line_length(rest));
-            if self.take_part(part, !after.is_empty())? == Wanted::Nothing {
-                return Ok(Wanted::Nothing);
+            if self.take_part(part, !after.is_empty())? == Need::Nothing {
+                return Ok(Need::Nothing);
             }
             let [_feed, next @ ..] = after else { break };
             rest = next;
         }
-        Ok(Wanted::More)
+        Ok(Need::More)
     }
 }

@@ -26,19 +26,19 @@ const ROUNDS: u32 = 20;
 
 /// The gates of all outputs, and the outputs.
 #[derive(Drop)]
-pub(crate) struct Parts {
+pub(crate) struct FirstNet {
     pub(crate) gates: Vec<Gate>,
     pub(crate) outputs: Vec<Lit>,
 }
 
 /// The gates and the outputs that the generator gives next.
-pub(crate) fn make_parts(alloc: Global, random: &mut Lcg64Xsh32) -> Result<Parts, AllocError>
+pub(crate) fn make_parts(alloc: Global, random: &mut Lcg64Xsh32) -> Result<FirstNet, AllocError>
     ensures gates { IfOk result (λ parts. Grows 2000 [] parts.gates.items) }
     ensures outputs { IfOk result (λ parts. length parts.outputs.items ≡ 32) }
     ensures there { IfOk result (λ parts. All (IsThere parts.gates.items) parts.outputs.items) }
     ensures made { IfOk result (λ parts. making parts.gates.items parts.outputs.items random.new ≡ made 32 random.old) }
 {
-    let mut parts = Parts {
+    let mut parts = FirstNet {
         gates: Vec::new(alloc),
         outputs: Vec::new(alloc),
     };
@@ -49,7 +49,7 @@ pub(crate) fn make_parts(alloc: Global, random: &mut Lcg64Xsh32) -> Result<Parts
 }
 
 // Adds the gates of output k, and the output.
-fn add_output(random: &mut Lcg64Xsh32, k: u32, parts: &mut Parts) -> Result<(), AllocError>
+fn add_output(random: &mut Lcg64Xsh32, k: u32, parts: &mut FirstNet) -> Result<(), AllocError>
     requires few { k < 32 }
     requires room { length parts.old.gates.items + 63 ≤ 2 ^ 20 }
     requires order { AreInOrder 65 parts.old.gates.items }

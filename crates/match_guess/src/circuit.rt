@@ -4,7 +4,7 @@ use cell_splits::rare_blocks;
 use items::Items;
 use net_core::Graph;
 use port_cells::{
-    Counts, Draws, FlipSim, Influence, Lanes, Tally, all_lanes, blocks_of_all, port_at,
+    Counter, Counts, Draws, FlipSim, Influence, Lanes, all_lanes, blocks_of_all, port_at,
 };
 use std::alloc::{AllocError, Global};
 
@@ -90,16 +90,16 @@ impl<'a> Circuit<'a> {
         draws: &mut Draws,
     ) -> Result<(Circuit<'a>, Blocks), AllocError> {
         let mut simulator = simulator;
-        let mut tally = Tally::new(alloc, &simulator)?;
-        count_sample(sample, &mut simulator, &mut tally, draws);
-        let counts = tally.counts(alloc)?;
+        let mut counter = Counter::new(alloc, &simulator)?;
+        count_sample(sample, &mut simulator, &mut counter, draws);
+        let counts = counter.counts(alloc)?;
         let is_faint = !sample.is_all && has_faint(&simulator, &counts);
         let rare = if is_faint {
             rare_blocks(alloc, &mut simulator, draws)?
         } else {
             Items::new(alloc)
         };
-        let signs = signs_on(alloc, &rare, &mut simulator, &mut tally)?;
+        let signs = signs_on(alloc, &rare, &mut simulator, &mut counter)?;
         let circuit = Circuit {
             simulator,
             counts,
@@ -127,11 +127,16 @@ impl<'a> Circuit<'a> {
 }
 
 // Counts a sample's vectors.
-fn count_sample(sample: Sample, simulator: &mut FlipSim<'_>, tally: &mut Tally, draws: &mut Draws) {
+fn count_sample(
+    sample: Sample,
+    simulator: &mut FlipSim<'_>,
+    counter: &mut Counter,
+    draws: &mut Draws,
+) {
     for block in 0..sample.blocks {
         put_block(simulator, block, sample.is_all, draws);
         simulator.run();
-        tally.add(simulator);
+        counter.add(simulator);
     }
 }
 
@@ -159,14 +164,14 @@ fn signs_on(
     alloc: Global,
     blocks: &[Items<Lanes>],
     simulator: &mut FlipSim<'_>,
-    tally: &mut Tally,
+    counter: &mut Counter,
 ) -> Result<Counts, AllocError> {
     for block in blocks.iter() {
         simulator.set_inputs(block);
         simulator.run();
-        tally.add(simulator);
+        counter.add(simulator);
     }
-    tally.signs(alloc)
+    counter.signs(alloc)
 }
 
 // Gives the inputs a block of all vectors, or a drawn one.

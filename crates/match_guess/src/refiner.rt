@@ -7,7 +7,7 @@ use crate::leaf::with_paired_outputs;
 use crate::signs::has_known_sign;
 use account_core::PairableGraphs;
 use cell_splits::{
-    Assignment, BEST, Keys, Likeness, Link, Patterns, Starts, State, anchored, climbed,
+    BEST, CellAssignment, Keys, Likeness, Link, Patterns, Starts, State, anchored, climbed,
 };
 use items::Items;
 use net_core::Side;
@@ -302,7 +302,7 @@ impl<'a> Refiner<'a> {
         &mut self,
         alloc: Global,
         state: State,
-        assignment: Assignment,
+        assignment: CellAssignment,
     ) -> Result<Option<State>, AllocError> {
         let first = assignment.count(
             alloc,
@@ -336,10 +336,10 @@ impl<'a> Refiner<'a> {
         state: &State,
         number: u32,
         blocks: u64,
-    ) -> Result<Assignment, AllocError> {
+    ) -> Result<CellAssignment, AllocError> {
         match number % 4 {
-            1 => Assignment::constant(alloc, &state.inputs, number % 8 == 5, blocks),
-            3 => Assignment::draw(alloc, &state.inputs, blocks, &mut self.draws),
+            1 => CellAssignment::constant(alloc, &state.inputs, number % 8 == 5, blocks),
+            3 => CellAssignment::draw(alloc, &state.inputs, blocks, &mut self.draws),
             _ => self.climbed_assignment(alloc, state, blocks),
         }
     }
@@ -350,7 +350,7 @@ impl<'a> Refiner<'a> {
         alloc: Global,
         state: &State,
         blocks: u64,
-    ) -> Result<Assignment, AllocError> {
+    ) -> Result<CellAssignment, AllocError> {
         if self.climbed.is_empty() {
             self.climbed = climbed(
                 alloc,
@@ -360,7 +360,7 @@ impl<'a> Refiner<'a> {
             )?;
         }
         let lane = self.draws.below(BEST);
-        Assignment::by_majority(alloc, &state.inputs, &self.climbed, lane, blocks)
+        CellAssignment::by_majority(alloc, &state.inputs, &self.climbed, lane, blocks)
     }
 
     // Splits cells whose signs are known by drawn vectors.

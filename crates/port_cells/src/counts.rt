@@ -65,16 +65,16 @@ impl Drop for Counts {
 }
 
 /// What is counted of a circuit so far.
-pub struct Tally {
+pub struct Counter {
     vectors: u32,
     ones: Vec<u32>,
     of_inputs: Vec<Vec<Influence>>,
 }
 
 // By hand, so that each exit of a function has one call for it (docs/IDIOMS.md).
-impl Drop for Tally {
+impl Drop for Counter {
     fn drop(self) {
-        let Tally {
+        let Counter {
             vectors: _vectors,
             ones: _ones,
             of_inputs: _of_inputs,
@@ -82,16 +82,16 @@ impl Drop for Tally {
     }
 }
 
-impl Tally {
+impl Counter {
     /// Nothing is counted yet of a circuit.
-    pub fn new(alloc: Global, simulator: &FlipSim<'_>) -> Result<Tally, AllocError> {
+    pub fn new(alloc: Global, simulator: &FlipSim<'_>) -> Result<Counter, AllocError> {
         let graph = simulator.graph();
         let ones = vec![in alloc; 0u32; graph.outputs().len()]?;
         let mut of_inputs = Vec::new(alloc);
         for input in 0..graph.inputs() {
             of_inputs.push(unchanged(alloc, simulator.reached(input))?)?;
         }
-        Ok(Tally {
+        Ok(Counter {
             vectors: 0,
             ones,
             of_inputs,

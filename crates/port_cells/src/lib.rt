@@ -12,7 +12,7 @@ mod profiles;
 mod simulator;
 
 pub use cells::{Cells, literal_of, port_at};
-pub use counts::{Counts, Influence, Tally};
+pub use counts::{Counter, Counts, Influence};
 pub use draws::Draws;
 pub use lanes::{
     Lanes, VECTORS, all_lanes, bit_of, blocks_of_all, ones_in, replicated, with_bit, word_of_all,

@@ -2,7 +2,7 @@
 
 ghost use Rattle.std.specs.Prelude.{◌≡◌, false};
 
-use crate::pieces::{Seek, Wanted};
+use crate::pieces::{Need, Seek};
 use account_core::{Ban, Conclusion, FactHead, Step};
 use account_file::{FileStop, Reader, Record};
 use check_steps::ReadStop;
@@ -10,19 +10,19 @@ use claim_core::Claim;
 use std::alloc::Global;
 
 /// Takes an account's records, one after another.
-pub(crate) trait Search {
+pub(crate) trait RecordSearch {
     /// Takes the next record, and says whether those after it are wanted too.
-    fn next(&mut self, record: Record) -> Wanted;
+    fn next(&mut self, record: Record) -> Need;
 }
 
 /// Goes over an account's records as its bytes come.
 #[derive(Drop)]
-pub(crate) struct Records<T: Search + Drop> {
+pub(crate) struct Records<T: RecordSearch + Drop> {
     text: Text,
     search: T,
 }
 
-impl<T: Search + Drop> Records<T> {
+impl<T: RecordSearch + Drop> Records<T> {
     pub(crate) fn new(alloc: Global, search: T) -> Records<T> {
         Records {
             text: Text::new(alloc),
@@ -36,21 +36,21 @@ impl<T: Search + Drop> Records<T> {
     }
 }
 
-impl<T: Search + Drop> Seek for Records<T> {
-    fn take(&mut self, alloc: Global, piece: &[u8]) -> Result<Wanted, ReadStop> {
-        if self.text.feed(piece)? == Wanted::Nothing {
-            return Ok(Wanted::Nothing);
+impl<T: RecordSearch + Drop> Seek for Records<T> {
+    fn take(&mut self, alloc: Global, piece: &[u8]) -> Result<Need, ReadStop> {
+        if self.text.feed(piece)? == Need::Nothing {
+            return Ok(Need::Nothing);
         }
         // no piece has as many records
         for _ in 0..u64::MAX {
             let Some(record) = self.text.next(alloc)? else {
-                return Ok(Wanted::More);
+                return Ok(Need::More);
             };
-            if self.search.next(record) == Wanted::Nothing {
-                return Ok(Wanted::Nothing);
+            if self.search.next(record) == Need::Nothing {
+                return Ok(Need::Nothing);
             }
         }
-        Ok(Wanted::Nothing)
+        Ok(Need::Nothing)
     }
 }
 
@@ -73,13 +73,13 @@ impl Text {
     }
 
     /// Takes the next bytes, but for those of an account that is too long to be counted.
-    fn feed(&mut self, piece: &[u8]) -> Result<Wanted, ReadStop> {
+    fn feed(&mut self, piece: &[u8]) -> Result<Need, ReadStop> {
         let Some(fed) = self.fed.checked_add(piece.len() as u64) else {
-            return Ok(Wanted::Nothing);
+            return Ok(Need::Nothing);
         };
         self.reader.feed(piece)?;
         self.fed = fed;
-        Ok(Wanted::More)
+        Ok(Need::More)
     }
 
     /// The next record; None where more bytes are wanted first, or a line isn't good.
@@ -146,14 +146,14 @@ impl ConclusionSearch {
     }
 }
 
-impl Search for ConclusionSearch {
-    fn next(&mut self, record: Record) -> Wanted {
+impl RecordSearch for ConclusionSearch {
+    fn next(&mut self, record: Record) -> Need {
         if let Record::Conclusion(conclusion) = &record {
             self.note_conclusion(conclusion);
-            return Wanted::Nothing;
+            return Need::Nothing;
         }
         self.note_ban(record);
-        Wanted::More
+        Need::More
     }
 }
 
@@ -183,17 +183,17 @@ impl BanSearch {
     }
 }
 
-impl Search for BanSearch {
-    fn next(&mut self, record: Record) -> Wanted {
+impl RecordSearch for BanSearch {
+    fn next(&mut self, record: Record) -> Need {
         let Record::Ban(_) = &record else {
-            return Wanted::More;
+            return Need::More;
         };
         if self.before == 0 {
             self.found = Some(record);
-            return Wanted::Nothing;
+            return Need::Nothing;
         }
         self.before -= 1;
-        Wanted::More
+        Need::More
     }
 }
 
@@ -222,10 +222,10 @@ impl ClaimSearch {
     }
 }
 
-impl Search for ClaimSearch {
-    fn next(&mut self, record: Record) -> Wanted {
+impl RecordSearch for ClaimSearch {
+    fn next(&mut self, record: Record) -> Need {
         let Record::Fact(head) = &record else {
-            return Wanted::More;
+            return Need::More;
         };
         let claim = claim_of(head);
         if self.facts == self.numbers.0 {
@@ -236,9 +236,9 @@ impl Search for ClaimSearch {
         }
         self.facts = self.facts.saturating_add(1);
         if self.claims.0.is_some() & self.claims.1.is_some() {
-            return Wanted::Nothing;
+            return Need::Nothing;
         }
-        Wanted::More
+        Need::More
     }
 }
 

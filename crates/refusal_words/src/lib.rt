@@ -9,6 +9,6 @@ mod pieces;
 mod refusal;
 mod terminal_text;
 
-pub use pieces::{Seek, Wanted, seek_in};
+pub use pieces::{Need, Seek, seek_in};
 pub use refusal::{netlist_again, put_refusal};
 pub use terminal_text::TerminalText;

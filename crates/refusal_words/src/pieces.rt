@@ -10,7 +10,7 @@ use std::alloc::Global;
 
 /// Whether more of a file is wanted.
 #[derive(Clone, Copy, Debug, PartialEq, Eq)]
-pub enum Wanted {
+pub enum Need {
     More,
     Nothing,
 }
@@ -18,7 +18,7 @@ pub enum Wanted {
 /// Whoever looks for something in a file that comes in pieces.
 pub trait Seek {
     /// Takes the next bytes of the file, and says whether those after them are wanted too.
-    fn take(&mut self, alloc: Global, piece: &[u8]) -> Result<Wanted, ReadStop>;
+    fn take(&mut self, alloc: Global, piece: &[u8]) -> Result<Need, ReadStop>;
 }
 
 /// Hands what stands under a name to whoever looks for something there, up to the piece after which nothing more is
@@ -52,7 +52,7 @@ fn seek_in_open<S: Shelf, K: Seek>(
 {
     let mut piece = zeros(alloc, PIECE)?;
     for _ in 0..u64::MAX {
-        if seek_in_next(alloc, shelf, &mut piece, seeker)? == Wanted::Nothing {
+        if seek_in_next(alloc, shelf, &mut piece, seeker)? == Need::Nothing {
             return Ok(());
         }
     }
@@ -65,14 +65,14 @@ fn seek_in_next<S: Shelf, K: Seek>(
     shelf: &mut S,
     piece: &mut [u8],
     seeker: &mut K,
-) -> Result<Wanted, ReadStop>
+) -> Result<Need, ReadStop>
     requires { (S.state shelf.old).mode ≡ Reading }
     ensures files { SameFiles (S.state shelf.old) (S.state shelf.new) }
     ensures reading { (S.state shelf.new).mode ≡ Reading }
 {
     let count = shelf.read(piece)?;
     if count == 0 {
-        return Ok(Wanted::Nothing);
+        return Ok(Need::Nothing);
     }
     seeker.take(alloc, &piece[..count])
 }
