@@ -27,7 +27,7 @@ const STREAM: u64 = 54;
 
 /// Which signals agreed on all vectors, or disagreed on all of them.
 #[derive(Drop)]
-pub(crate) struct Classes {
+pub(crate) struct SignalClasses {
     pub(crate) members: Vec<Member>,
     /// How many classes there are.
     count: usize,
@@ -47,9 +47,13 @@ pub(crate) struct Member {
 /// # Errors
 ///
 /// Only when out of memory.
-pub(crate) fn classes_of(alloc: Global, graph: &Graph, seed: u64) -> Result<Classes, AllocError> {
+pub(crate) fn classes_of(
+    alloc: Global,
+    graph: &Graph,
+    seed: u64,
+) -> Result<SignalClasses, AllocError> {
     let mut generator = Pcg32::new(seed, STREAM);
-    let mut classes = Classes {
+    let mut classes = SignalClasses {
         members: Vec::new(alloc),
         count: 0,
     };
@@ -72,7 +76,7 @@ fn words_of(round: u32) -> usize
     FIRST << (round - 1)
 }
 
-impl Classes {
+impl SignalClasses {
     // Draws a round, and answers whether a class was split.
     fn split_once(
         &mut self,
@@ -98,7 +102,7 @@ impl Classes {
         requires { length values.now.columns ≡ count }
     {
         let before = self.count;
-        let mut numbers = Numbers {
+        let mut numbers = ClassNumbers {
             map: IndexMap::new(alloc),
         };
         let mut members = Vec::with_capacity(alloc, count as usize)?;
@@ -113,18 +117,18 @@ impl Classes {
 }
 
 /// The numbers of new classes: by the old class, and a hash of the words that came.
-struct Numbers {
+struct ClassNumbers {
     map: IndexMap<(u64, u64), u64>,
 }
 
 // By hand, so that each exit of a function has one call for it (docs/IDIOMS.md).
-impl Drop for Numbers {
+impl Drop for ClassNumbers {
     fn drop(self) {
-        let Numbers { map: _map } = self;
+        let ClassNumbers { map: _map } = self;
     }
 }
 
-impl Numbers {
+impl ClassNumbers {
     // What is known of a signal after the words of a column.
     fn member(
         &mut self,

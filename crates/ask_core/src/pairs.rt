@@ -14,7 +14,7 @@ pub struct GatePair {
 
 /// A literal that is true on the first vector, of a gate, an input or the constant.
 #[derive(Clone, Copy, Drop)]
-struct Candidate {
+struct TrueLiteral {
     depth: u64,
     literal: SatLit,
     class: u64,
@@ -42,7 +42,7 @@ fn candidates_of(
     alloc: Global,
     signals: &[Signal],
     members: &[Member],
-) -> Result<Vec<Candidate>, AllocError> {
+) -> Result<Vec<TrueLiteral>, AllocError> {
     let mut candidates = Vec::with_capacity(alloc, members.len())?;
     for (signal, member) in signals.iter().zip(members.iter()) {
         candidates.push(candidate_of(*signal, *member))?;
@@ -51,13 +51,13 @@ fn candidates_of(
 }
 
 // The literal of a signal that is true on the first vector.
-fn candidate_of(signal: Signal, member: Member) -> Candidate {
+fn candidate_of(signal: Signal, member: Member) -> TrueLiteral {
     let literal = if member.flip {
         signal.literal.opposite()
     } else {
         signal.literal
     };
-    Candidate {
+    TrueLiteral {
         depth: signal.depth,
         literal,
         class: member.class,
@@ -65,7 +65,7 @@ fn candidate_of(signal: Signal, member: Member) -> Candidate {
 }
 
 // Each literal but the first of its class, with that one.
-fn paired(alloc: Global, candidates: &[Candidate]) -> Result<Vec<GatePair>, AllocError> {
+fn paired(alloc: Global, candidates: &[TrueLiteral]) -> Result<Vec<GatePair>, AllocError> {
     let mut firsts = IndexMap::new(alloc);
     let mut pairs = Vec::new(alloc);
     add_pairs(candidates, &mut firsts, &mut pairs)?;
@@ -74,7 +74,7 @@ fn paired(alloc: Global, candidates: &[Candidate]) -> Result<Vec<GatePair>, Allo
 
 // Adds these pairs, by the first literal of each class.
 fn add_pairs(
-    candidates: &[Candidate],
+    candidates: &[TrueLiteral],
     firsts: &mut IndexMap<u64, SatLit>,
     pairs: &mut Vec<GatePair>,
 ) -> Result<(), AllocError> {

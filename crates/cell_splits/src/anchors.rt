@@ -38,7 +38,7 @@ const MOST_ALIKE: usize = 8;
 struct Profiles {
     blocks: Items<Items<Lanes>>,
     /// By the profiles, ascending.
-    places: Vec<Place>,
+    places: Vec<ProfiledVector>,
 }
 
 // By hand, so that each exit of a function has one call for it (docs/IDIOMS.md).
@@ -53,7 +53,7 @@ impl Drop for Profiles {
 
 /// A vector's profile, and its place in the blocks.
 #[derive(Clone, Copy, Drop, PartialEq, Eq, PartialOrd, Ord)]
-struct Place {
+struct ProfiledVector {
     profile: u64,
     block: usize,
     lane: usize,
@@ -100,7 +100,7 @@ impl Profiles {
     }
 
     // Whether an input is 1 on a vector.
-    fn bit(&self, place: Place, input: usize) -> bool {
+    fn bit(&self, place: ProfiledVector, input: usize) -> bool {
         let Some(inputs) = self.blocks.get(place.block) else {
             return false;
         };
@@ -129,9 +129,13 @@ fn draw_block(
     Ok(inputs)
 }
 
-fn add_places(hashes: &[u64], block: usize, places: &mut Vec<Place>) -> Result<(), AllocError> {
+fn add_places(
+    hashes: &[u64],
+    block: usize,
+    places: &mut Vec<ProfiledVector>,
+) -> Result<(), AllocError> {
     for (lane, profile) in hashes.iter().enumerate() {
-        places.push(Place {
+        places.push(ProfiledVector {
             profile: *profile,
             block,
             lane,
@@ -242,8 +246,8 @@ fn class_of(cells: &[usize], port: u32) -> u64 {
 /// A vector of each circuit, both with the same profile.
 #[derive(Clone, Copy, Drop)]
 struct Anchor {
-    first: Place,
-    second: Place,
+    first: ProfiledVector,
+    second: ProfiledVector,
 }
 
 /// Vectors of both circuits from which a climb starts, beside drawn ones: blocks of 256, a column for each input.
@@ -305,7 +309,7 @@ fn anchor_keys(
     alloc: Global,
     cells: &[usize],
     profiles: &Profiles,
-    place: Place,
+    place: ProfiledVector,
 ) -> Result<Vec<u64>, AllocError> {
     let mut keys = Vec::with_capacity(alloc, cells.len())?;
     for (literal, cell) in cells.iter().enumerate() {
@@ -329,7 +333,7 @@ fn anchors(alloc: Global, left: &Profiles, right: &Profiles) -> Result<Vec<Ancho
 
 /// The vectors of one profile.
 #[derive(Clone, Copy, Drop, PartialEq, Eq, PartialOrd, Ord)]
-struct Class {
+struct ProfileClass {
     /// Whether the first of them was drawn: those that were climbed to tell more.
     is_drawn: bool,
     /// How many vectors of both circuits have it.
@@ -341,7 +345,11 @@ struct Class {
 }
 
 // The profiles that vectors of both circuits have.
-fn classes(alloc: Global, left: &Profiles, right: &Profiles) -> Result<Vec<Class>, AllocError> {
+fn classes(
+    alloc: Global,
+    left: &Profiles,
+    right: &Profiles,
+) -> Result<Vec<ProfileClass>, AllocError> {
     let mut classes = Vec::new(alloc);
     let mut first = 0usize;
     let mut second = 0usize;
@@ -354,7 +362,7 @@ fn classes(alloc: Global, left: &Profiles, right: &Profiles) -> Result<Vec<Class
             alike(&right.places, second, one.profile.min(other.profile)),
         );
         if (mine > 0) & (its > 0) {
-            classes.push(Class {
+            classes.push(ProfileClass {
                 is_drawn: one.block > 0,
                 size: mine.saturating_add(its),
                 first,
@@ -368,7 +376,7 @@ fn classes(alloc: Global, left: &Profiles, right: &Profiles) -> Result<Vec<Class
 }
 
 // How many places from one on have a profile.
-fn alike(places: &[Place], from: usize, profile: u64) -> usize {
+fn alike(places: &[ProfiledVector], from: usize, profile: u64) -> usize {
     let mut count = 0usize;
     for place in from..places.len() {
         if places[place].profile != profile {
@@ -381,7 +389,7 @@ fn alike(places: &[Place], from: usize, profile: u64) -> usize {
 
 // Adds the first vector of a profile with each of the other circuit's.
 fn add_anchors(
-    class: Class,
+    class: ProfileClass,
     left: &Profiles,
     right: &Profiles,
     anchors: &mut Vec<Anchor>,

@@ -16,5 +16,6 @@ pub use netlists::{NETLIST_LIMIT, read_netlist};
 pub use outcome::{Ending, Outcome, Which};
 pub use report::{report_line, report_named};
 pub use words::{
-    Check, Command, DEFAULT_BUDGET, DEFAULT_SEED, Info, Make, Match, Restore, Trial, command_asked,
+    Check, Command, DEFAULT_BUDGET, DEFAULT_SEED, Info, MOST_DIGITS, Make, Match, Restore, Trial,
+    command_asked,
 };

@@ -15,7 +15,7 @@ pub const DEFAULT_BUDGET: u64 = 1_000_000_000;
 pub const DEFAULT_SEED: u64 = 1;
 
 /// The most digits that a number on the command line has.
-const MOST_DIGITS: usize = 20;
+pub const MOST_DIGITS: usize = 20;
 
 /// The files that a check names.
 #[derive(Clone, Copy, Debug)]

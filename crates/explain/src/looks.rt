@@ -4,7 +4,7 @@ use std::fmt;
 
 /// What a file looks like, by its first bytes.
 #[derive(Clone, Copy, Debug, PartialEq, Eq)]
-pub(crate) enum Look {
+pub(crate) enum FileLook {
     Empty,
     ByteOrderMark,
     /// By the program of this name.
@@ -15,31 +15,31 @@ pub(crate) enum Look {
 
 /// The first bytes that tell a file by themselves: the magic numbers of compressed files, and the byte order marks of
 /// UTF-8 and UTF-16.
-static MARKS: [(&[u8], Look); 7] = [
-    (b"\x1f\x8b", Look::Compressed("gzip")),
-    (b"\xfd7zXZ\x00", Look::Compressed("xz")),
-    (b"BZh", Look::Compressed("bzip2")),
-    (b"\x28\xb5\x2f\xfd", Look::Compressed("zstd")),
-    (b"\xef\xbb\xbf", Look::ByteOrderMark),
-    (b"\xff\xfe", Look::ByteOrderMark),
-    (b"\xfe\xff", Look::ByteOrderMark),
+static MARKS: [(&[u8], FileLook); 7] = [
+    (b"\x1f\x8b", FileLook::Compressed("gzip")),
+    (b"\xfd7zXZ\x00", FileLook::Compressed("xz")),
+    (b"BZh", FileLook::Compressed("bzip2")),
+    (b"\x28\xb5\x2f\xfd", FileLook::Compressed("zstd")),
+    (b"\xef\xbb\xbf", FileLook::ByteOrderMark),
+    (b"\xff\xfe", FileLook::ByteOrderMark),
+    (b"\xfe\xff", FileLook::ByteOrderMark),
 ];
 
 /// The words with which a text of Verilog or of Liberty begins.
-static WORDS: [(&[u8], Look); 6] = [
-    (b"module", Look::Verilog),
-    (b"`timescale", Look::Verilog),
-    (b"`define", Look::Verilog),
-    (b"`include", Look::Verilog),
-    (b"(*", Look::Verilog),
-    (b"library", Look::Liberty),
+static WORDS: [(&[u8], FileLook); 6] = [
+    (b"module", FileLook::Verilog),
+    (b"`timescale", FileLook::Verilog),
+    (b"`define", FileLook::Verilog),
+    (b"`include", FileLook::Verilog),
+    (b"(*", FileLook::Verilog),
+    (b"library", FileLook::Liberty),
 ];
 
-impl Look {
+impl FileLook {
     /// What a file looks like, where its first bytes tell it.
-    pub(crate) fn of(bytes: &[u8]) -> Option<Look> {
+    pub(crate) fn of(bytes: &[u8]) -> Option<FileLook> {
         if bytes.is_empty() {
-            return Some(Look::Empty);
+            return Some(FileLook::Empty);
         }
         match look_among(&MARKS, bytes) {
             Some(look) => Some(look),
@@ -49,26 +49,26 @@ impl Look {
 
     /// Whether its lines say something to people.
     pub(crate) fn is_text(self) -> bool {
-        matches!(self, Look::Verilog | Look::Liberty)
+        matches!(self, FileLook::Verilog | FileLook::Liberty)
     }
 }
 
 /// What it is, and what to do about it.
-impl fmt::Display for Look {
+impl fmt::Display for FileLook {
     fn fmt<W: fmt::Write>(&self, f: &mut fmt::Formatter<W>) -> fmt::Result {
         match self {
-            Look::Empty => f.write_str("the file is empty"),
-            Look::ByteOrderMark => f.write_str(
+            FileLook::Empty => f.write_str("the file is empty"),
+            FileLook::ByteOrderMark => f.write_str(
                 "the file begins with a byte order mark: write it without one, as ASCII or UTF-8",
             ),
-            Look::Compressed(program) => write!(
+            FileLook::Compressed(program) => write!(
                 f,
                 "this looks like a file compressed by {program}: `{program} -dc F > G`"
             ),
-            Look::Verilog => f.write_str(
+            FileLook::Verilog => f.write_str(
                 "this looks like Verilog: `yosys -p 'read_verilog F; synth -flatten; write_blif G'`",
             ),
-            Look::Liberty => f.write_str(
+            FileLook::Liberty => f.write_str(
                 "this looks like a Liberty library, not a netlist: of a cell, `yosys -p 'read_liberty F; \
                  prep -top CELL; techmap; write_blif G'`",
             ),
@@ -76,7 +76,7 @@ impl fmt::Display for Look {
     }
 }
 
-fn look_among(table: &[(&[u8], Look)], bytes: &[u8]) -> Option<Look> {
+fn look_among(table: &[(&[u8], FileLook)], bytes: &[u8]) -> Option<FileLook> {
     for (mark, look) in table {
         if bytes.starts_with(mark) {
             return Some(*look);

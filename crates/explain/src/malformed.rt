@@ -4,7 +4,7 @@ ghost use Rattle.std.specs.Prelude.{◌≡◌};
 ghost use Rattle.refusal_words.specs.Files.{SameFiles};
 ghost use Rattle.shelf_core.specs.State.{Closed};
 
-use crate::looks::Look;
+use crate::looks::FileLook;
 use crate::meanings::meaning_of_kind;
 use crate::places::{line_around, place_of};
 use crate::remedies::Remedy;
@@ -41,7 +41,7 @@ pub(crate) fn put_unread(name: &str, fault: NetFault, text: &mut String) -> Resu
 fn put_fault(name: &str, bytes: &[u8], fault: NetFault, text: &mut String) -> Result<(), ReadStop> {
     let at = fault.at.min(bytes.len() as u64) as usize;
     let line = line_around(bytes, at);
-    let look = Look::of(bytes);
+    let look = FileLook::of(bytes);
     if is_binary(fault.kind, bytes) {
         put_unread(name, fault, text)?;
     } else {
@@ -60,7 +60,7 @@ fn is_binary(kind: NetKind, bytes: &[u8]) -> bool {
 }
 
 /// Whether the line of a fault is text that says something.
-fn shows_line(kind: NetKind, look: Option<Look>, line: &[u8]) -> bool {
+fn shows_line(kind: NetKind, look: Option<FileLook>, line: &[u8]) -> bool {
     let is_text = match look {
         Some(look) => look.is_text(),
         None => true,
@@ -70,7 +70,7 @@ fn shows_line(kind: NetKind, look: Option<Look>, line: &[u8]) -> bool {
 
 fn put_help(
     name: &str,
-    look: Option<Look>,
+    look: Option<FileLook>,
     remedy: Option<Remedy>,
     text: &mut String,
 ) -> Result<(), ReadStop> {

@@ -6,7 +6,7 @@ use std::fmt;
 
 /// Where a byte of a text stands.
 #[derive(Clone, Copy, Debug, PartialEq, Eq)]
-pub(crate) struct Place {
+pub(crate) struct TextPlace {
     /// Its line, from 1.
     line: usize,
     /// Its column in that line, in bytes, from 1.
@@ -14,17 +14,17 @@ pub(crate) struct Place {
 }
 
 /// As `LINE:COLUMN`.
-impl fmt::Display for Place {
+impl fmt::Display for TextPlace {
     fn fmt<W: fmt::Write>(&self, f: &mut fmt::Formatter<W>) -> fmt::Result {
-        let Place { line, column } = *self;
+        let TextPlace { line, column } = *self;
         write!(f, "{line}:{column}")
     }
 }
 
 /// Where the byte at an offset stands, or the end of the text where it has no more.
-pub(crate) fn place_of(text: &[u8], at: usize) -> Place {
+pub(crate) fn place_of(text: &[u8], at: usize) -> TextPlace {
     let before = &text[..at.min(text.len())];
-    Place {
+    TextPlace {
         line: count_lines(before).saturating_add(1),
         column: (before.len() - line_start(before)).saturating_add(1),
     }

@@ -1,11 +1,9 @@
 //! Which word of the command line is of no form.
 
+use check_steps::MOST_DIGITS;
 use refusal_words::TerminalText;
 use std::fmt;
 use text_core::is_numeral;
-
-/// The most digits of a number on the command line.
-const MOST_DIGITS: usize = 20;
 
 /// What a word after a command's name is for.
 #[derive(Clone, Copy, Debug, PartialEq, Eq)]
@@ -38,7 +36,7 @@ impl fmt::Display for Slot {
 
 /// The words after a command's name: so many are wanted, and the others may be left out.
 #[derive(Clone, Copy)]
-struct Form {
+struct CommandForm {
     slots: &'static [Slot],
     wanted: usize,
 }
@@ -62,7 +60,7 @@ const MAKE: &[Slot] = &[Slot::Number, Slot::First, Slot::Second];
 const TRIAL: &[Slot] = &[Slot::Number];
 
 /// The form of the words after a command's name, where there is such a command.
-fn form_of(command: &str) -> Option<Form> {
+fn form_of(command: &str) -> Option<CommandForm> {
     let (slots, wanted) = match command {
         "match" => (MATCH, 3),
         "check" => (CHECK, 3),
@@ -72,7 +70,7 @@ fn form_of(command: &str) -> Option<Form> {
         "trial" => (TRIAL, 1),
         _ => return None,
     };
-    Some(Form { slots, wanted })
+    Some(CommandForm { slots, wanted })
 }
 
 /// Why the words of a command line are of no form.

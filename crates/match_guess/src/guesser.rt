@@ -56,7 +56,7 @@ const FEW_TRIED: u32 = 4;
 
 /// What a state comes to.
 #[derive(Drop)]
-enum Visit {
+enum Visited {
     /// The inputs are paired, and the outputs by vectors.
     Paired(State),
     /// An input is guessed.
@@ -274,9 +274,9 @@ impl<'a> Guesser<'a> {
         let mut state = root;
         for _ in 0..MOST_STATES {
             match self.visit(alloc, state)? {
-                Visit::Paired(state) => return Ok(Attempt::Paired(state)),
-                Visit::Guess(point) => points.push(point)?,
-                Visit::Fails => patience.fail(),
+                Visited::Paired(state) => return Ok(Attempt::Paired(state)),
+                Visited::Guess(point) => points.push(point)?,
+                Visited::Fails => patience.fail(),
             }
             if patience.is_over() || self.is_spent() {
                 return Ok(Attempt::Stopped);
@@ -296,12 +296,12 @@ impl<'a> Guesser<'a> {
     }
 
     // Refines a state, and chooses what is guessed next.
-    fn visit(&mut self, alloc: Global, state: State) -> Result<Visit, AllocError> {
+    fn visit(&mut self, alloc: Global, state: State) -> Result<Visited, AllocError> {
         let Some(state) = self.refiner.refined(alloc, state)? else {
-            return Ok(Visit::Fails);
+            return Ok(Visited::Fails);
         };
         match self.next_point(alloc, state)? {
-            Next::Guess(point) => Ok(Visit::Guess(point)),
+            Next::Guess(point) => Ok(Visited::Guess(point)),
             Next::Paired(state) => self.paired(alloc, state),
         }
     }
@@ -333,10 +333,10 @@ impl<'a> Guesser<'a> {
             & !state.inputs.is_discrete()
     }
 
-    fn paired(&mut self, alloc: Global, state: State) -> Result<Visit, AllocError> {
+    fn paired(&mut self, alloc: Global, state: State) -> Result<Visited, AllocError> {
         match self.refiner.with_paired_outputs(alloc, state, &self.kept)? {
-            Some(state) => Ok(Visit::Paired(state)),
-            None => Ok(Visit::Fails),
+            Some(state) => Ok(Visited::Paired(state)),
+            None => Ok(Visited::Fails),
         }
     }
 }

@@ -15,7 +15,7 @@ use std::alloc::{AllocError, Global};
 
 // A port, how many ways it has left, and its weight.
 #[derive(Clone, Copy)]
-struct Candidate {
+struct WeighedPort {
     port: Port,
     ways: u64,
     weight: u64,
@@ -46,13 +46,13 @@ pub(crate) fn fewest_ways(
 }
 
 // The candidate, as if it had this many times its ways.
-fn counted(candidate: Option<Candidate>, factor: u64) -> Option<Candidate> {
-    let Candidate { port, ways, weight } = candidate?;
+fn counted(candidate: Option<WeighedPort>, factor: u64) -> Option<WeighedPort> {
+    let WeighedPort { port, ways, weight } = candidate?;
     let ways = ways.saturating_mul(factor);
-    Some(Candidate { port, ways, weight })
+    Some(WeighedPort { port, ways, weight })
 }
 
-fn fewest_of_outputs(weights: &Weights, domains: &Domains) -> Option<Candidate> {
+fn fewest_of_outputs(weights: &Weights, domains: &Domains) -> Option<WeighedPort> {
     let first = fewest_of(weights, domains, Side::First, PortKind::Output, &[]);
     let second = fewest_of(weights, domains, Side::Second, PortKind::Output, &[]);
     fewer(first, second)
@@ -65,7 +65,7 @@ fn fewest_read(
     weights: &Weights,
     domains: &Domains,
     side: Side,
-) -> Result<Option<Candidate>, AllocError> {
+) -> Result<Option<WeighedPort>, AllocError> {
     let mut read = vec![in alloc; false; domains.ports(PortKind::Input) as usize]?;
     for pair in domains.pairs().iter() {
         mark_read(reads, *pair, side, &mut read);
@@ -98,7 +98,7 @@ fn fewest_of(
     side: Side,
     kind: PortKind,
     read: &[bool],
-) -> Option<Candidate> {
+) -> Option<WeighedPort> {
     let mut best = None;
     for number in 0..domains.ports(kind) {
         if is_looked_at(kind, number, read) {
@@ -122,7 +122,7 @@ fn candidate_at(
     side: Side,
     kind: PortKind,
     number: u32,
-) -> Option<Candidate>
+) -> Option<WeighedPort>
     requires { number < ports_of domains.now.inputs domains.now.outputs kind }
 {
     if let Some(_) = domains.held(side, kind, number) {
@@ -131,7 +131,7 @@ fn candidate_at(
     let ways = (domains.ports(kind) as usize).saturating_mul(2);
     let gone = domains.gone(side, kind, number);
     let port = Port { side, kind, number };
-    Some(Candidate {
+    Some(WeighedPort {
         port,
         ways: ways.saturating_sub(gone) as u64,
         weight: weights.of(port),
@@ -139,7 +139,7 @@ fn candidate_at(
 }
 
 // The one of two candidates that has fewer ways for its weight.
-fn fewer(one: Option<Candidate>, other: Option<Candidate>) -> Option<Candidate> {
+fn fewer(one: Option<WeighedPort>, other: Option<WeighedPort>) -> Option<WeighedPort> {
     let Some(first) = one else {
         return other;
     };

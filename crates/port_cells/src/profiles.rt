@@ -9,7 +9,7 @@ use std::cmp::Reverse;
 
 /// How often a literal changes with one of another cell, or how often it is true.
 #[derive(Clone, Copy, Debug, Drop, PartialEq, Eq, PartialOrd, Ord)]
-struct Entry {
+struct ProfileEntry {
     /// 0 for how often the literal is true, and else one more than the other literal's cell.
     cell: usize,
     /// The greatest counts of a cell come first, so that counts of no change may be left out.
@@ -19,7 +19,7 @@ struct Entry {
 /// What is counted of a literal, ascending.
 #[derive(Debug, Drop)]
 pub struct Profile {
-    entries: Items<Entry>,
+    entries: Items<ProfileEntry>,
 }
 
 /// How far counts of corresponding literals may be apart.
@@ -64,7 +64,7 @@ impl Profile {
 }
 
 // Whether an entry stands in the first cell that is left.
-fn is_next(one: Option<&Entry>, other: Option<&Entry>) -> bool {
+fn is_next(one: Option<&ProfileEntry>, other: Option<&ProfileEntry>) -> bool {
     match (one, other) {
         (Some(one), Some(other)) => one.cell <= other.cell,
         _ => true,
@@ -72,7 +72,7 @@ fn is_next(one: Option<&Entry>, other: Option<&Entry>) -> bool {
 }
 
 // Whether two entries are near, where they are of one cell; else the first of them is compared with no change.
-fn are_near(one: Option<&Entry>, other: Option<&Entry>, slack: Slack) -> bool {
+fn are_near(one: Option<&ProfileEntry>, other: Option<&ProfileEntry>, slack: Slack) -> bool {
     match (one, other) {
         (Some(one), Some(other)) => {
             let least = one.cell.min(other.cell);
@@ -84,7 +84,7 @@ fn are_near(one: Option<&Entry>, other: Option<&Entry>, slack: Slack) -> bool {
     }
 }
 
-impl Entry {
+impl ProfileEntry {
     // The count where the entry is of a cell, and else no change.
     fn count_in(&self, cell: usize) -> u32 {
         if self.cell == cell { self.count.0 } else { 0 }
@@ -161,9 +161,9 @@ fn profile_of(
     })
 }
 
-fn add_entry(cell: usize, count: u32, entries: &mut Vec<Entry>) -> Result<(), AllocError> {
+fn add_entry(cell: usize, count: u32, entries: &mut Vec<ProfileEntry>) -> Result<(), AllocError> {
     if count > 0 {
-        entries.push(Entry {
+        entries.push(ProfileEntry {
             cell,
             count: Reverse(count),
         })?;
@@ -195,7 +195,7 @@ pub fn near_keys(
     let mine = cells.members(alloc, Side::First)?;
     let its = cells.members(alloc, Side::Second)?;
     for (mine, its) in mine.iter().zip(its.iter()) {
-        let classes = Classes::new(alloc, mine, its, first, second, slack)?;
+        let classes = NearClasses::new(alloc, mine, its, first, second, slack)?;
         put_keys(mine, &classes.left, &mut left);
         put_keys(its, &classes.right, &mut right);
     }
@@ -211,22 +211,22 @@ fn put_keys(literals: &[usize], classes: &[u64], keys: &mut [u64]) {
 }
 
 // The components of "near" among the literals of a cell: a number for each literal of either circuit.
-struct Classes {
+struct NearClasses {
     left: Vec<u64>,
     right: Vec<u64>,
 }
 
 // By hand, so that each exit of a function has one call for it (docs/IDIOMS.md).
-impl Drop for Classes {
+impl Drop for NearClasses {
     fn drop(self) {
-        let Classes {
+        let NearClasses {
             left: _left,
             right: _right,
         } = self;
     }
 }
 
-impl Classes {
+impl NearClasses {
     fn new(
         alloc: Global,
         mine: &[usize],
@@ -234,8 +234,8 @@ impl Classes {
         first: &[Profile],
         second: &[Profile],
         slack: Slack,
-    ) -> Result<Classes, AllocError> {
-        let mut classes = Classes {
+    ) -> Result<NearClasses, AllocError> {
+        let mut classes = NearClasses {
             left: numbers(alloc, 0, mine.len())?,
             right: numbers(alloc, mine.len(), its.len())?,
         };

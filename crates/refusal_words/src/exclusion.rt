@@ -1,6 +1,6 @@
 //! Why ports can't be paired, in words.
 
-use crate::netlists::{Netlists, Port, Source};
+use crate::netlists::{NamedNetlist, NamedPort, Netlists};
 use account_core::Tallied;
 use circuits::{Pair, PortKind};
 use claim_core::{Claim, Shape};
@@ -8,13 +8,13 @@ use std::fmt;
 
 /// Why no match has all pairs of a ban.
 #[derive(Clone, Copy)]
-pub(crate) enum Exclusion<'a> {
+pub(crate) enum WhyExcluded<'a> {
     /// Of two outputs one has at least so many such inputs, and the other one has at most so many.
     Tally {
         kind: Tallied,
-        having: Port<'a>,
+        having: NamedPort<'a>,
         have: usize,
-        lacking: Port<'a>,
+        lacking: NamedPort<'a>,
         most: usize,
     },
     /// An output falls on some vector, and its partner on none.
@@ -24,29 +24,29 @@ pub(crate) enum Exclusion<'a> {
     },
     /// Two outputs differ on some vector.
     Vector {
-        output: Port<'a>,
-        partner: Port<'a>,
+        output: NamedPort<'a>,
+        partner: NamedPort<'a>,
     },
     /// This port, or a port among those of which this is the first, has no partner left.
-    NoneLeft(Port<'a>),
+    NoneLeft(NamedPort<'a>),
 }
 
 /// An output, and a change of one or two inputs of its netlist.
 #[derive(Clone, Copy)]
 pub(crate) struct Fall<'a> {
-    output: Port<'a>,
-    change: Change<'a>,
+    output: NamedPort<'a>,
+    change: ClaimChange<'a>,
 }
 
 /// A change of one or two inputs.
 #[derive(Clone, Copy)]
-enum Change<'a> {
-    Rises(Port<'a>),
-    Falls(Port<'a>),
+enum ClaimChange<'a> {
+    Rises(NamedPort<'a>),
+    Falls(NamedPort<'a>),
     /// Both inputs go from these values to the opposite ones.
     Both {
-        one: Port<'a>,
-        other: Port<'a>,
+        one: NamedPort<'a>,
+        other: NamedPort<'a>,
         from: (bool, bool),
     },
 }
@@ -61,11 +61,11 @@ impl<'a> Fall<'a> {
     }
 }
 
-fn change_of<'a>(source: &'a Source<'_>, shape: Shape) -> Change<'a> {
+fn change_of<'a>(source: &'a NamedNetlist<'_>, shape: Shape) -> ClaimChange<'a> {
     match shape {
-        Shape::Up(i) => Change::Rises(source.port(PortKind::Input, i)),
-        Shape::Down(i) => Change::Falls(source.port(PortKind::Input, i)),
-        Shape::Swap { i, j, a, b } => Change::Both {
+        Shape::Up(i) => ClaimChange::Rises(source.port(PortKind::Input, i)),
+        Shape::Down(i) => ClaimChange::Falls(source.port(PortKind::Input, i)),
+        Shape::Swap { i, j, a, b } => ClaimChange::Both {
             one: source.port(PortKind::Input, i),
             other: source.port(PortKind::Input, j),
             from: (a, b),
@@ -73,20 +73,20 @@ fn change_of<'a>(source: &'a Source<'_>, shape: Shape) -> Change<'a> {
     }
 }
 
-impl<'a> Exclusion<'a> {
+impl<'a> WhyExcluded<'a> {
     /// What a tally says, by a claim of the output that has the inputs and one of the output that lacks them.
     pub(crate) fn tally(
         netlists: &'a Netlists<'_>,
         kind: Tallied,
         counts: (usize, usize),
         claims: (Claim, Claim),
-    ) -> Exclusion<'a> {
+    ) -> WhyExcluded<'a> {
         let lacking = netlists.on(claims.1.side);
         let (have, lack) = match kind {
             Tallied::Support => (counts.0, counts.1 / 2),
             Tallied::Binate => (counts.0 / 2, counts.1),
         };
-        Exclusion::Tally {
+        WhyExcluded::Tally {
             kind,
             having: netlists
                 .on(claims.0.side)
@@ -98,8 +98,8 @@ impl<'a> Exclusion<'a> {
     }
 
     /// What a mismatch says, by the claim that fails and the one that holds.
-    pub(crate) fn mismatch(netlists: &'a Netlists<'_>, claims: (Claim, Claim)) -> Exclusion<'a> {
-        Exclusion::Mismatch {
+    pub(crate) fn mismatch(netlists: &'a Netlists<'_>, claims: (Claim, Claim)) -> WhyExcluded<'a> {
+        WhyExcluded::Mismatch {
             falls: Fall::of(netlists, claims.0),
             never: Fall::of(netlists, claims.1),
         }
@@ -110,10 +110,10 @@ impl<'a> Exclusion<'a> {
         netlists: &'a Netlists<'_>,
         output: u32,
         pairs: &[Pair],
-    ) -> Option<Exclusion<'a>> {
+    ) -> Option<WhyExcluded<'a>> {
         let pair = pairs.iter().find(|pair| (pair.kind == PortKind::Output)
             & (pair.from == output))?;
-        Some(Exclusion::Vector {
+        Some(WhyExcluded::Vector {
             output: netlists.first.port(PortKind::Output, output),
             partner: netlists.second.port(PortKind::Output, pair.to),
         })
@@ -125,21 +125,21 @@ impl<'a> Exclusion<'a> {
         kind: PortKind,
         from: &[u32],
         to: &[u32],
-    ) -> Option<Exclusion<'a>> {
+    ) -> Option<WhyExcluded<'a>> {
         let (source, ports) = if to.len() == 1 {
             (&netlists.second, to)
         } else {
             (&netlists.first, from)
         };
-        Some(Exclusion::NoneLeft(source.port(kind, *ports.first()?)))
+        Some(WhyExcluded::NoneLeft(source.port(kind, *ports.first()?)))
     }
 }
 
 /// As the end of a sentence, after `since`.
-impl fmt::Display for Exclusion<'_> {
+impl fmt::Display for WhyExcluded<'_> {
     fn fmt<W: fmt::Write>(&self, f: &mut fmt::Formatter<W>) -> fmt::Result {
         match self {
-            Exclusion::Tally {
+            WhyExcluded::Tally {
                 kind,
                 having,
                 have,
@@ -155,25 +155,25 @@ impl fmt::Display for Exclusion<'_> {
                     "{having} {verb} {have} inputs or more, {lacking} {preposition} {most} at most"
                 )
             }
-            Exclusion::Mismatch { falls, never } => write!(
+            WhyExcluded::Mismatch { falls, never } => write!(
                 f,
                 "{} falls on some vector as {}, {} on none as {}",
                 falls.output, falls.change, never.output, never.change
             ),
-            Exclusion::Vector { output, partner } => {
+            WhyExcluded::Vector { output, partner } => {
                 write!(f, "{output} and {partner} differ on some vector")
             }
-            Exclusion::NoneLeft(port) => write!(f, "{port} has no partner then"),
+            WhyExcluded::NoneLeft(port) => write!(f, "{port} has no partner then"),
         }
     }
 }
 
-impl fmt::Display for Change<'_> {
+impl fmt::Display for ClaimChange<'_> {
     fn fmt<W: fmt::Write>(&self, f: &mut fmt::Formatter<W>) -> fmt::Result {
         match self {
-            Change::Rises(input) => write!(f, "input {} rises", input.name()),
-            Change::Falls(input) => write!(f, "input {} falls", input.name()),
-            Change::Both {
+            ClaimChange::Rises(input) => write!(f, "input {} rises", input.name()),
+            ClaimChange::Falls(input) => write!(f, "input {} falls", input.name()),
+            ClaimChange::Both {
                 one,
                 other,
                 from: (a, b),

@@ -8,12 +8,12 @@ use std::fmt;
 
 /// A netlist, and the name of its file.
 #[derive(Drop)]
-pub(crate) struct Source<'a> {
+pub(crate) struct NamedNetlist<'a> {
     pub(crate) file: &'a str,
     pub(crate) named: Named,
 }
 
-impl Source<'_> {
+impl NamedNetlist<'_> {
     /// The names of its ports of a kind.
     fn names(&self, kind: PortKind) -> &[Name] {
         match kind {
@@ -27,8 +27,8 @@ impl Source<'_> {
     }
 
     /// The port of a number.
-    pub(crate) fn port(&self, kind: PortKind, number: u32) -> Port<'_> {
-        Port {
+    pub(crate) fn port(&self, kind: PortKind, number: u32) -> NamedPort<'_> {
+        NamedPort {
             file: self.file,
             kind,
             name: match self.names(kind).get(number as usize) {
@@ -42,12 +42,12 @@ impl Source<'_> {
 /// The two netlists.
 #[derive(Drop)]
 pub(crate) struct Netlists<'a> {
-    pub(crate) first: Source<'a>,
-    pub(crate) second: Source<'a>,
+    pub(crate) first: NamedNetlist<'a>,
+    pub(crate) second: NamedNetlist<'a>,
 }
 
 impl<'a> Netlists<'a> {
-    pub(crate) fn on(&self, side: Side) -> &Source<'a> {
+    pub(crate) fn on(&self, side: Side) -> &NamedNetlist<'a> {
         match side {
             Side::First => &self.first,
             Side::Second => &self.second,
@@ -63,22 +63,22 @@ impl<'a> Netlists<'a> {
 
 /// A port of a netlist.
 #[derive(Clone, Copy)]
-pub(crate) struct Port<'a> {
+pub(crate) struct NamedPort<'a> {
     file: &'a str,
     kind: PortKind,
     name: &'a [u8],
 }
 
-impl<'a> Port<'a> {
+impl<'a> NamedPort<'a> {
     pub(crate) fn name(&self) -> TerminalText<'a> {
         TerminalText(self.name)
     }
 }
 
 /// As `output y of FILE`.
-impl fmt::Display for Port<'_> {
+impl fmt::Display for NamedPort<'_> {
     fn fmt<W: fmt::Write>(&self, f: &mut fmt::Formatter<W>) -> fmt::Result {
-        let Port { file, kind, name } = *self;
+        let NamedPort { file, kind, name } = *self;
         let kind = Kind(kind);
         write!(
             f,

@@ -6,8 +6,8 @@ ghost use Rattle.shelf_core.specs.State.{Closed};
 
 use crate::account_search::{BanSearch, ClaimSearch, ConclusionSearch, Records};
 use crate::cover::{Cover, Way};
-use crate::exclusion::Exclusion;
-use crate::netlists::{Count, Netlists, Source};
+use crate::exclusion::WhyExcluded;
+use crate::netlists::{Count, NamedNetlist, Netlists};
 use crate::pieces::seek_in;
 use crate::terminal_text::TerminalText;
 use account_core::{Ban, Step};
@@ -34,7 +34,7 @@ pub fn put_refusal<S: Shelf>(
     let second = source_again(alloc, shelf, Which::Second, asked.second)?;
     let netlists = Netlists { first, second };
     if !netlists.have_as_many() {
-        return Ok(writeln!(text, "{}", Counts(&netlists))?);
+        return Ok(writeln!(text, "{}", OtherPortCounts(&netlists))?);
     }
     put_last_exclusion(alloc, asked.account, &netlists, shelf, text)
 }
@@ -44,13 +44,13 @@ fn source_again<'a, S: Shelf>(
     shelf: &mut S,
     which: Which,
     file: &'a str,
-) -> Result<Source<'a>, ReadStop>
+) -> Result<NamedNetlist<'a>, ReadStop>
     requires { (S.state shelf.old).mode ≡ Closed }
     ensures files { SameFiles (S.state shelf.old) (S.state shelf.new) }
     ensures closed { OnOk result ((S.state shelf.new).mode ≡ Closed) }
 {
     let named = netlist_again(alloc, shelf, which, file)?;
-    Ok(Source { file, named })
+    Ok(NamedNetlist { file, named })
 }
 
 /// The netlist of a file that a run has read. Where it can't be read as one again, that is a read fault.
@@ -72,11 +72,11 @@ pub fn netlist_again<S: Shelf>(
 
 /// That two netlists have other numbers of ports.
 #[derive(Clone, Copy)]
-struct Counts<'a>(&'a Netlists<'a>);
+struct OtherPortCounts<'a>(&'a Netlists<'a>);
 
-impl fmt::Display for Counts<'_> {
+impl fmt::Display for OtherPortCounts<'_> {
     fn fmt<W: fmt::Write>(&self, f: &mut fmt::Formatter<W>) -> fmt::Result {
-        let Counts(netlists) = self;
+        let OtherPortCounts(netlists) = self;
         let (first, second) = (Ports(&netlists.first), Ports(&netlists.second));
         write!(f, "{first}, {second}: a match has a partner for each port")
     }
@@ -84,7 +84,7 @@ impl fmt::Display for Counts<'_> {
 
 /// How many ports a netlist has.
 #[derive(Clone, Copy)]
-struct Ports<'a>(&'a Source<'a>);
+struct Ports<'a>(&'a NamedNetlist<'a>);
 
 impl fmt::Display for Ports<'_> {
     fn fmt<W: fmt::Write>(&self, f: &mut fmt::Formatter<W>) -> fmt::Result {
@@ -99,7 +99,7 @@ impl fmt::Display for Ports<'_> {
     }
 }
 
-fn count(source: &Source<'_>, kind: PortKind) -> Count {
+fn count(source: &NamedNetlist<'_>, kind: PortKind) -> Count {
     Count {
         ports: source.count(kind),
         kind,
@@ -190,20 +190,20 @@ fn exclusion_of<'a, S: Shelf>(
     netlists: &'a Netlists<'_>,
     ban: &Ban,
     shelf: &mut S,
-) -> Result<Option<Exclusion<'a>>, ReadStop>
+) -> Result<Option<WhyExcluded<'a>>, ReadStop>
     requires { (S.state shelf.old).mode ≡ Closed }
     ensures { SameFiles (S.state shelf.old) (S.state shelf.new) }
 {
     match &ban.step {
         Step::Vector { output, .. } => {
-            Ok(Exclusion::vector(netlists, *output, ban.pairs.as_slice()))
+            Ok(WhyExcluded::vector(netlists, *output, ban.pairs.as_slice()))
         }
         Step::Cover { kind, from, to, .. } => {
-            Ok(Exclusion::none_left(netlists, *kind, from, to))
+            Ok(WhyExcluded::none_left(netlists, *kind, from, to))
         }
         Step::Mismatch { fails, holds } => {
             let claims = claims_of(alloc, account, (*fails, *holds), shelf)?;
-            Ok(claims.map(|claims| Exclusion::mismatch(netlists, claims)))
+            Ok(claims.map(|claims| WhyExcluded::mismatch(netlists, claims)))
         }
         Step::Tally { kind, have, lack } => {
             let Some(facts) = have.first().copied().zip(lack.first().copied()) else {
@@ -211,7 +211,7 @@ fn exclusion_of<'a, S: Shelf>(
             };
             let claims = claims_of(alloc, account, facts, shelf)?;
             let counts = (have.len(), lack.len());
-            Ok(claims.map(|claims| Exclusion::tally(netlists, *kind, counts, claims)))
+            Ok(claims.map(|claims| WhyExcluded::tally(netlists, *kind, counts, claims)))
         }
     }
 }
