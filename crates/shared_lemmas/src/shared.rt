@@ -248,31 +248,31 @@ fn turn_to(
         }) asked
         → OnOk result (All (IsPaid graphs.now query.now asked) stock.new.lines.items) }
 {
-    let held = only(alloc, query)?;
+    let own = only(alloc, query)?;
     if is_under(query, &stock.held) {
-        stock.held = held;
+        stock.held = own;
         return Ok(());
     }
     *stock = Stock::new(alloc, stock.given);
-    stock.held = held;
+    stock.held = own;
     Ok(())
 }
 
 // A query alone.
 fn only(alloc: Global, query: &Query) -> Result<Vec<Query>, AllocError>
-    ensures { IfOk result (λ held. held.items ≡ query.now ∷ []) }
+    ensures { IfOk result (λ queries. queries.items ≡ query.now ∷ []) }
 {
-    let mut held = Vec::new(alloc);
-    held.push(query.copy()?)?;
-    Ok(held)
+    let mut queries = Vec::new(alloc);
+    queries.push(query.copy()?)?;
+    Ok(queries)
 }
 
 // Whether a query has the feeds of the query that was asked last, if there is one.
-fn is_under(query: &Query, held: &[Query]) -> bool
-    ensures { IsTrue result → IsUnder query.now held.now }
+fn is_under(query: &Query, last: &[Query]) -> bool
+    ensures { IsTrue result → IsUnder query.now last.now }
 {
-    if held.is_empty() {
+    if last.is_empty() {
         return false;
     }
-    have_same_feeds(&held[0], query)
+    have_same_feeds(&last[0], query)
 }

@@ -11,7 +11,7 @@ returns-then-is_under-clause-hold c =
 
 pub returns-then-is_under-clause-shared : goal.returns-then-is_under-clause-shared
 returns-then-is_under-clause-shared c =
-    of_one _ _ _ _ c.in_ok-held.ensures (turned _ _ _ _ c.requires.shared (subst (IsUnder c.args.query.now) c.deref.ensures.value (c.is_under.ensures c.if-is_under.true)))
+    of_one _ _ _ _ c.in_ok-own.ensures (turned _ _ _ _ c.requires.shared (subst (IsUnder c.args.query.now) c.deref.ensures.value (c.is_under.ensures c.if-is_under.true)))
 
 pub returns-then-is_under-clause-paid : goal.returns-then-is_under-clause-paid
 returns-then-is_under-clause-paid c asked known =
