@@ -56,9 +56,9 @@ pub(crate) fn ask_assigned<O: Oracle>(
     // assigned pairs are of ports that exist, and share none
     let _lawful = domains.entries();
     let count = session.book.bans().len();
-    let held = domains.pairs();
+    let assigned = domains.pairs();
     ask_alone(graphs, session, pair)?;
-    for other in held.iter() {
+    for other in assigned.iter() {
         ask_two(graphs, session, pair, *other)?;
     }
     Ok(session.book.bans().len() > count)

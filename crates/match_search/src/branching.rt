@@ -139,7 +139,7 @@ fn turn<O: Oracle>(
     };
     let before = session.book.bans().len();
     let dead = conflict.ban();
-    session.heuristics.guide.hurry(&conflict);
+    session.heuristics.guide.note_conflict(&conflict);
     let refusal = turn_back(
         session.asker.alloc,
         graphs,
@@ -152,7 +152,10 @@ fn turn<O: Oracle>(
         .heuristics
         .guide
         .learn(session.book.bans(), before, dead);
-    session.heuristics.guide.forget(trail.domains.pairs().len());
+    session
+        .heuristics
+        .guide
+        .go_back_to(trail.domains.pairs().len());
     match refusal {
         None => Ok(None),
         Some(ban) => Ok(Some(Found::None(ban))),

@@ -22,7 +22,7 @@ use std::alloc::Global;
 /// guesses. An adder of 32 bits has 2,112. Near misses of an encoder of 64 bits and of a subtractor and an incrementer
 /// of 32 are refused in a quarter of the time that way, though one of a unit of 24 bits that adds and subtracts takes
 /// twice as long. An adder of 128 bits has 33,024, and asks for seconds there, though its matching is guessed in one.
-const FEW_FLIPS: u64 = 2_304;
+const FEW_CLAIMS: u64 = 2_304;
 
 /// How often a refusal by counts is tried before more matchings are guessed: once, since vectors that err there say
 /// little, and of circuits that match each further try is lost.
@@ -96,7 +96,7 @@ pub fn decide<O: Oracle>(
 fn first_effort(graphs: &PairableGraphs<'_>) -> Effort {
     let inputs = graphs.ports(PortKind::Input) as u64;
     let outputs = graphs.ports(PortKind::Output) as u64;
-    if inputs.saturating_mul(outputs) <= FEW_FLIPS {
+    if inputs.saturating_mul(outputs) <= FEW_CLAIMS {
         Effort::Little
     } else {
         Effort::Whole

@@ -19,16 +19,16 @@ use oracle_core::Oracle;
 pub(crate) fn exclude_by_swaps<O: Oracle>(
     graphs: &PairableGraphs<'_>,
     session: &mut Session<'_, O>,
-    held: &[Pair],
+    assigned: &[Pair],
     newest: Pair,
 ) -> Result<Option<u64>, Stop>
     requires may { MayGoOn graphs.now (lent O.known session.old) }
-    requires known { All (IsKnown graphs.now) held.now }
-    requires held { Contains held.now newest }
-    ensures { Excludes graphs.now (lent O.known session.old) (lent O.known session.new) held.now result }
+    requires known { All (IsKnown graphs.now) assigned.now }
+    requires newest { Contains assigned.now newest }
+    ensures { Excludes graphs.now (lent O.known session.old) (lent O.known session.new) assigned.now result }
 {
-    for other in held.iter() {
-        if let Some(ban) = exclude_with(graphs, session, held, newest, *other)? {
+    for other in assigned.iter() {
+        if let Some(ban) = exclude_with(graphs, session, assigned, newest, *other)? {
             return Ok(Some(ban));
         }
     }
@@ -39,20 +39,20 @@ pub(crate) fn exclude_by_swaps<O: Oracle>(
 fn exclude_with<O: Oracle>(
     graphs: &PairableGraphs<'_>,
     session: &mut Session<'_, O>,
-    held: &[Pair],
+    assigned: &[Pair],
     newest: Pair,
     other: Pair,
 ) -> Result<Option<u64>, Stop>
     requires may { MayGoOn graphs.now (lent O.known session.old) }
-    requires known { All (IsKnown graphs.now) held.now }
-    requires newest_held { Contains held.now newest }
-    requires other_held { Contains held.now other }
-    ensures { Excludes graphs.now (lent O.known session.old) (lent O.known session.new) held.now result }
+    requires known { All (IsKnown graphs.now) assigned.now }
+    requires newest { Contains assigned.now newest }
+    requires other { Contains assigned.now other }
+    ensures { Excludes graphs.now (lent O.known session.old) (lent O.known session.new) assigned.now result }
 {
     if other.kind == PortKind::Output {
         return Ok(None);
     }
-    for third in held.iter() {
+    for third in assigned.iter() {
         if let Some(ban) = exclude_three(graphs, session, newest, other, *third)? {
             return Ok(Some(ban));
         }
@@ -73,11 +73,11 @@ fn exclude_three<O: Oracle>(
     requires other_known { IsKnown graphs.now other }
     requires third_known { IsKnown graphs.now third }
     ensures goes_on { GoesOn graphs.now (lent O.known session.old) (lent O.known session.new) result }
-    ensures covers { (held : List AnyPair)
-        → Contains held one
-        → Contains held other
-        → Contains held third
-        → IfOk result (λ found. IfSome found (Covers session.new.book.now held)) }
+    ensures covers { (pairs : List AnyPair)
+        → Contains pairs one
+        → Contains pairs other
+        → Contains pairs third
+        → IfOk result (λ found. IfSome found (Covers session.new.book.now pairs)) }
 {
     let Some(pairs) = inputs_and_output(one, other, third) else {
         return Ok(None);

@@ -83,14 +83,14 @@ fn exchange_assigned<O: Oracle>(
 {
     // assigned pairs are of ports that exist, and share none
     let _lawful = domains.entries();
-    let held = domains.pairs();
-    for place in session.heuristics.guide.exchanged..held.len() {
+    let assigned = domains.pairs();
+    for place in session.heuristics.guide.exchanged..assigned.len() {
         session.heuristics.guide.exchanged = place;
-        if let Some(ban) = exclude_by_swaps(graphs, session, held, held[place])? {
+        if let Some(ban) = exclude_by_swaps(graphs, session, assigned, assigned[place])? {
             return Ok(Some(Conflict::Ban(ban)));
         }
     }
-    session.heuristics.guide.exchanged = held.len();
+    session.heuristics.guide.exchanged = assigned.len();
     Ok(None)
 }
 
@@ -188,7 +188,7 @@ fn delete_beside<O: Oracle>(
     ensures steps { Steps graphs.now (lent O.known session.old) (lent O.known session.new) domains.new result }
     ensures deletes { OnOk result (Deletes pair domains.old domains.new) }
 {
-    let again = session.heuristics.guide.compare(pair);
+    let again = session.heuristics.guide.mark_compared(pair);
     let ways = ways_beside(&session.asker, domains, pair, again)?;
     delete_unlike(graphs, session, domains, pair, &ways)
 }

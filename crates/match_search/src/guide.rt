@@ -68,19 +68,19 @@ impl Guide {
 
     /// Notes that a search begins with no pair assigned, whose rounds end once this many lines are learned in the run.
     pub fn begin(&mut self, lines: u64) {
-        self.forget(0);
+        self.go_back_to(0);
         self.rounds.end_at(lines);
     }
 
     /// Notes that only this many pairs are assigned now, the earliest ones.
-    pub fn forget(&mut self, held: usize) {
-        self.asked = self.asked.min(held);
-        self.exchanged = self.exchanged.min(held);
+    pub fn go_back_to(&mut self, assigned: usize) {
+        self.asked = self.asked.min(assigned);
+        self.exchanged = self.exchanged.min(assigned);
     }
 
     /// Notes that a round begins, with this many assigned pairs, the earliest ones.
-    pub fn begin_round(&mut self, held: usize) {
-        self.forget(held);
+    pub fn begin_round(&mut self, assigned: usize) {
+        self.go_back_to(assigned);
         self.rounds.advance();
     }
 
@@ -116,7 +116,7 @@ impl Guide {
     }
 
     /// Notes that a pair is compared with ways of the other kind, and answers whether it was before.
-    pub fn compare(&mut self, pair: Pair) -> bool {
+    pub fn mark_compared(&mut self, pair: Pair) -> bool {
         self.compared.mark(pair)
     }
 
@@ -125,7 +125,7 @@ impl Guide {
     /// pairs exclude has the first of them as its reason, so the conflict may have pairs that were assigned long
     /// before, and each way of this port would be tried beside each of these. With this done after every conflict a
     /// near miss of a graph (`triangular8_or`) took 2.5 times as many.
-    pub fn hurry(&mut self, conflict: &Conflict) {
+    pub fn note_conflict(&mut self, conflict: &Conflict) {
         if let Conflict::Block(_) = conflict {
             self.urgent = self.decided;
         }

@@ -16,45 +16,45 @@ use std::alloc::{AllocError, Global};
 pub(crate) fn matching_of(
     alloc: Global,
     graphs: &PairableGraphs<'_>,
-    held: &[Pair],
+    assigned: &[Pair],
 ) -> Result<Matching, AllocError>
-    requires held { AreHeld graphs.now held.now }
-    requires whole { IsWhole graphs.now held.now }
+    requires held { AreHeld graphs.now assigned.now }
+    requires whole { IsWhole graphs.now assigned.now }
     ensures ports { IfOk result
         (λ matching. HavePorts graphs.now.first graphs.now.second matching.inputs matching.outputs) }
-    ensures extends { IfOk result (λ matching. Extends held.now matching.inputs matching.outputs) }
+    ensures extends { IfOk result (λ matching. Extends assigned.now matching.inputs matching.outputs) }
 {
     let inputs = graphs.ports(PortKind::Input);
     let outputs = graphs.ports(PortKind::Output);
     Ok(Matching {
-        inputs: partners(alloc, held, PortKind::Input, inputs)?,
-        outputs: partners(alloc, held, PortKind::Output, outputs)?,
+        inputs: partners(alloc, assigned, PortKind::Input, inputs)?,
+        outputs: partners(alloc, assigned, PortKind::Output, outputs)?,
     })
 }
 
 // Where each of n ports of a kind goes.
 fn partners(
     alloc: Global,
-    held: &[Pair],
+    assigned: &[Pair],
     kind: PortKind,
     count: u32,
 ) -> Result<Items<(u32, bool)>, AllocError>
-    requires known { All (λ pair. pair.kind ≡ kind → pair.from < count) held.now }
-    requires apart { AllPairs AreApart held.now }
+    requires known { All (λ pair. pair.kind ≡ kind → pair.from < count) assigned.now }
+    requires apart { AllPairs AreApart assigned.now }
     ensures length { IfOk result (λ partners. length partners ≡ count) }
-    ensures each { IfOk result (λ partners. All (IsEntryOf kind partners) held.now) }
+    ensures each { IfOk result (λ partners. All (IsEntryOf kind partners) assigned.now) }
 {
     let mut partners = vec![in alloc; (0, false); count as usize]?;
-    put_partners(held, kind, &mut partners);
+    put_partners(assigned, kind, &mut partners);
     Ok(Items::from_vec(partners))
 }
 
-fn put_partners(held: &[Pair], kind: PortKind, partners: &mut [(u32, bool)])
-    requires known { All (λ pair. pair.kind ≡ kind → pair.from < length partners.old) held.now }
-    requires apart { AllPairs AreApart held.now }
-    ensures { All (IsEntryOf kind partners.new) held.now }
+fn put_partners(assigned: &[Pair], kind: PortKind, partners: &mut [(u32, bool)])
+    requires known { All (λ pair. pair.kind ≡ kind → pair.from < length partners.old) assigned.now }
+    requires apart { AllPairs AreApart assigned.now }
+    ensures { All (IsEntryOf kind partners.new) assigned.now }
 {
-    for pair in held.iter() {
+    for pair in assigned.iter() {
         put_partner(*pair, kind, partners);
     }
 }

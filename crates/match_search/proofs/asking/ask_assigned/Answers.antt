@@ -27,7 +27,7 @@ ask_two-requires g c =
     record {
       may = (may_go_on c.requires.may.may c.loop-other.invariant).may;
       known = All-contains (IsKnown c.args.graphs.now) (held_in d.entries) c.args.pair known c.requires.held;
-      other = subst (All (IsKnown c.args.graphs.now)) (sym c.pairs-held.ensures.value) known c.loop-other.other-index _ c.loop-other-test.true;
+      other = subst (All (IsKnown c.args.graphs.now)) (sym c.pairs-assigned.ensures.value) known c.loop-other.other-index _ c.loop-other-test.true;
     }
 
 pub returns-in_err-ask_two : goal.returns-in_err-ask_two

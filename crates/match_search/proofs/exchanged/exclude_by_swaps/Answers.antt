@@ -8,8 +8,8 @@ loop-other-init g c = gone_none c.requires.may
 pub exclude_with-requires-clause-may : goal.exclude_with-requires-clause-may
 exclude_with-requires-clause-may g c = may_ask_on c.requires.may c.loop-other.invariant
 
-pub exclude_with-requires-clause-other_held : goal.exclude_with-requires-clause-other_held
-exclude_with-requires-clause-other_held g c = Contains-get_or c.args.held.now c.loop-other.other-index _ c.loop-other-test.true
+pub exclude_with-requires-clause-other : goal.exclude_with-requires-clause-other
+exclude_with-requires-clause-other g c = Contains-get_or c.args.assigned.now c.loop-other.other-index _ c.loop-other-test.true
 
 pub loop-other-preserved : goal.loop-other-preserved
 loop-other-preserved g c = gone_more c.loop-other.invariant c.in_ok-ban.ensures.goes_on
