@@ -26,8 +26,8 @@ use Rattle.match_search.specs.declared.found.Found.{Found}
 use Rattle.match_search.specs.declared.session.Session.{Session}
 use Rattle.match_search.specs.declared.ahead.Ahead.{Ahead}
 use Rattle.match_search.specs.declared.ahead.Ahead.TheVariants as ahead
-use Rattle.match_search.specs.declared.ahead.Settled.{Settled}
-use Rattle.match_search.specs.declared.ahead.Settled.TheVariants as settled
+use Rattle.match_search.specs.declared.ahead.WholeCompared.{WholeCompared}
+use Rattle.match_search.specs.declared.ahead.WholeCompared.TheVariants as compared
 pub use Rattle.fact_bans.specs.Serving.{AreValid, HasServed}
 pub use Rattle.class_refine.specs.Refining.{IsShownTrail}
 
@@ -165,6 +165,6 @@ IsAhead graphs lent before after (ahead.Match matching logs) =
 IsAhead graphs lent before after (ahead.Conflict conflict) = IsStuck lent.bans before after conflict
 
 -- a whole matching is a match, or has all pairs of a ban
-abbrev pub IsSettled : Graphs → List Ban → List Pair → Settled → Type 0
-IsSettled graphs bans held (settled.Match matching logs) = IsShownMatch graphs matching logs
-IsSettled graphs bans held (settled.Ban number) = Covers bans held number
+abbrev pub IsWholeCompared : Graphs → List Ban → List Pair → WholeCompared → Type 0
+IsWholeCompared graphs bans held (compared.Match matching logs) = IsShownMatch graphs matching logs
+IsWholeCompared graphs bans held (compared.Ban number) = Covers bans held number

@@ -16,7 +16,7 @@ pub(crate) enum Ahead {
 
 /// What comparing the outputs under a whole matching comes to.
 #[derive(Drop)]
-pub(crate) enum Settled {
+pub(crate) enum WholeCompared {
     /// The matching is a match.
     Match(Matching, Items<Log>),
     /// The matching has all pairs of this ban.

@@ -9,7 +9,7 @@ ghost use Rattle.pair_domains.specs.Trails.{held_in};
 ghost use Rattle.pair_search.specs.Progress.{left};
 ghost use Rattle.match_search.specs.States.{Explores, IsAhead, IsFoundBy, MaySearch, MayStep, SearchesBy, Steps, lent};
 
-use crate::ahead::{Ahead, Settled};
+use crate::ahead::{Ahead, WholeCompared};
 use crate::candidate::compare_whole;
 use crate::following::follow;
 use crate::found::Found;
@@ -210,8 +210,8 @@ fn compare_assigned<O: Oracle>(
     ensures ahead { IfOk result (IsAhead graphs.now (lent O.known session.new) domains.old domains.new) }
 {
     match compare_whole(graphs, session, domains)? {
-        Settled::Match(matching, logs) => confirm(graphs, session, domains, matching, logs),
-        Settled::Ban(ban) => Ok(Ahead::Conflict(Conflict::Ban(ban))),
+        WholeCompared::Match(matching, logs) => confirm(graphs, session, domains, matching, logs),
+        WholeCompared::Ban(ban) => Ok(Ahead::Conflict(Conflict::Ban(ban))),
     }
 }
 

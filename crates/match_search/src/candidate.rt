@@ -6,11 +6,11 @@ ghost use Rattle.circuits.specs.Matches.{HavePorts};
 ghost use Rattle.account_core.specs.Shown.{AreLogs};
 ghost use Rattle.match_search.specs.Founds.{IsComparison};
 ghost use Rattle.account_core.specs.Held.{IsWhole};
-ghost use Rattle.match_search.specs.States.{IsSettled, MayCompare, MayStep, Steps, lent};
+ghost use Rattle.match_search.specs.States.{IsWholeCompared, MayCompare, MayStep, Steps, lent};
 ghost use Rattle.vector_bans.specs.Differences.{Differs};
 ghost use Rattle.pair_domains.specs.Trails.{held_in};
 
-use crate::ahead::Settled;
+use crate::ahead::WholeCompared;
 use crate::matching::matching_of;
 use crate::session::Session;
 use account_core::PairableGraphs;
@@ -31,11 +31,11 @@ pub(crate) fn compare_whole<O: Oracle>(
     graphs: &PairableGraphs<'_>,
     session: &mut Session<'_, O>,
     domains: &Domains,
-) -> Result<Settled, Stop>
+) -> Result<WholeCompared, Stop>
     requires may { MayStep graphs.now (lent O.known session.old) domains.now }
     requires whole { IsWhole graphs.now (held_in domains.now.entries) }
     ensures steps { Steps graphs.now (lent O.known session.old) (lent O.known session.new) domains.now result }
-    ensures settled { IfOk result (IsSettled graphs.now session.new.book.now (held_in domains.now.entries)) }
+    ensures compared { IfOk result (IsWholeCompared graphs.now session.new.book.now (held_in domains.now.entries)) }
 {
     // the gates of a graph are in order
     let _first = graphs.first();
@@ -54,14 +54,14 @@ pub(crate) fn compare_whole<O: Oracle>(
         asker.ledger,
         &mut logs,
     )? {
-        None => Ok(Settled::Match(matching, logs)),
+        None => Ok(WholeCompared::Match(matching, logs)),
         Some(found) => {
             session
                 .heuristics
                 .trials
                 .keep(alloc, graphs.first(), &found.vector)?;
             let ban = exclude(graphs, &mut session.asker, &matching, &found, session.book)?;
-            Ok(Settled::Ban(ban))
+            Ok(WholeCompared::Ban(ban))
         }
     }
 }

@@ -32,8 +32,8 @@ returns-in_err-compare_all-clause-steps g c =
 pub returns-in-None-clause-steps : goal.returns-in-None-clause-steps
 returns-in-None-clause-steps g c = steps_ok (way_bans (way_start c.requires.may) (goes_asked c.requires.may.may c.in_ok-compare_all.ensures.serves))
 
-pub returns-in-None-clause-settled : goal.returns-in-None-clause-settled
-returns-in-None-clause-settled g c =
+pub returns-in-None-clause-compared : goal.returns-in-None-clause-compared
+returns-in-None-clause-compared g c =
     shown_match c.args.graphs.now c.in_ok-matching.matching c.compare_all.new.logs c.first-first.ensures.sound c.second-second.ensures.sound c.in_ok-matching.ensures.ports (rw c.in-None.is at c.in_ok-compare_all.ensures.same)
 
 pub returns-in_err-keep-in-Some-clause-steps : goal.returns-in_err-keep-in-Some-clause-steps
@@ -51,7 +51,7 @@ returns-in_err-ban-in-Some-clause-steps g c =
 pub returns-in_ok-ban-in-Some : goal.returns-in_ok-ban-in-Some
 returns-in_ok-ban-in-Some g c = record {
   steps = steps_ok (way_tried (way_bans (way_start c.requires.may) (goes_asked c.requires.may.may c.in_ok-compare_all.ensures.serves)) c.in_ok-ban-in-Some.ensures.same c.in_ok-ban-in-Some.ensures.holds (subst (λ (net : Net). AreTrials net c.keep.new.self) c.first.ensures.value c.in_ok-keep-in-Some.ensures.trials));
-  settled =
+  compared =
       c.in_ok-ban-in-Some.ensures.covers _ c.requires.whole
       (subst (λ (held : List Pair). Extends held c.in_ok-matching.matching.inputs c.in_ok-matching.matching.outputs) c.pairs.ensures.value c.in_ok-matching.ensures.extends);
 }
