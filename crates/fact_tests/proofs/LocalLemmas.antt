@@ -18,7 +18,7 @@ use Rattle.net_core.specs.Values.{signed_word}
 use Rattle.word_sim.specs.Columns.{word_bit}
 use Rattle.word_sim.proofs.Lanes.{and-bit, inverted-bit, zero-bit}
 use Rattle.fact_tests.specs.declared.readers.Span.{Span}
-use Rattle.fact_tests.specs.declared.local_exchange.Sides.{Sides}
+use Rattle.fact_tests.specs.declared.local_exchange.SideWords.{SideWords}
 use Rattle.fact_tests.specs.declared.local_exchange.Changed.{Changed}
 use Rattle.fact_tests.specs.declared.local_exchange.Near.{Near}
 use Rattle.fact_tests.specs.declared.local_exchange.Went.{Went}
@@ -42,11 +42,11 @@ lane_of v leaves few =
 lane_before : (v : List Bool) (leaves : List ℕ) (leaf m : ℕ) → IsLane v (leaves ++ leaf ∷ []) m → IsLane v leaves m
 lane_before v leaves leaf m is = (is.0, λ k h. is.1 k (omega (arith, h, length_push leaves leaf)) ∙ ap (bit v) (get_or_append_left leaves (leaf ∷ []) 0 k h))
 
-pub sides_before : (v w : List Bool) (leaves : List ℕ) (leaf : ℕ) (one other : Bool) (sides : Sides) → HasSides v w leaves one other sides → HasSides v w (leaves ++ leaf ∷ []) one other sides
+pub sides_before : (v w : List Bool) (leaves : List ℕ) (leaf : ℕ) (one other : Bool) (sides : SideWords) → HasSides v w leaves one other sides → HasSides v w (leaves ++ leaf ∷ []) one other sides
 sides_before v w leaves leaf one other sides has = λ m is. has m (lane_before v leaves leaf m is)
 
 -- bits that are the same in each lane are the same
-same_sides : (v w : List Bool) (leaves : List ℕ) (one other : Bool) (sides : Sides) → length leaves ≤ 6 → HasSides v w leaves one other sides → sides.one ≡ sides.other → one ≡ other
+same_sides : (v w : List Bool) (leaves : List ℕ) (one other : Bool) (sides : SideWords) → length leaves ≤ 6 → HasSides v w leaves one other sides → sides.one ≡ sides.other → one ≡ other
 same_sides v w leaves one other sides few has same =
     let lane = lane_of v leaves few in
     let at = has lane.0 lane.1 in
@@ -56,7 +56,7 @@ same_sides v w leaves one other sides few has same =
 signed_bit : (m word : ℕ) (negated b : Bool) → m < 64 → b ≡ word_bit m word → differ b negated ≡ word_bit m (signed_word word negated)
 signed_bit m word negated b below is = ap (λ b. differ b negated) is ∙ sym (inverted-bit m word negated below)
 
-pub sides_signed : (v w : List Bool) (leaves : List ℕ) (one other negated : Bool) (sides new : Sides) → new.one ≡ signed_word sides.one negated → new.other ≡ signed_word sides.other negated
+pub sides_signed : (v w : List Bool) (leaves : List ℕ) (one other negated : Bool) (sides new : SideWords) → new.one ≡ signed_word sides.one negated → new.other ≡ signed_word sides.other negated
     → HasSides v w leaves one other sides
     → HasSides v w leaves (differ one negated) (differ other negated) new
 sides_signed v w leaves one other negated sides new first second has =
@@ -66,7 +66,7 @@ sides_signed v w leaves one other negated sides new first second has =
       signed_bit m sides.other negated other is.0 at.1 ∙ ap (word_bit m) (sym second),
     )
 
-pub sides_and : (v w : List Bool) (leaves : List ℕ) (a b c d : Bool) (left right new : Sides) → new.one ≡ bit_and left.one right.one → new.other ≡ bit_and left.other right.other
+pub sides_and : (v w : List Bool) (leaves : List ℕ) (a b c d : Bool) (left right new : SideWords) → new.one ≡ bit_and left.one right.one → new.other ≡ bit_and left.other right.other
     → HasSides v w leaves a c left
     → HasSides v w leaves b d right
     → HasSides v w leaves (a && b) (c && d) new
@@ -100,7 +100,7 @@ over_same gate signal near first second v w one other tracks =
     past_same v w signal near tracks same
 
 -- a gate that may differ, with its bits
-pub over_changed : (v w : List Bool) (signal : ℕ) (near new : Near) (sides : Sides) → Tracks v w signal near
+pub over_changed : (v w : List Bool) (signal : ℕ) (near new : Near) (sides : SideWords) → Tracks v w signal near
     → HasSides v w near.leaves (bit v signal) (bit w signal) sides
     → new.leaves ≡ near.leaves
     → new.changed ≡ near.changed ++ record { signal = signal; sides = sides } ∷ []
@@ -225,15 +225,15 @@ tracks_start net i j inverted x near ordered len order there leaves changed =
     one_first : (entry : Changed) → entry.signal ≡ i + 1 → entry.sides ≡ record { one = signed_word 0 false; other = signed_word 0 true } → IsChanged (side net i j false (not inverted) x) (side net i j true inverted x) [] entry
     one_first entry here sides =
         λ m lane. (
-          ap (bit (side net i j false (not inverted) x)) (here ∙ omega arith) ∙ (first_bit net i j false (not inverted) x ordered len order there ∙ (all_lanes m false lane.0 ∙ ap (λ (sides : Sides). word_bit m sides.one) (sym sides))),
-          ap (bit (side net i j true inverted x)) (here ∙ omega arith) ∙ (first_bit net i j true inverted x ordered len order there ∙ (all_lanes m true lane.0 ∙ ap (λ (sides : Sides). word_bit m sides.other) (sym sides))),
+          ap (bit (side net i j false (not inverted) x)) (here ∙ omega arith) ∙ (first_bit net i j false (not inverted) x ordered len order there ∙ (all_lanes m false lane.0 ∙ ap (λ (sides : SideWords). word_bit m sides.one) (sym sides))),
+          ap (bit (side net i j true inverted x)) (here ∙ omega arith) ∙ (first_bit net i j true inverted x ordered len order there ∙ (all_lanes m true lane.0 ∙ ap (λ (sides : SideWords). word_bit m sides.other) (sym sides))),
         )
 
     one_second : (entry : Changed) → entry.signal ≡ j + 1 → entry.sides ≡ record { one = signed_word 0 (not inverted); other = signed_word 0 inverted } → IsChanged (side net i j false (not inverted) x) (side net i j true inverted x) [] entry
     one_second entry here sides =
         λ m lane. (
-          ap (bit (side net i j false (not inverted) x)) (here ∙ omega arith) ∙ (second_bit net i j false (not inverted) x ordered len there ∙ (all_lanes m (not inverted) lane.0 ∙ ap (λ (sides : Sides). word_bit m sides.one) (sym sides))),
-          ap (bit (side net i j true inverted x)) (here ∙ omega arith) ∙ (second_bit net i j true inverted x ordered len there ∙ (all_lanes m inverted lane.0 ∙ ap (λ (sides : Sides). word_bit m sides.other) (sym sides))),
+          ap (bit (side net i j false (not inverted) x)) (here ∙ omega arith) ∙ (second_bit net i j false (not inverted) x ordered len there ∙ (all_lanes m (not inverted) lane.0 ∙ ap (λ (sides : SideWords). word_bit m sides.one) (sym sides))),
+          ap (bit (side net i j true inverted x)) (here ∙ omega arith) ∙ (second_bit net i j true inverted x ordered len there ∙ (all_lanes m inverted lane.0 ∙ ap (λ (sides : SideWords). word_bit m sides.other) (sym sides))),
         )
 
     input : (t : ℕ) → t < net.inputs → t ≢ i → t ≢ j → bit (side net i j false (not inverted) x) (1 + t) ≡ bit (side net i j true inverted x) (1 + t)
@@ -282,7 +282,7 @@ same_near v w end near new leaves changed tracks = record {
 }
 
 -- what is listed of a signal tells its literal
-pub listed_tells : (literal : Lit) (near : Near) (sides new : Sides) → IsListed near.changed (signal_of literal) (Some sides)
+pub listed_tells : (literal : Lit) (near : Near) (sides new : SideWords) → IsListed near.changed (signal_of literal) (Some sides)
     → new.one ≡ signed_word sides.one (inverts literal)
     → new.other ≡ signed_word sides.other (inverts literal)
     → Tells literal near near new
@@ -297,7 +297,7 @@ listed_tells literal near sides new (k, entry, h, at, told) first second = recor
 }
 
 -- and so does a leaf
-pub leaf_tells : (literal : Lit) (near next : Near) (number word : ℕ) (new : Sides) → IsUnchanged near.changed (signal_of literal)
+pub leaf_tells : (literal : Lit) (near next : Near) (number word : ℕ) (new : SideWords) → IsUnchanged near.changed (signal_of literal)
     → IsLeaf near.leaves next.leaves (signal_of literal) number
     → next.changed ≡ near.changed
     → ((m : ℕ) → m < 64 → word_bit m word ≡ (m / 2 ^ number % 2 == 1))
@@ -323,7 +323,7 @@ leaf_tells literal near next number word new unchanged leaf changed digits first
     tracked v w end below (inr added) tracks = leaf_more v w end (signal_of literal) near next tracks added.0 below unchanged added.1 changed
 
 -- the bits of a gate, once both operands are told
-gate_told : (gate : Gate) (signal : ℕ) (near first second : Near) (one other new : Sides) → Tells gate.a near first one
+gate_told : (gate : Gate) (signal : ℕ) (near first second : Near) (one other new : SideWords) → Tells gate.a near first one
     → Tells gate.b first second other
     → new.one ≡ bit_and one.one other.one
     → new.other ≡ bit_and one.other other.other
@@ -337,7 +337,7 @@ gate_told gate signal near first second one other new upper lower left right v w
     (lower.tracks v w signal here.second mid, λ m lane. (here.bit_is ∙ (both m lane).0, there.bit_is ∙ (both m lane).1))
 
 -- a gate, once both operands are told
-pub went : (gate : Gate) (signal : ℕ) (near first second last : Near) (one other new : Sides) (result : Went) → Tells gate.a near first one
+pub went : (gate : Gate) (signal : ℕ) (near first second last : Near) (one other new : SideWords) (result : Went) → Tells gate.a near first one
     → Tells gate.b first second other
     → new.one ≡ bit_and one.one other.one
     → new.other ≡ bit_and one.other other.other

@@ -10,7 +10,7 @@ use Rattle.claim_core.specs.Claims.{with_input}
 use Rattle.net_core.specs.Values.{signed_word}
 use Rattle.word_sim.specs.Columns.{word_bit}
 use Rattle.fact_tests.specs.declared.readers.Span.{Span}
-use Rattle.fact_tests.specs.declared.local_exchange.Sides.{Sides}
+use Rattle.fact_tests.specs.declared.local_exchange.SideWords.{SideWords}
 use Rattle.fact_tests.specs.declared.local_exchange.Changed.{Changed}
 use Rattle.fact_tests.specs.declared.local_exchange.Near.{Near}
 use Rattle.fact_tests.specs.declared.local_exchange.Went.{Went}
@@ -46,7 +46,7 @@ abbrev pub IsLane : List Bool → List ℕ → ℕ → Type 0
 IsLane v leaves m = (m < 64) × ((k : ℕ) → k < length leaves → (m / 2 ^ k % 2 == 1) ≡ bit v (slice_index_or leaves k 0))
 
 -- a bit under one valuation and under the other, by the leaves' bits
-abbrev pub HasSides : List Bool → List Bool → List ℕ → Bool → Bool → Sides → Type 0
+abbrev pub HasSides : List Bool → List Bool → List ℕ → Bool → Bool → SideWords → Type 0
 HasSides v w leaves one other sides = (m : ℕ) → IsLane v leaves m → (one ≡ word_bit m sides.one) × (other ≡ word_bit m sides.other)
 
 abbrev pub IsChanged : List Bool → List Bool → List ℕ → Changed → Type 0
@@ -75,7 +75,7 @@ GoesOver gate signal old new = (v w : List Bool) → IsGateOf v signal gate → 
 
 -- one signal more is listed
 abbrev pub HasMore : ℕ → List Changed → List Changed → Type 0
-HasMore signal old new = (sides : Sides) × (new ≡ old ++ record { signal = signal; sides = sides } ∷ [])
+HasMore signal old new = (sides : SideWords) × (new ≡ old ++ record { signal = signal; sides = sides } ∷ [])
 
 -- what going over a gate comes to
 abbrev pub IsWent : Gate → ℕ → Near → Near → Went → Type 0
@@ -84,12 +84,12 @@ IsWent gate signal old new Differs = GoesOver gate signal old new × HasMore sig
 IsWent gate signal old new TooFar = Unit {0}
 
 -- what is listed of a signal: None where nothing is
-abbrev pub IsListed : List Changed → ℕ → Option Sides → Type 0
+abbrev pub IsListed : List Changed → ℕ → Option SideWords → Type 0
 IsListed changed signal None = IsUnchanged changed signal
 IsListed changed signal (Some sides) = Any (λ entry. (entry.signal ≡ signal) × (entry.sides ≡ sides)) changed
 
 -- A literal's bits are found, whatever the valuations are: the leaves are as many or more, and what was known is known still.
-pub record Tells (literal : Lit) (old new : Near) (sides : Sides) : Type 0 where
+pub record Tells (literal : Lit) (old new : Near) (sides : SideWords) : Type 0 where
   pub same : new.changed ≡ old.changed
   pub more : (v : List Bool) (m : ℕ) → IsLane v new.leaves m → IsLane v old.leaves m
   pub tracks : (v w : List Bool) (end : ℕ) → signal_of literal < end → Tracks v w end old → Tracks v w end new
@@ -104,13 +104,13 @@ pub record IsLeaf (old new : List ℕ) (signal number : ℕ) : Type 0 where
   pub grows : (new ≡ old) ⊎ ((length old < 6) × (new ≡ old ++ signal ∷ []))
 
 -- what listing a signal comes to
-abbrev pub IsListing : ℕ → Sides → Near → Near → Went → Type 0
+abbrev pub IsListing : ℕ → SideWords → Near → Near → Went → Type 0
 IsListing signal sides old new Same = (sides.one ≡ sides.other) × (new.leaves ≡ old.leaves) × (new.changed ≡ old.changed)
 IsListing signal sides old new Differs = (new.leaves ≡ old.leaves) × (new.changed ≡ old.changed ++ record { signal = signal; sides = sides } ∷ [])
 IsListing signal sides old new TooFar = Unit {0}
 
 -- the two inputs of an exchange, as they are listed at first
-abbrev pub sides_of_bits : Bool → Bool → Sides
+abbrev pub sides_of_bits : Bool → Bool → SideWords
 sides_of_bits one other = record { one = signed_word 0 one; other = signed_word 0 other }
 
 abbrev pub first_listed : ℕ → ℕ → Bool → List Changed

@@ -30,7 +30,7 @@ const MOST_GATES: u32 = 1024;
 /// A signal's bits where the two inputs have a pair of bits, and where they have the opposite one: a bit for each way
 /// of the leaves.
 #[derive(Clone, Copy, Drop)]
-pub(crate) struct Sides {
+pub(crate) struct SideWords {
     pub one: u64,
     pub other: u64,
 }
@@ -39,7 +39,7 @@ pub(crate) struct Sides {
 #[derive(Clone, Copy, Drop)]
 pub(crate) struct Changed {
     pub signal: u32,
-    pub sides: Sides,
+    pub sides: SideWords,
 }
 
 /// What an exchange of two inputs changes near them.
@@ -61,34 +61,34 @@ pub(crate) enum Went {
     TooFar,
 }
 
-impl Sides {
+impl SideWords {
     /// A bit on one side and a bit on the other, each the same for all ways of the leaves.
-    fn of_bits(one: bool, other: bool) -> Sides
+    fn of_bits(one: bool, other: bool) -> SideWords
         ensures { result ≡ sides_of_bits one other }
     {
-        Sides {
+        SideWords {
             one: 0u64.signed(one),
             other: 0u64.signed(other),
         }
     }
 
     /// The bits of a literal of the signal.
-    fn signed(self, negated: bool) -> Sides
+    fn signed(self, negated: bool) -> SideWords
         ensures one { result.one ≡ signed_word self.one negated }
         ensures other { result.other ≡ signed_word self.other negated }
     {
-        Sides {
+        SideWords {
             one: self.one.signed(negated),
             other: self.other.signed(negated),
         }
     }
 
     /// The bits of the AND of two signals.
-    fn and(self, with: Sides) -> Sides
+    fn and(self, with: SideWords) -> SideWords
         ensures one { result.one ≡ bit_and self.one with.one }
         ensures other { result.other ≡ bit_and self.other with.other }
     {
-        Sides {
+        SideWords {
             one: self.one.and(with.one),
             other: self.other.and(with.other),
         }
@@ -132,11 +132,11 @@ fn between(alloc: Global, i: u32, j: u32, inverted: bool) -> Result<Near, AllocE
     let mut changed = Items::new(alloc);
     changed.push(Changed {
         signal: i + 1,
-        sides: Sides::of_bits(false, true),
+        sides: SideWords::of_bits(false, true),
     })?;
     changed.push(Changed {
         signal: j + 1,
-        sides: Sides::of_bits(!inverted, inverted),
+        sides: SideWords::of_bits(!inverted, inverted),
     })?;
     Ok(Near {
         leaves: Items::new(alloc),
@@ -200,14 +200,14 @@ fn go_over(gate: Gate, signal: u32, near: &mut Near) -> Result<Went, AllocError>
 }
 
 /// Whether nothing is listed of either operand.
-fn are_none(first: Option<Sides>, second: Option<Sides>) -> bool
+fn are_none(first: Option<SideWords>, second: Option<SideWords>) -> bool
     ensures { IsTrue result → (first ≡ None) × (second ≡ None) }
 {
     first.is_none() & second.is_none()
 }
 
 /// Lists a signal, unless it is the same on either side.
-fn list(signal: u32, sides: Sides, near: &mut Near) -> Result<Went, AllocError>
+fn list(signal: u32, sides: SideWords, near: &mut Near) -> Result<Went, AllocError>
     ensures { IfOk result (IsListing signal sides near.old near.new) }
 {
     if sides.one == sides.other {
@@ -222,7 +222,11 @@ fn list(signal: u32, sides: Sides, near: &mut Near) -> Result<Went, AllocError>
 
 /// The bits of a literal, of whose signal this is listed; where nothing is, the signal is a leaf. None where there is
 /// no room for one more.
-fn sides_of(lit: Lit, listed: Option<Sides>, near: &mut Near) -> Result<Option<Sides>, AllocError>
+fn sides_of(
+    lit: Lit,
+    listed: Option<SideWords>,
+    near: &mut Near,
+) -> Result<Option<SideWords>, AllocError>
     requires { IsListed near.old.changed (signal_of lit) listed }
     ensures { IfOk result (λ found. IfSome found (Tells lit near.old near.new)) }
 {
@@ -233,7 +237,7 @@ fn sides_of(lit: Lit, listed: Option<Sides>, near: &mut Near) -> Result<Option<S
 }
 
 /// The bits of a leaf's literal.
-fn leaf_sides(lit: Lit, near: &mut Near) -> Result<Option<Sides>, AllocError>
+fn leaf_sides(lit: Lit, near: &mut Near) -> Result<Option<SideWords>, AllocError>
     requires { IsUnchanged near.old.changed (signal_of lit) }
     ensures { IfOk result (λ found. IfSome found (Tells lit near.old near.new)) }
 {
@@ -241,7 +245,7 @@ fn leaf_sides(lit: Lit, near: &mut Near) -> Result<Option<Sides>, AllocError>
         return Ok(None);
     };
     let word = alternating(leaf);
-    let sides = Sides {
+    let sides = SideWords {
         one: word,
         other: word,
     };
@@ -272,7 +276,7 @@ fn is_unlisted(changed: &[Changed], signal: u32) -> bool
 }
 
 /// What is listed of a signal.
-fn changed_at(changed: &[Changed], signal: u32) -> Option<Sides>
+fn changed_at(changed: &[Changed], signal: u32) -> Option<SideWords>
     ensures { IsListed changed.now signal result }
 {
     for entry in changed.iter() {
