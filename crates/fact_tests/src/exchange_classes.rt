@@ -287,7 +287,7 @@ fn try_class<O: Oracle>(
         return Ok(None);
     }
     let class = classes[number];
-    let others = join(alloc, output, entry, class, start, oracle, ledger)?;
+    let others = admit(alloc, output, entry, class, start, oracle, ledger)?;
     Ok(found_by(number, class, others))
 }
 
@@ -304,7 +304,7 @@ fn found_by(number: usize, class: Class, others: Option<OtherInputs>) -> Option<
 }
 
 /// The others of a class with the input as the last of them; None where it doesn't belong to the class.
-fn join<O: Oracle>(
+fn admit<O: Oracle>(
     alloc: Global,
     output: &FirstOutput<'_>,
     entry: (u32, Unate),

@@ -1,4 +1,4 @@
-//! Exchanges of two inputs that the gates near them hide.
+//! Exchanges of two inputs that the gates near them show.
 
 ghost use Rattle.std.specs.Prelude.{◌≡◌, ◌<◌, [], None, IfOk, IfSome, IsTrue, bit_and, length};
 ghost use Rattle.circuits.specs.Literals.{signal_of};
@@ -98,7 +98,7 @@ impl SideWords {
 /// Whether the gates near two inputs show that an exchange of these leaves an output as it is: as they are, or each
 /// inverted. They show it where the signals that may differ depend on few others, and the output isn't among them;
 /// `false` says nothing.
-pub(crate) fn hides(
+pub(crate) fn shows_exchange(
     alloc: Global,
     readers: &Readers<'_>,
     output: u32,
@@ -109,7 +109,7 @@ pub(crate) fn hides(
     requires output { output < length readers.now.outputs }
     requires order { i < j }
     requires there { j < readers.now.inputs }
-    ensures { IfOk result (λ hides. IsTrue hides
+    ensures { IfOk result (λ shown. IsTrue shown
         → IsAlike readers.now.inputs (output_bit readers.now output) i j inverted) }
 {
     let outputs = readers.graph().outputs();

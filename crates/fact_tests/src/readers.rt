@@ -70,8 +70,8 @@ fn spans_of(alloc: Global, graph: &Graph) -> Result<Items<Span>, AllocError>
     let gates = graph.gates();
     for place in 0..gates.len() {
         let gate = gates[place];
-        read_at(gate.a, place as u32, &mut spans);
-        read_at(gate.b, place as u32, &mut spans);
+        note_reader(gate.a, place as u32, &mut spans);
+        note_reader(gate.b, place as u32, &mut spans);
     }
     Ok(spans)
 }
@@ -91,7 +91,7 @@ fn no_spans(alloc: Global, count: usize) -> Result<Items<Span>, AllocError>
 }
 
 /// Notes that the next gate reads a literal.
-fn read_at(lit: Lit, place: u32, spans: &mut Items<Span>)
+fn note_reader(lit: Lit, place: u32, spans: &mut Items<Span>)
     requires signal { signal_of lit < length spans.old }
     requires place { place < 4_294_967_295 }
     ensures { Widens place (signal_of lit) spans.old spans.new }

@@ -8,7 +8,7 @@ ghost use Rattle.fact_tests.specs.Outputs.{IsAlike, IsOutput, MayAsk, arity, fun
 ghost use Rattle.claim_core.specs.Rows.{IsEntry};
 
 use crate::first_output::FirstOutput;
-use crate::local_exchange::hides;
+use crate::local_exchange::shows_exchange;
 use claim_core::Unate;
 use cnf_core::Stop;
 use oracle_core::Oracle;
@@ -42,7 +42,7 @@ pub(crate) fn are_alike<O: Oracle>(
     if !may_be_alike(first.1, second.1, inverted) {
         return Ok(false);
     }
-    if hides(
+    if shows_exchange(
         alloc,
         output.readers,
         output.number,

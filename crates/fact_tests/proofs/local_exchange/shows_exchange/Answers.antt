@@ -2,7 +2,7 @@
 use Rattle.std.proofs.Common.{ap, arith}
 use Rattle.circuits.specs.Netlists.{Net}
 use Rattle.fact_tests.proofs.LocalLemmas.{hidden_at}
-use Rattle.fact_tests.proofs.local_exchange.hides.Goals as goal
+use Rattle.fact_tests.proofs.local_exchange.shows_exchange.Goals as goal
 
 pub between-requires-clause-there : goal.between-requires-clause-there
 between-requires-clause-there c =

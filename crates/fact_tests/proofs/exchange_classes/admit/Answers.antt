@@ -4,7 +4,7 @@ use Rattle.std.proofs.lemmas.Result.{IfOk-weaker}
 use Rattle.fact_tests.specs.Exchanges.{IsJoined, IsNext}
 use Rattle.fact_tests.specs.Outputs.{function_at, inputs_in}
 use Rattle.fact_tests.proofs.ClassLemmas.{next_joins}
-use Rattle.fact_tests.proofs.exchange_classes.join.Goals as goal
+use Rattle.fact_tests.proofs.exchange_classes.admit.Goals as goal
 
 pub returns-in-Some-clause-joined : goal.returns-in-Some-clause-joined
 returns-in-Some-clause-joined g c =
