@@ -53,14 +53,14 @@ enum SearchEvent {
     Loop,
 }
 
-/// A search: what is known of each definition, and the way from the root to where the search is.
+/// A depth-first search: what is known of each definition, and the way from the root to where the search is.
 #[derive(Drop)]
-struct Search {
+struct DepthFirstSearch {
     visits: Vec<Visit>,
     stack: Vec<Frame>,
 }
 
-impl Search {
+impl DepthFirstSearch {
     /// The edge that leads to a signal. The constant and the inputs have level 0.
     fn edge_to(&self, net: &PlainNet, signal: u32) -> Edge
         requires there { signal < signals_in net.now }
@@ -216,14 +216,14 @@ fn visit_all(alloc: Global, net: &PlainNet) -> Result<Vec<Visit>, OrderFault>
     ensures fault { IfErr result (IsFaultOf net.now) }
 {
     let count = net.defs().len();
-    let mut search = Search {
+    let mut search = DepthFirstSearch {
         visits: vec![in alloc; Visit::New; count]?,
         stack: Vec::new(alloc),
     };
     for root in 0..count as u32 {
         search.explore(net, root)?;
     }
-    let Search { visits, stack: _ } = search;
+    let DepthFirstSearch { visits, stack: _ } = search;
     Ok(visits)
 }
 

@@ -5,7 +5,7 @@ use Rattle.circuits.specs.Circuits.{Circuit, def_at, names_of, named_by}
 use Rattle.circuits.specs.Levels.{HaveLevel}
 use Rattle.net_core.proofs.SearchLaws.{event_close, HaveLevel-next}
 use Rattle.net_core.specs.Search.{IsFound, left, positions}
-use Rattle.net_core.proofs.levels.Search.next_event.Goals as goal
+use Rattle.net_core.proofs.levels.DepthFirstSearch.next_event.Goals as goal
 
 -- what was looked at, with the name at the next place
 looked_more : (circuit : Circuit) (def : Def) (steps d n s l m level : ℕ) → def ≡ def_at circuit d → n < length (named_by def) → s ≡ get_or (named_by def) n s → HaveLevel circuit (take n (names_of circuit d)) l → IsFound circuit steps s m → level ≡ max l m → HaveLevel circuit (take (n + 1) (names_of circuit d)) level

@@ -4,7 +4,7 @@ use Rattle.std.proofs.lemmas.List.{get_or_default}
 use Rattle.net_core.specs.declared.levels.Visit.TheVariants.{New}
 use Rattle.net_core.specs.Search.{visit_of}
 use Rattle.net_core.proofs.SearchLaws.{IsUnderWay-start}
-use Rattle.net_core.proofs.levels.Search.explore.Goals as goal
+use Rattle.net_core.proofs.levels.DepthFirstSearch.explore.Goals as goal
 
 pub loop-self-init : goal.loop-self-init
 loop-self-init c =

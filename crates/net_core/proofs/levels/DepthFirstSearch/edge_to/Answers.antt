@@ -2,7 +2,7 @@
 use Rattle.std.proofs.Common.{arith}
 use Rattle.net_core.specs.Search.{positions}
 use Rattle.net_core.proofs.SearchLaws.{seen_level}
-use Rattle.net_core.proofs.levels.Search.edge_to.Goals as goal
+use Rattle.net_core.proofs.levels.DepthFirstSearch.edge_to.Goals as goal
 
 pub returns-in-Level : goal.returns-in-Level
 returns-in-Level c =

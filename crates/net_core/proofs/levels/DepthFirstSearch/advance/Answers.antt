@@ -1,7 +1,7 @@
 -- A step of the search keeps what is known: a definition is entered or left, or a cycle is found.
 use Rattle.std.proofs.Common.{◌≡◌, ◌-◌, ◌<◌, ◌∙◌, ap, refl, length, get_or, arith}
 use Rattle.net_core.proofs.SearchLaws.{IsUnderWay-enter, IsUnderWay-close, IsUnderWay-loop, top-there, top-looked}
-use Rattle.net_core.proofs.levels.Search.advance.Goals as goal
+use Rattle.net_core.proofs.levels.DepthFirstSearch.advance.Goals as goal
 
 pub next_event-requires-clause-there : goal.next_event-requires-clause-there
 next_event-requires-clause-there c =

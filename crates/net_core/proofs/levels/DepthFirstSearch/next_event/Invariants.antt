@@ -3,7 +3,7 @@ use Rattle.std.proofs.Common.{◌+◌, ◌*◌, ◌≤◌, length, take}
 use Rattle.circuits.specs.Circuits.{names_of}
 use Rattle.circuits.specs.Levels.{HaveLevel}
 use Rattle.net_core.specs.Search.{left, positions}
-use Rattle.net_core.proofs.levels.Search.next_event.Given as goal
+use Rattle.net_core.proofs.levels.DepthFirstSearch.next_event.Given as goal
 
 abbrev pub invariant-loop-next : goal.invariant-loop-next
 invariant-loop-next l = record {

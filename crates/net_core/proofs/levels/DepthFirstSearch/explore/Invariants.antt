@@ -1,6 +1,6 @@
 -- The search from the root is under way.
 use Rattle.net_core.specs.Search.{IsUnderWay, left, positions}
-use Rattle.net_core.proofs.levels.Search.explore.Given as goal
+use Rattle.net_core.proofs.levels.DepthFirstSearch.explore.Given as goal
 
 abbrev pub invariant-loop-self : goal.invariant-loop-self
 invariant-loop-self l = IsUnderWay l.net l.root l.self.visits.items l.self.stack.items
