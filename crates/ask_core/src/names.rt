@@ -62,8 +62,8 @@ fn list_all(
     Ok(())
 }
 
-// The variable that a literal reads.
-fn variable_in(literal: SatLit) -> u64
+/// The variable that a literal reads.
+pub fn variable_in(literal: SatLit) -> u64
     ensures value { result ≡ variable_of literal }
     ensures few { result < 2 ^ 63 }
 {

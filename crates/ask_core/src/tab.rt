@@ -10,7 +10,7 @@ use watch_core::{Stage, Watch};
 
 /// The watcher is told once in this many learned lines. Thousands are learned in a second, and what is shown changes
 /// once a second.
-const TOLD_EVERY: u64 = 64;
+pub const TOLD_EVERY: u64 = 64;
 
 /// A budget, and for contracts alone the lines that were charged to it, a refused one last: the solver has them. A
 /// watcher is told how many there are.

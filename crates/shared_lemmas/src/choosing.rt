@@ -1,8 +1,9 @@
 //! Which lines a question gets.
 
-ghost use Rattle.std.specs.Prelude.{◌≡◌, ◌<◌, ◌^◌, IfOk, length};
+ghost use Rattle.std.specs.Prelude.{◌≡◌, IfOk, length};
 
 use crate::mark_hinted;
+use ask_core::variable_in;
 use bit_list::Marks;
 use cnf_core::{Base, LogLine, SatLit};
 use query_core::QueryBase;
@@ -79,11 +80,4 @@ fn mark(alloc: Global, literal: SatLit, marked: &mut Marks) -> Result<(), AllocE
         marked.mark(alloc, variable as usize)?;
     }
     Ok(())
-}
-
-// The variable that a literal reads.
-fn variable_in(literal: SatLit) -> u64
-    ensures { result < 2 ^ 63 }
-{
-    literal.variable()
 }

@@ -1,14 +1,10 @@
 //! What the solver looks at first.
 
-use ask_core::agenda_of;
+use ask_core::{TOLD_EVERY, agenda_of};
 use learn_solver::{Agenda, Candidate, QuestionGuide};
 use query_core::{Ledger, QueryBase};
 use std::alloc::{AllocError, Global};
 use watch_core::{Stage, Watch};
-
-/// The watcher is told once in this many learned lines of the question's own search. Thousands are learned in a second,
-/// and what is shown changes once a second.
-const TOLD_EVERY: u64 = 64;
 
 /// The pairs of a question's gates that seem to be equal, each of which is two candidates. Those that questions before
 /// looked at are looked at again: of what was learned there only lines are kept that rest on neither output, and a pair
