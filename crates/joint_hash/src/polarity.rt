@@ -34,12 +34,13 @@ pub(crate) fn add_implications(
 {
     let mut implications = Implications::new(alloc, cones);
     let gates = want_all(cones, twins, &mut implications)?;
-    add_wanted(alloc, cones, twins, gates, &mut implications, lines)
+    add_wanted(cones, twins, gates, &mut implications, lines)
 }
 
-/// Implications from gates of the one cone to their copies in the other.
+/// Implications from gates of the one cone to their copies in the other, and where memory is taken from.
 #[derive(Drop)]
 struct Implications {
+    alloc: Global,
     /// By how much the numbers of a gate's literal and of its copy's differ.
     apart: u64,
     /// Which gates are to imply their copies, by their variables, each with the place of the lemma that says so among
@@ -52,6 +53,7 @@ impl Implications {
     // is n after the gate's, so that their literals' numbers are 2 n apart.
     fn new(alloc: Global, cones: &ConeClauses<'_>) -> Implications {
         Implications {
+            alloc,
             apart: cones.count().saturating_sub(3) / 3,
             wanted: IndexMap::new(alloc),
         }
@@ -222,7 +224,6 @@ fn want_operands(
 
 // Adds the lemmas of the implications that are wanted among some of the cone's gates, from the first one on.
 fn add_wanted(
-    alloc: Global,
     cones: &ConeClauses<'_>,
     twins: &IndexMap<u64, Twin>,
     gates: usize,
@@ -234,14 +235,13 @@ fn add_wanted(
     ensures { OnOk result (AreJoining cones.now.graphs cones.now.query lines.new.items) }
 {
     for place in 0..gates {
-        add_at(alloc, cones, twins, implications, place, lines)?;
+        add_at(cones, twins, implications, place, lines)?;
     }
     Ok(())
 }
 
 // Adds those of the gates at a place.
 fn add_at(
-    alloc: Global,
     cones: &ConeClauses<'_>,
     twins: &IndexMap<u64, Twin>,
     implications: &mut Implications,
@@ -258,13 +258,12 @@ fn add_at(
     let Some(right) = right_at(cones, place) else {
         return Ok(());
     };
-    add_implication(alloc, cones, twins, implications, &left, &right, lines)?;
-    add_implication(alloc, cones, twins, implications, &right, &left, lines)
+    add_implication(cones, twins, implications, &left, &right, lines)?;
+    add_implication(cones, twins, implications, &right, &left, lines)
 }
 
 // Adds the lemma that a gate implies its copy, if that is wanted.
 fn add_implication(
-    alloc: Global,
     cones: &ConeClauses<'_>,
     twins: &IndexMap<u64, Twin>,
     implications: &mut Implications,
@@ -285,9 +284,9 @@ fn add_implication(
     let _graphs = cones.graphs();
     let _ids = cones.ids();
     let place = lines.len();
-    let steps = steps(alloc, cones, twins, implications, gate, copy)?;
+    let steps = steps(cones, twins, implications, gate, copy)?;
     if !add_derived(
-        alloc,
+        implications.alloc,
         cones,
         gate.output.opposite(),
         copy.output,
@@ -302,7 +301,6 @@ fn add_implication(
 // The numbers of the clauses by which a gate implies its copy: it implies its operands, these those of the copy, and
 // they the copy.
 fn steps(
-    alloc: Global,
     cones: &ConeClauses<'_>,
     twins: &IndexMap<u64, Twin>,
     implications: &Implications,
@@ -317,7 +315,7 @@ fn steps(
 {
     // a formula has fewer than 2^62 clauses
     let _count = cones.count();
-    let mut ids = Vec::new(alloc);
+    let mut ids = Vec::new(implications.alloc);
     ids.push(gate.id)?;
     push_link(cones, twins, implications, gate.first, copy.first, &mut ids)?;
     ids.push(gate.id + 1)?;
