@@ -15,7 +15,7 @@ use cnf_core::Stop;
 use items::Items;
 use oracle_core::Oracle;
 use query_core::Ledger;
-use std::alloc::{AllocError, Global};
+use std::alloc::AllocError;
 
 /// Inputs of a support, sorted into classes: of one class any two may be exchanged, of two classes none. So n inputs of
 /// one class take n - 1 tests, each of an input with one of the class, and not one for each two inputs.
@@ -77,7 +77,6 @@ struct Tries {
 
 /// Sorts the inputs of the output's support.
 pub(crate) fn sort<O: Oracle>(
-    alloc: Global,
     output: &FirstOutput<'_>,
     support: &[(u32, Unate)],
     oracle: &mut O,
@@ -90,16 +89,15 @@ pub(crate) fn sort<O: Oracle>(
     ensures sorts { IfOk result (Sorts (arity output.now) (function output.now) support.now (length support.now)) }
 {
     let mut sorted = ExchangeClasses {
-        classes: Items::new(alloc),
-        places: Items::new(alloc),
+        classes: Items::new(output.alloc),
+        places: Items::new(output.alloc),
     };
-    add_all(alloc, output, support, &mut sorted, oracle, ledger)?;
+    add_all(output, support, &mut sorted, oracle, ledger)?;
     Ok(sorted)
 }
 
 /// Adds all inputs of the output's support to an empty list.
 fn add_all<O: Oracle>(
-    alloc: Global,
     output: &FirstOutput<'_>,
     support: &[(u32, Unate)],
     sorted: &mut ExchangeClasses,
@@ -120,14 +118,13 @@ fn add_all<O: Oracle>(
         class: 0,
     };
     for entry in support.iter() {
-        add(alloc, output, *entry, sorted, &mut tries, oracle, ledger)?;
+        add(output, *entry, sorted, &mut tries, oracle, ledger)?;
     }
     Ok(())
 }
 
 /// Adds the next input to the class to which it belongs, or to a new one.
 fn add<O: Oracle>(
-    alloc: Global,
     output: &FirstOutput<'_>,
     entry: (u32, Unate),
     sorted: &mut ExchangeClasses,
@@ -142,7 +139,7 @@ fn add<O: Oracle>(
     ensures serves { Serves (O.known oracle.old) (O.known oracle.new) ledger.old ledger.new result }
     ensures adds { OnOk result (Adds (arity output.now) (function output.now) entry.0 sorted.old sorted.new) }
 {
-    let found = find(alloc, output, entry, &sorted.classes, tries, oracle, ledger)?;
+    let found = find(output, entry, &sorted.classes, tries, oracle, ledger)?;
     let place = put(entry, found, sorted)?;
     tries.class = place.class.wrapping_add(1);
     Ok(())
@@ -207,7 +204,6 @@ fn put_class(
 /// The class to which an input after those of all classes belongs; None where it may be exchanged with none of their
 /// inputs.
 fn find<O: Oracle>(
-    alloc: Global,
     output: &FirstOutput<'_>,
     entry: (u32, Unate),
     classes: &[Class],
@@ -223,24 +219,14 @@ fn find<O: Oracle>(
     ensures found { IfOk result (IsFound (arity output.now) (function output.now) classes.now entry) }
 {
     let start = &mut tries.start;
-    match try_class(
-        alloc,
-        output,
-        entry,
-        classes,
-        tries.class,
-        start,
-        oracle,
-        ledger,
-    )? {
+    match try_class(output, entry, classes, tries.class, start, oracle, ledger)? {
         Some(found) => Ok(Some(found)),
-        None => find_among(alloc, output, entry, classes, start, oracle, ledger),
+        None => find_among(output, entry, classes, start, oracle, ledger),
     }
 }
 
 /// The first class to which the input belongs.
 fn find_among<O: Oracle>(
-    alloc: Global,
     output: &FirstOutput<'_>,
     entry: (u32, Unate),
     classes: &[Class],
@@ -256,7 +242,7 @@ fn find_among<O: Oracle>(
     ensures found { IfOk result (IsFound (arity output.now) (function output.now) classes.now entry) }
 {
     for number in 0..classes.len() {
-        let found = try_class(alloc, output, entry, classes, number, start, oracle, ledger)?;
+        let found = try_class(output, entry, classes, number, start, oracle, ledger)?;
         match found {
             Some(found) => return Ok(Some(found)),
             None => {}
@@ -267,7 +253,6 @@ fn find_among<O: Oracle>(
 
 /// The class of a number, where there is one and the input belongs to it.
 fn try_class<O: Oracle>(
-    alloc: Global,
     output: &FirstOutput<'_>,
     entry: (u32, Unate),
     classes: &[Class],
@@ -287,7 +272,7 @@ fn try_class<O: Oracle>(
         return Ok(None);
     }
     let class = classes[number];
-    let others = admit(alloc, output, entry, class, start, oracle, ledger)?;
+    let others = admit(output, entry, class, start, oracle, ledger)?;
     Ok(found_by(number, class, others))
 }
 
@@ -305,7 +290,6 @@ fn found_by(number: usize, class: Class, others: Option<OtherInputs>) -> Option<
 
 /// The others of a class with the input as the last of them; None where it doesn't belong to the class.
 fn admit<O: Oracle>(
-    alloc: Global,
     output: &FirstOutput<'_>,
     entry: (u32, Unate),
     class: Class,
@@ -321,14 +305,13 @@ fn admit<O: Oracle>(
     ensures joined { IfOk result (IsJoined (arity output.now) (function output.now) class entry) }
 {
     match class.others {
-        Some(others) => follow(alloc, output, others, entry, start, oracle, ledger),
-        None => pair_up(alloc, output, class.first, entry, start, oracle, ledger),
+        Some(others) => follow(output, others, entry, start, oracle, ledger),
+        None => pair_up(output, class.first, entry, start, oracle, ledger),
     }
 }
 
 /// The second input of a class.
 fn pair_up<O: Oracle>(
-    alloc: Global,
     output: &FirstOutput<'_>,
     first: (u32, Unate),
     entry: (u32, Unate),
@@ -344,8 +327,8 @@ fn pair_up<O: Oracle>(
     ensures serves { Serves (O.known oracle.old) (O.known oracle.new) ledger.old ledger.new result }
     ensures pair { IfOk result (IsSecond (arity output.now) (function output.now) first entry) }
 {
-    let symmetric = are_alike(alloc, output, first, entry, false, start, oracle, ledger)?;
-    let skew = are_alike(alloc, output, first, entry, true, start, oracle, ledger)?;
+    let symmetric = are_alike(output, first, entry, false, start, oracle, ledger)?;
+    let skew = are_alike(output, first, entry, true, start, oracle, ledger)?;
     Ok(second_by(entry, symmetric, skew))
 }
 
@@ -365,7 +348,6 @@ fn second_by(entry: (u32, Unate), symmetric: bool, skew: bool) -> Option<OtherIn
 
 /// An input more of a class of two or more.
 fn follow<O: Oracle>(
-    alloc: Global,
     output: &FirstOutput<'_>,
     others: OtherInputs,
     entry: (u32, Unate),
@@ -381,7 +363,7 @@ fn follow<O: Oracle>(
     ensures serves { Serves (O.known oracle.old) (O.known oracle.new) ledger.old ledger.new result }
     ensures follows { IfOk result (IsNext (arity output.now) (function output.now) others entry) }
 {
-    let way = way_of(alloc, output, others.last, entry, start, oracle, ledger)?;
+    let way = way_of(output, others.last, entry, start, oracle, ledger)?;
     Ok(next_by(others, entry, way))
 }
 
@@ -399,7 +381,6 @@ fn next_by(others: OtherInputs, entry: (u32, Unate), way: Option<bool>) -> Optio
 
 /// Whether two inputs may be exchanged each inverted, or as they are; None where neither is so.
 fn way_of<O: Oracle>(
-    alloc: Global,
     output: &FirstOutput<'_>,
     first: (u32, Unate),
     second: (u32, Unate),
@@ -415,11 +396,11 @@ fn way_of<O: Oracle>(
     ensures serves { Serves (O.known oracle.old) (O.known oracle.new) ledger.old ledger.new result }
     ensures way { IfOk result (IsWay (arity output.now) (function output.now) first.0 second.0) }
 {
-    let symmetric = are_alike(alloc, output, first, second, false, start, oracle, ledger)?;
+    let symmetric = are_alike(output, first, second, false, start, oracle, ledger)?;
     if symmetric {
         return Ok(Some(false));
     }
-    let skew = are_alike(alloc, output, first, second, true, start, oracle, ledger)?;
+    let skew = are_alike(output, first, second, true, start, oracle, ledger)?;
     Ok(skew_by(skew))
 }
 

@@ -15,9 +15,10 @@ use query_core::{Claim, Ledger, Shape};
 use sim_signature::Supports;
 use std::alloc::Global;
 
-/// An output of the first of two circuits.
+/// An output of the first of two circuits, with what is kept of that circuit, and where memory is taken from.
 #[derive(Clone, Copy)]
 pub(crate) struct FirstOutput<'a> {
+    pub alloc: Global,
     pub graphs: &'a Graphs<'a>,
     /// What the outputs of the first circuit reach.
     pub supports: &'a Supports<'a>,
@@ -40,7 +41,6 @@ impl<'a> FirstOutput<'a> {
     /// Whether the claim of a shape holds at the output: what the oracle's fact says.
     pub(crate) fn holds<O: Oracle>(
         &self,
-        alloc: Global,
         shape: Shape,
         oracle: &mut O,
         ledger: &mut Ledger,
@@ -57,7 +57,7 @@ impl<'a> FirstOutput<'a> {
             output: self.number,
             shape,
         };
-        let number = oracle.claim(alloc, claim, ledger)?;
+        let number = oracle.claim(self.alloc, claim, ledger)?;
         let fact = &oracle.facts()[number as usize];
         Ok(fact.holds())
     }

@@ -12,11 +12,10 @@ use cnf_core::Stop;
 use items::Items;
 use oracle_core::Oracle;
 use query_core::Ledger;
-use std::alloc::{AllocError, Global};
+use std::alloc::AllocError;
 
 /// The inputs that the output depends on, ascending, and how.
 pub(crate) fn support<O: Oracle>(
-    alloc: Global,
     output: &FirstOutput<'_>,
     oracle: &mut O,
     ledger: &mut Ledger,
@@ -26,10 +25,10 @@ pub(crate) fn support<O: Oracle>(
     ensures serves { Serves (O.known oracle.old) (O.known oracle.new) ledger.old ledger.new result }
     ensures support { IfOk result (ListsSupport (arity output.now) (function output.now) 0 (arity output.now)) }
 {
-    let mut entries = Items::new(alloc);
+    let mut entries = Items::new(output.alloc);
     let inputs = output.graphs.first().inputs();
     for input in 0..inputs {
-        let unate = unateness(alloc, output, input, oracle, ledger)?;
+        let unate = unateness(output, input, oracle, ledger)?;
         note(input, unate, &mut entries)?;
     }
     Ok(entries)

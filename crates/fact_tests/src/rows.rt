@@ -40,12 +40,13 @@ pub(crate) fn rows_by<'a, O: Oracle>(
     let count = graphs.first().outputs().len() as u32;
     for number in 0..count {
         let output = FirstOutput {
+            alloc,
             graphs,
             supports,
             readers,
             number,
         };
-        let row = row(alloc, &output, oracle, ledger)?;
+        let row = row(&output, oracle, ledger)?;
         rows.push(row)?;
     }
     Ok(rows)
@@ -53,7 +54,6 @@ pub(crate) fn rows_by<'a, O: Oracle>(
 
 /// The row of an output.
 fn row<O: Oracle>(
-    alloc: Global,
     output: &FirstOutput<'_>,
     oracle: &mut O,
     ledger: &mut Ledger,
@@ -63,7 +63,7 @@ fn row<O: Oracle>(
     ensures serves { Serves (O.known oracle.old) (O.known oracle.new) ledger.old ledger.new result }
     ensures row { IfOk result (IsRow (arity output.now) (function output.now)) }
 {
-    let support = support(alloc, output, oracle, ledger)?;
-    let pairs = symmetries(alloc, output, &support, oracle, ledger)?;
+    let support = support(output, oracle, ledger)?;
+    let pairs = symmetries(output, &support, oracle, ledger)?;
     Ok(OutputInfo { support, pairs })
 }

@@ -13,11 +13,10 @@ use cnf_core::Stop;
 use items::Items;
 use oracle_core::Oracle;
 use query_core::Ledger;
-use std::alloc::{AllocError, Global};
+use std::alloc::AllocError;
 
 /// The pairs of inputs of the output's support that may be exchanged, ascending, and how.
 pub(crate) fn symmetries<O: Oracle>(
-    alloc: Global,
     output: &FirstOutput<'_>,
     support: &[(u32, Unate)],
     oracle: &mut O,
@@ -29,13 +28,12 @@ pub(crate) fn symmetries<O: Oracle>(
     ensures serves { Serves (O.known oracle.old) (O.known oracle.new) ledger.old ledger.new result }
     ensures pairs { IfOk result (ListsPairs (arity output.now) (function output.now) (arity output.now) 0) }
 {
-    let sorted = sort(alloc, output, support, oracle, ledger)?;
-    Ok(pairs_in(alloc, output, support, &sorted)?)
+    let sorted = sort(output, support, oracle, ledger)?;
+    Ok(pairs_in(output, support, &sorted)?)
 }
 
 /// The pairs, once the inputs are sorted.
 fn pairs_in(
-    alloc: Global,
     output: &FirstOutput<'_>,
     support: &[(u32, Unate)],
     sorted: &ExchangeClasses,
@@ -44,7 +42,7 @@ fn pairs_in(
     requires sorts { Sorts (arity output.now) (function output.now) support.now (length support.now) sorted.now }
     ensures { IfOk result (ListsPairs (arity output.now) (function output.now) (arity output.now) 0) }
 {
-    let mut pairs = Items::new(alloc);
+    let mut pairs = Items::new(output.alloc);
     for place in 0..support.len() {
         add_pairs(output, support, sorted, place, &mut pairs)?;
     }

@@ -13,7 +13,6 @@ use claim_core::Unate;
 use cnf_core::Stop;
 use oracle_core::Oracle;
 use query_core::{Ledger, Shape};
-use std::alloc::Global;
 
 /// Whether the two inputs may be exchanged: as they are, or each inverted. That is so where two swaps hold, claims of
 /// both inputs. Neither is asked where unateness tells the inputs apart, or where the gates near the inputs show the
@@ -21,7 +20,6 @@ use std::alloc::Global;
 /// one is asked first from then on: of a carry one holds for the inputs of lesser digits, and is expensive, and the
 /// other one for those of greater digits.
 pub(crate) fn are_alike<O: Oracle>(
-    alloc: Global,
     output: &FirstOutput<'_>,
     first: (u32, Unate),
     second: (u32, Unate),
@@ -43,7 +41,7 @@ pub(crate) fn are_alike<O: Oracle>(
         return Ok(false);
     }
     if shows_exchange(
-        alloc,
+        output.alloc,
         output.readers,
         output.number,
         first.0,
@@ -54,13 +52,13 @@ pub(crate) fn are_alike<O: Oracle>(
     }
     let from = *start;
     let one = half_swap(first.0, second.0, inverted, from);
-    let holds = output.holds(alloc, one, oracle, ledger)?;
+    let holds = output.holds(one, oracle, ledger)?;
     if !holds {
         return Ok(false);
     }
     *start = !from;
     let other = half_swap(first.0, second.0, inverted, !from);
-    output.holds(alloc, other, oracle, ledger)
+    output.holds(other, oracle, ledger)
 }
 
 /// Whether inputs in which a function is unate in these ways may be exchanged: as they are, or each inverted.

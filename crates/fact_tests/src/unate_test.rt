@@ -9,12 +9,10 @@ use claim_core::Unate;
 use cnf_core::Stop;
 use oracle_core::Oracle;
 use query_core::{Ledger, Shape};
-use std::alloc::Global;
 
 /// How the output depends on an input: None where the input is outside the support, which is asked only where the
 /// output reaches the input.
 pub(crate) fn unateness<O: Oracle>(
-    alloc: Global,
     output: &FirstOutput<'_>,
     input: u32,
     oracle: &mut O,
@@ -29,8 +27,8 @@ pub(crate) fn unateness<O: Oracle>(
     if !output.reaches(input) {
         return Ok(None);
     }
-    let never_falls = output.holds(alloc, Shape::Up(input), oracle, ledger)?;
-    let never_rises = output.holds(alloc, Shape::Down(input), oracle, ledger)?;
+    let never_falls = output.holds(Shape::Up(input), oracle, ledger)?;
+    let never_rises = output.holds(Shape::Down(input), oracle, ledger)?;
     Ok(by_claims(never_falls, never_rises))
 }
 
