@@ -8,40 +8,41 @@ use std::alloc::{AllocError, Global};
 use std::fs;
 use std::test::Fail;
 
-/// The soft limit is the first column after the name of its line. A table without such a line sets no limit, nor does
-/// one whose column is no number of 64 bits.
+/// Tables of limits, and the limit on the size of a file. The soft limit is the first column after the name of its line.
+/// A table without such a line sets no limit, nor does one whose column is no number of 64 bits.
+static LIMITS: [(&str, Option<u64>); 8] = [
+    (
+        "Limit  Soft Limit  Hard Limit  Units\nMax cpu time  7  8  seconds\nMax file size  1024  2048  bytes\n",
+        Some(1024),
+    ),
+    (
+        "Max file size             unlimited            unlimited            bytes",
+        None,
+    ),
+    (
+        "Max file size             0                    unlimited            bytes",
+        Some(0),
+    ),
+    (
+        "Max file size\t18446744073709551615 unlimited bytes",
+        Some(u64::MAX),
+    ),
+    (
+        "Max file size             18446744073709551616 unlimited            bytes",
+        None,
+    ),
+    (
+        "Max data size             1024                 unlimited            bytes",
+        None,
+    ),
+    ("Max file size", None),
+    ("", None),
+];
+
 #[test]
 fn reads_the_limit_on_the_size_of_a_file(rt: HostRuntime) {
-    let table = [
-        (
-            "Limit  Soft Limit  Hard Limit  Units\nMax cpu time  7  8  seconds\nMax file size  1024  2048  bytes\n",
-            Some(1024),
-        ),
-        (
-            "Max file size             unlimited            unlimited            bytes",
-            None,
-        ),
-        (
-            "Max file size             0                    unlimited            bytes",
-            Some(0),
-        ),
-        (
-            "Max file size\t18446744073709551615 unlimited bytes",
-            Some(u64::MAX),
-        ),
-        (
-            "Max file size             18446744073709551616 unlimited            bytes",
-            None,
-        ),
-        (
-            "Max data size             1024                 unlimited            bytes",
-            None,
-        ),
-        ("Max file size", None),
-        ("", None),
-    ];
-    for (limits, want) in table {
-        assert_eq!(rt; size_in(limits), want, "of {limits:?}");
+    for (limits, want) in LIMITS.iter() {
+        assert_eq!(rt; size_in(limits), *want, "of {limits:?}");
     }
 }
 
@@ -89,22 +90,40 @@ fn keeps_what_it_made(
 
 const USED: &str = "this run has read or made it already, by this name or another";
 
+/// Whether a file that was made is refused to a writer by its name, a path and a link, and that is told.
+fn refuses_each_name(
+    rt: HostRuntime,
+    shelf: &mut DiskShelf<HostRuntime>,
+    name: &str,
+    path: &str,
+    link: &str,
+) -> Result<bool, Fail>
+    requires { (⟦<DiskShelf<HostRuntime> as Shelf>⟧.state shelf.old).mode ≡ Closed }
+{
+    let by_name = keeps_what_it_made(rt, shelf, name, name)?;
+    let by_path = keeps_what_it_made(rt, shelf, name, path)?;
+    let by_link = keeps_what_it_made(rt, shelf, name, link)?;
+    Ok(by_name & by_path & by_link & tells(rt.alloc(), shelf, link, USED)?)
+}
+
+/// Writes a file of one letter in another run.
+fn write_anew(rt: HostRuntime, name: &str) -> Result<(), ShelfStop> {
+    let mut shelf = DiskShelf::new(rt);
+    write_letter(&mut shelf, name)
+}
+
 /// A file that was made isn't made anew, by whatever name. Another run may write it.
 #[test]
 fn makes_no_file_twice(rt: HostRuntime) -> Result<(), Fail> {
     let name = "shelf_core_made_by_a_test";
+    let path = "./shelf_core_made_by_a_test";
     let link = "shelf_core_made_and_linked_by_a_test";
     let mut shelf = DiskShelf::new(rt);
     write_letter(&mut shelf, name)?;
-    assert!(rt; shelf.last_error().is_none());
+    let made = shelf.last_error().is_none();
     fs::hard_link(&rt, name, link)?;
-    let path = "./shelf_core_made_by_a_test";
-    assert!(rt; keeps_what_it_made(rt, &mut shelf, name, name)?);
-    assert!(rt; keeps_what_it_made(rt, &mut shelf, name, path)?);
-    assert!(rt; keeps_what_it_made(rt, &mut shelf, name, link)?);
-    assert!(rt; tells(rt.alloc(), &shelf, link, USED)?);
-    let mut another = DiskShelf::new(rt);
-    write_letter(&mut another, link)?;
+    assert!(rt; made & refuses_each_name(rt, &mut shelf, name, path, link)?);
+    write_anew(rt, link)?;
     fs::remove_file(&rt, name)?;
     fs::remove_file(&rt, link)?;
     Ok(())

@@ -191,19 +191,38 @@ fn keeps_what_it_read(
     Ok(before & after & (refused == ShelfStop::Failed))
 }
 
+/// Whether a file that was read is refused to a writer by its name, a path and a link.
+fn refuses_each_name(
+    shelf: &mut DiskShelf<HostRuntime>,
+    name: &str,
+    path: &str,
+    link: &str,
+) -> Result<bool, ShelfStop>
+    requires { (⟦<DiskShelf<HostRuntime> as Shelf>⟧.state shelf.old).mode ≡ Closed }
+{
+    let by_name = keeps_what_it_read(shelf, name, name)?;
+    let by_path = keeps_what_it_read(shelf, name, path)?;
+    let by_link = keeps_what_it_read(shelf, name, link)?;
+    Ok(by_name & by_path & by_link)
+}
+
+/// Writes the letter in another run.
+fn write_anew(rt: HostRuntime, name: &str) -> Result<(), ShelfStop> {
+    let mut shelf = DiskShelf::new(rt);
+    write_letter(&mut shelf, name)
+}
+
 /// A file that was read is not written, by whatever name. Another run may write it.
 #[test]
 fn writes_no_file_that_it_read(rt: HostRuntime) -> Result<(), Fail> {
     let name = "shelf_core_read_by_a_test";
+    let path = "./shelf_core_read_by_a_test";
     let link = "shelf_core_linked_by_a_test";
     let mut shelf = DiskShelf::new(rt);
     write_letter(&mut shelf, name)?;
     fs::hard_link(&rt, name, link)?;
-    assert!(rt; keeps_what_it_read(&mut shelf, name, name)?);
-    assert!(rt; keeps_what_it_read(&mut shelf, name, "./shelf_core_read_by_a_test")?);
-    assert!(rt; keeps_what_it_read(&mut shelf, name, link)?);
-    let mut another = DiskShelf::new(rt);
-    write_letter(&mut another, link)?;
+    assert!(rt; refuses_each_name(&mut shelf, name, path, link)?);
+    write_anew(rt, link)?;
     fs::remove_file(&rt, name)?;
     fs::remove_file(&rt, link)?;
     Ok(())
