@@ -36,9 +36,7 @@ fn matches(
     q: &[(u32, bool)],
 ) -> Result<bool, AllocError> {
     let (first, second) = nets;
-    assert!(rt; first.is_ordered());
-    assert!(rt; second.is_ordered());
-    assert!(rt; first.inputs() <= 16);
+    assert!(rt; first.is_ordered() & second.is_ordered() & (first.inputs() <= 16));
     is_match(alloc, first, second, p, q)
 }
 
@@ -48,10 +46,8 @@ fn equal(
     one: &Netlist,
     other: &Netlist,
 ) -> Result<bool, AllocError> {
-    assert!(rt; one.is_ordered());
-    assert!(rt; other.is_ordered());
-    assert!(rt; one.inputs() <= 7);
-    assert!(rt; one.outputs().len() <= 7);
+    assert!(rt; one.is_ordered() & other.is_ordered());
+    assert!(rt; (one.inputs() <= 7) & (one.outputs().len() <= 7));
     are_npnp_equal(alloc, one, other)
 }
 
@@ -61,8 +57,7 @@ fn values(
     net: &Netlist,
     vector: &[bool],
 ) -> Result<(Vec<bool>, Vec<bool>), AllocError> {
-    assert!(rt; net.is_ordered());
-    assert!(rt; vector.len() == net.inputs() as usize);
+    assert!(rt; net.is_ordered() & (vector.len() == net.inputs() as usize));
     Ok((valuation(alloc, net, vector)?, outputs(alloc, net, vector)?))
 }
 
@@ -156,8 +151,8 @@ fn check_equals(
     or: &Netlist,
     xor: &Netlist,
 ) -> Result<(), AllocError> {
-    assert!(rt; equal(rt, alloc, and, or)?);
-    assert!(rt; !equal(rt, alloc, and, xor)?);
+    let answers = (equal(rt, alloc, and, or)?, equal(rt, alloc, and, xor)?);
+    assert_eq!(rt; answers, (true, false));
     Ok(())
 }
 
