@@ -1,6 +1,7 @@
 //! Bans by covers: no way between the ports of a block is left.
 
 ghost use Rattle.std.specs.Prelude.{◌≡◌, ◌⊎◌, ◌∷◌, All, AllPairs, Contains, IfOk, OnOk, List};
+ghost use Rattle.circuits.specs.declared.port.PortKind.TheVariants.{Input as InputKind};
 ghost use Rattle.account_core.specs.declared.step.Ban.{Ban as AnyBan};
 ghost use Rattle.account_core.specs.Ports.{AreOrdered, IsKnown, ports_in};
 ghost use Rattle.account_core.specs.Given.{Decided as AnyFact, given_of};
@@ -14,7 +15,7 @@ use crate::BanBook;
 use crate::block::Block;
 use crate::needed::add;
 use account_core::{Ban, PairableGraphs, Step};
-use circuits::Pair;
+use circuits::{Pair, PortKind};
 use items::{Few, Items};
 use std::alloc::{AllocError, Global};
 
@@ -124,5 +125,22 @@ pub fn add_one(needed: &mut Vec<Pair>, held: &[Pair], pair: Pair) -> Result<(), 
     // contracts alone read the assigned pairs
     let _ = held;
     add(needed, pair)?;
+    Ok(())
+}
+
+/// Adds an assigned pair to those of inputs, in order, if it is one.
+pub fn add_input(inputs: &mut Vec<Pair>, held: &[Pair], pair: Pair) -> Result<(), AllocError>
+    requires part { IsPart held.now inputs.old.items }
+    requires inputs { All (λ other. other.kind ≡ InputKind) inputs.old.items }
+    requires apart { AllPairs AreApart held.now }
+    requires held { Contains held.now pair }
+    ensures adds { OnOk result (AddsHeld held.now inputs.old.items inputs.new.items) }
+    ensures inputs { OnOk result (All (λ other. other.kind ≡ InputKind) inputs.new.items) }
+    ensures added { OnOk result (pair.kind ≡ InputKind → Contains inputs.new.items pair) }
+{
+    if pair.kind != PortKind::Input {
+        return Ok(());
+    }
+    add_one(inputs, held, pair)?;
     Ok(())
 }

@@ -1,14 +1,14 @@
 -- A vector on which an assigned output's partner is wrong.
-use Rattle.std.proofs.Common.{◌≡◌, ◌⊎◌, Bool, List, [], ◌∷◌, ◌++◌, length, map, get_or, All, refl, sym, subst, ◌∙◌, inl, inr, arith}
+use Rattle.std.proofs.Common.{◌≡◌, Bool, List, [], ◌∷◌, ◌++◌, length, map, get_or, All, refl, sym, subst, ◌∙◌, arith}
 use Rattle.std.specs.Prelude.{Contains}
 use Rattle.std.proofs.lemmas.List.{length-map}
-use Rattle.std.proofs.lemmas.List.Elements.{All-contains, All-contains_itself, All-nil, All-push, Contains-push}
+use Rattle.std.proofs.lemmas.List.Elements.{All-contains_itself, All-nil, All-push, Contains-push}
 use Rattle.std.proofs.lemmas.List.Quantifiers.{all_pairs_push}
 use Rattle.circuits.specs.declared.port.Pair.{Pair}
 use Rattle.circuits.specs.declared.port.PortKind.TheVariants.{Input, Output}
 use Rattle.net_core.specs.Sides.{Graphs}
 use Rattle.net_core.specs.Graph.{IsGraph}
-use Rattle.account_core.specs.Ports.{AreOrdered, StandInOrder}
+use Rattle.account_core.specs.Ports.{StandInOrder}
 use Rattle.word_sim.specs.declared.tri.Tri.{Tri}
 use Rattle.account_core.specs.Held.{AreHeld, IsPart}
 use Rattle.ban_book.specs.Rows.{HasOneOutput}
@@ -35,21 +35,6 @@ shown_held graphs held pairs pair x values are first part there output size valu
 -- none yet
 pub inputs_none : (held : List Pair) → AreHeldInputs held []
 inputs_none held = record { part = record { among = All-nil (Contains held); ordered = λ i j d less below. absurd (omega (arith, below)) }; inputs = All-nil (λ (pair : Pair). pair.kind ≡ Input) }
-
--- one more
-pub inputs_more : (held pairs after : List Pair) (pair : Pair) → AreHeldInputs held pairs → Contains held pair → pair.kind ≡ Input → AreOrdered after → All (λ other. Contains pairs other ⊎ (other ≡ pair)) after → AreHeldInputs held after
-inputs_more held pairs after pair are there kind ordered only = record {
-  part = record { among = λ k d below. held_one (get_or after k d) (only k d below); ordered = ordered };
-  inputs = λ k d below. input_one (get_or after k d) (only k d below);
-}
-  where
-    held_one : (other : Pair) → Contains pairs other ⊎ (other ≡ pair) → Contains held other
-    held_one other (inl before) = All-contains (Contains held) pairs other are.part.among before
-    held_one other (inr same) = subst (Contains held) (sym same) there
-
-    input_one : (other : Pair) → Contains pairs other ⊎ (other ≡ pair) → other.kind ≡ Input
-    input_one other (inl before) = All-contains (λ (p : Pair). p.kind ≡ Input) pairs other are.inputs before
-    input_one other (inr same) = subst (λ (p : Pair). p.kind ≡ Input) (sym same) kind
 
 -- and the pair of an output after them
 module _ (held pairs : List Pair) (pair : Pair) (are : AreHeldInputs held pairs) (there : Contains held pair) (kind : pair.kind ≡ Output) where

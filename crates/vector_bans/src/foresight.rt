@@ -1,22 +1,20 @@
 //! Pairs that fail on a vector, whatever the ports have that aren't in a pair yet.
 
-ghost use Rattle.std.specs.Prelude.{◌≡◌, ◌⊎◌, All, AllPairs, Contains, IfOk, IfSome, List, OnOk};
-ghost use Rattle.circuits.specs.declared.port.Pair.{Pair as AnyPair};
-ghost use Rattle.account_core.specs.Ports.{AreOrdered};
+ghost use Rattle.std.specs.Prelude.{◌≡◌, AllPairs, Contains, IfOk, IfSome};
 ghost use Rattle.circuits.specs.declared.port.PortKind.TheVariants.{Output};
 ghost use Rattle.ban_book.specs.Covering.{Covers};
 ghost use Rattle.account_core.specs.Held.{AreApart, AreHeld, IsPart};
 ghost use Rattle.fact_bans.specs.Asking.{AreSame, HoldsBy, MayHoldBy, loans};
 ghost use Rattle.match_guess.specs.Trials.{AreTrials, IsSuspect};
 ghost use Rattle.ban_book.specs.Rows.{HasOneOutput};
-ghost use Rattle.vector_bans.specs.Differences.{AreHeldInputs, AreShown};
+ghost use Rattle.vector_bans.specs.Differences.{AreShown};
 
 use crate::difference::{Counterexample, Tried, definite, is_wrong, leave_out};
 use crate::last_resort::hold_shown;
 use account_core::PairableGraphs;
 use ban_book::BanBook;
-use ban_book::needed::add;
-use circuits::{Pair, PortKind};
+use ban_book::cover::add_input;
+use circuits::Pair;
 use cnf_core::Stop;
 use fact_bans::Asker;
 use items::Items;
@@ -116,22 +114,8 @@ fn inputs_and(alloc: Global, held: &[Pair], pair: Pair) -> Result<Vec<Pair>, All
 {
     let mut pairs = Vec::new(alloc);
     for other in held.iter() {
-        add_input(&mut pairs, *other)?;
+        add_input(&mut pairs, held, *other)?;
     }
     pairs.push(pair)?;
     Ok(pairs)
-}
-
-// Adds a pair to those of inputs, if it is one.
-fn add_input(pairs: &mut Vec<Pair>, pair: Pair) -> Result<(), AllocError>
-    requires ordered { AreOrdered pairs.old.items }
-    requires apart { All (λ other. (other ≡ pair) ⊎ AreApart other pair) pairs.old.items }
-    ensures { (held : List AnyPair) → AreHeldInputs held pairs.old.items → Contains held pair
-        → OnOk result (AreHeldInputs held pairs.new.items) }
-{
-    if pair.kind != PortKind::Input {
-        return Ok(());
-    }
-    add(pairs, pair)?;
-    Ok(())
 }
