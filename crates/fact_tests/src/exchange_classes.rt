@@ -65,13 +65,13 @@ pub(crate) struct FoundClass {
     pub others: OtherInputs,
 }
 
-/// What is tried first with the next input. No answer depends on it.
+/// What is tried next with an input. No answer depends on it.
 #[derive(Drop)]
 struct Tries {
     /// The swap that is asked first (`are_alike`).
     start: bool,
-    /// The class after that to which the last input belongs. Where the inputs of an operand come one after another,
-    /// those of the next operand belong to the same classes in the same order.
+    /// The class that is tried: at first the one after that to which the last input belongs. Where the inputs of an
+    /// operand come one after another, those of the next operand belong to the same classes in the same order.
     class: usize,
 }
 
@@ -218,10 +218,9 @@ fn find<O: Oracle>(
     ensures serves { Serves (O.known oracle.old) (O.known oracle.new) ledger.old ledger.new result }
     ensures found { IfOk result (IsFound (arity output.now) (function output.now) classes.now entry) }
 {
-    let start = &mut tries.start;
-    match try_class(output, entry, classes, tries.class, start, oracle, ledger)? {
+    match try_class(output, entry, classes, tries, oracle, ledger)? {
         Some(found) => Ok(Some(found)),
-        None => find_among(output, entry, classes, start, oracle, ledger),
+        None => find_among(output, entry, classes, tries, oracle, ledger),
     }
 }
 
@@ -230,7 +229,7 @@ fn find_among<O: Oracle>(
     output: &FirstOutput<'_>,
     entry: (u32, Unate),
     classes: &[Class],
-    start: &mut bool,
+    tries: &mut Tries,
     oracle: &mut O,
     ledger: &mut Ledger,
 ) -> Result<Option<FoundClass>, Stop>
@@ -242,7 +241,8 @@ fn find_among<O: Oracle>(
     ensures found { IfOk result (IsFound (arity output.now) (function output.now) classes.now entry) }
 {
     for number in 0..classes.len() {
-        let found = try_class(output, entry, classes, number, start, oracle, ledger)?;
+        tries.class = number;
+        let found = try_class(output, entry, classes, tries, oracle, ledger)?;
         match found {
             Some(found) => return Ok(Some(found)),
             None => {}
@@ -251,13 +251,12 @@ fn find_among<O: Oracle>(
     Ok(None)
 }
 
-/// The class of a number, where there is one and the input belongs to it.
+/// The class that is tried next, where there is one and the input belongs to it.
 fn try_class<O: Oracle>(
     output: &FirstOutput<'_>,
     entry: (u32, Unate),
     classes: &[Class],
-    number: usize,
-    start: &mut bool,
+    tries: &mut Tries,
     oracle: &mut O,
     ledger: &mut Ledger,
 ) -> Result<Option<FoundClass>, Stop>
@@ -266,12 +265,14 @@ fn try_class<O: Oracle>(
     requires entry { IsEntry (arity output.now) (function output.now) entry }
     requires classes { AreClasses (arity output.now) (function output.now) entry.0 classes.now }
     ensures serves { Serves (O.known oracle.old) (O.known oracle.new) ledger.old ledger.new result }
-    ensures tried { IfOk result (IsTried (arity output.now) (function output.now) classes.now entry number) }
+    ensures tried { IfOk result (IsTried (arity output.now) (function output.now) classes.now entry tries.old.class) }
 {
+    let number = tries.class;
     if number >= classes.len() {
         return Ok(None);
     }
     let class = classes[number];
+    let start = &mut tries.start;
     let others = admit(output, entry, class, start, oracle, ledger)?;
     Ok(found_by(number, class, others))
 }

@@ -10,5 +10,5 @@ returns-clause-tried g c =
     let graphs = c.args.output.now.graphs.now in
     let n = inputs_in graphs in
     let f = function_at graphs c.args.output.now.number in
-    subst (IsTried n f c.args.classes.now c.args.entry c.args.number) (sym c.found_by.ensures)
-    (tried_is n f c.args.classes.now c.args.entry c.args.number _ c.in_ok-others.others (omega (arith, c.if-number-classes.false)) c.in_ok-others.ensures.joined)
+    subst (IsTried n f c.args.classes.now c.args.entry c.args.tries.now.class) (sym c.found_by.ensures)
+    (tried_is n f c.args.classes.now c.args.entry c.args.tries.now.class _ c.in_ok-others.others (omega (arith, c.if-number-classes.false)) c.in_ok-others.ensures.joined)
