@@ -9,7 +9,7 @@ ghost use Rattle.fact_tests.specs.Exchanges.{IsWay, Sorts, classes_with, found_b
 ghost use Rattle.fact_tests.specs.Exchanges.{skew_by};
 
 use crate::first_output::FirstOutput;
-use crate::symmetry_test::are_alike;
+use crate::symmetry_test::{InputExchange, are_alike};
 use claim_core::Unate;
 use cnf_core::Stop;
 use items::Items;
@@ -328,8 +328,18 @@ fn pair_up<O: Oracle>(
     ensures serves { Serves (O.known oracle.old) (O.known oracle.new) ledger.old ledger.new result }
     ensures pair { IfOk result (IsSecond (arity output.now) (function output.now) first entry) }
 {
-    let symmetric = are_alike(output, first, entry, false, start, oracle, ledger)?;
-    let skew = are_alike(output, first, entry, true, start, oracle, ledger)?;
+    let plain = InputExchange {
+        first,
+        second: entry,
+        inverted: false,
+    };
+    let symmetric = are_alike(output, plain, start, oracle, ledger)?;
+    let inverted = InputExchange {
+        first,
+        second: entry,
+        inverted: true,
+    };
+    let skew = are_alike(output, inverted, start, oracle, ledger)?;
     Ok(second_by(entry, symmetric, skew))
 }
 
@@ -397,11 +407,21 @@ fn way_of<O: Oracle>(
     ensures serves { Serves (O.known oracle.old) (O.known oracle.new) ledger.old ledger.new result }
     ensures way { IfOk result (IsWay (arity output.now) (function output.now) first.0 second.0) }
 {
-    let symmetric = are_alike(output, first, second, false, start, oracle, ledger)?;
+    let plain = InputExchange {
+        first,
+        second,
+        inverted: false,
+    };
+    let symmetric = are_alike(output, plain, start, oracle, ledger)?;
     if symmetric {
         return Ok(Some(false));
     }
-    let skew = are_alike(output, first, second, true, start, oracle, ledger)?;
+    let inverted = InputExchange {
+        first,
+        second,
+        inverted: true,
+    };
+    let skew = are_alike(output, inverted, start, oracle, ledger)?;
     Ok(skew_by(skew))
 }
 

@@ -14,50 +14,62 @@ use cnf_core::Stop;
 use oracle_core::Oracle;
 use query_core::{Ledger, Shape};
 
-/// Whether the two inputs may be exchanged: as they are, or each inverted. That is so where two swaps hold, claims of
-/// both inputs. Neither is asked where unateness tells the inputs apart, or where the gates near the inputs show the
-/// exchange. `start` says which swap is asked first, by the value of the lesser input; where that swap holds, the other
-/// one is asked first from then on: of a carry one holds for the inputs of lesser digits, and is expensive, and the
-/// other one for those of greater digits.
+/// An exchange of two inputs of an output, the lesser one first, with how the output depends on them: as they are, or
+/// each inverted.
+#[derive(Clone, Copy, Drop)]
+pub(crate) struct InputExchange {
+    pub first: (u32, Unate),
+    pub second: (u32, Unate),
+    pub inverted: bool,
+}
+
+/// Whether the two inputs may be exchanged. That is so where two swaps hold, claims of both inputs. Neither is asked
+/// where unateness tells the inputs apart, or where the gates near the inputs show the exchange. `start` says which swap
+/// is asked first, by the value of the lesser input; where that swap holds, the other one is asked first from then on:
+/// of a carry one holds for the inputs of lesser digits, and is expensive, and the other one for those of greater digits.
 pub(crate) fn are_alike<O: Oracle>(
     output: &FirstOutput<'_>,
-    first: (u32, Unate),
-    second: (u32, Unate),
-    inverted: bool,
+    exchange: InputExchange,
     start: &mut bool,
     oracle: &mut O,
     ledger: &mut Ledger,
 ) -> Result<bool, Stop>
     requires may { MayAsk output.now.graphs.now (O.known oracle.old) ledger.old }
     requires output { IsOutput output.now }
-    requires order { first.0 < second.0 }
-    requires first { IsEntry (arity output.now) (function output.now) first }
-    requires second { IsEntry (arity output.now) (function output.now) second }
+    requires order { exchange.first.0 < exchange.second.0 }
+    requires first { IsEntry (arity output.now) (function output.now) exchange.first }
+    requires second { IsEntry (arity output.now) (function output.now) exchange.second }
     ensures serves { Serves (O.known oracle.old) (O.known oracle.new) ledger.old ledger.new result }
     ensures told { IfOk result
-        (λ alike. Decides alike (IsAlike (arity output.now) (function output.now) first.0 second.0 inverted)) }
+        (λ alike. Decides alike
+        (IsAlike (arity output.now) (function output.now) exchange.first.0 exchange.second.0 exchange.inverted)) }
 {
-    if !may_be_alike(first.1, second.1, inverted) {
+    if !may_be_alike(exchange.first.1, exchange.second.1, exchange.inverted) {
         return Ok(false);
     }
     if shows_exchange(
         output.alloc,
         output.readers,
         output.number,
-        first.0,
-        second.0,
-        inverted,
+        exchange.first.0,
+        exchange.second.0,
+        exchange.inverted,
     )? {
         return Ok(true);
     }
     let from = *start;
-    let one = half_swap(first.0, second.0, inverted, from);
+    let one = half_swap(exchange.first.0, exchange.second.0, exchange.inverted, from);
     let holds = output.holds(one, oracle, ledger)?;
     if !holds {
         return Ok(false);
     }
     *start = !from;
-    let other = half_swap(first.0, second.0, inverted, !from);
+    let other = half_swap(
+        exchange.first.0,
+        exchange.second.0,
+        exchange.inverted,
+        !from,
+    );
     output.holds(other, oracle, ledger)
 }
 
