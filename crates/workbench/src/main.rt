@@ -1,5 +1,6 @@
 //! `workbench`: runs a part of this repository on netlists from files, so that the scripts in `bench/` can measure it
-//! beside other tools. It prints what came out, and times nothing itself.
+//! beside other tools. It prints what came out, and times nothing itself. With the word `rounds` it runs the whole
+//! program several times in a row, which is the run that the gate compares.
 #![tactic(auto)]
 
 mod asking;
@@ -7,6 +8,7 @@ mod claiming;
 mod guessing;
 mod hunting;
 mod netlist;
+mod rounds;
 mod simulating;
 
 use anyhow::{Result, bail};
@@ -20,7 +22,13 @@ const USAGE: u8 = 2;
 
 fn main(rt: HostRuntime) -> Result<ExitCode> {
     let words = words_after_name(&rt)?;
-    run(&rt, words.as_slice())
+    match words.as_slice() {
+        [command, runs @ ..] if command.as_str() == "rounds" => {
+            rounds::run_all(&rt, runs)?;
+            Ok(ExitCode::SUCCESS)
+        }
+        words => run(&rt, words),
+    }
 }
 
 /// The words of the command line after the program's name.
@@ -76,5 +84,6 @@ fn print_usage<R: Print>(rt: &R) -> io::Result<()> {
     println!(rt; "       workbench guess FIRST SECOND SEED")?;
     println!(rt; "       workbench claims FILE ROUNDS")?;
     println!(rt; "       workbench simulate FILE WORDS ROUNDS")?;
-    println!(rt; "       workbench hunt FILE ROUNDS")
+    println!(rt; "       workbench hunt FILE ROUNDS")?;
+    println!(rt; "       workbench rounds WORD.. [then WORD..]..")
 }
