@@ -204,18 +204,6 @@ fn read_cut(
     end(alloc, &mut reader, text)
 }
 
-/// Reads a short account byte by byte.
-fn read_bytes(alloc: Global, account: &[u8], text: &mut Vec<u8>) -> Result<Ending, AllocError> {
-    if account.len() > 1000 {
-        return Err(AllocError);
-    }
-    let mut reader = Reader::new(alloc);
-    for byte in account.iter() {
-        take(alloc, &mut reader, &[*byte], text)?;
-    }
-    end(alloc, &mut reader, text)
-}
-
 /// A refusal with each kind of record and step.
 const REFUSAL: &str = "\
 npnp 1
@@ -263,14 +251,6 @@ fn reads_what_was_written_wherever_it_is_cut(rt: HostRuntime) -> Result<(), Fail
             );
         }
     }
-    Ok(())
-}
-
-#[test]
-fn reads_what_was_written_byte_by_byte(rt: HostRuntime) -> Result<(), Fail> {
-    let mut text = Vec::new(rt.alloc());
-    let ending = read_bytes(rt.alloc(), MATCH.as_bytes(), &mut text)?;
-    assert_eq!(rt; (text.as_slice(), ending), (MATCH.as_bytes(), (None, 6)));
     Ok(())
 }
 

@@ -18,6 +18,4 @@ mod printed;
 #[cfg(test)]
 mod reports;
 #[cfg(test)]
-mod sample_circuits;
-#[cfg(test)]
 mod words;

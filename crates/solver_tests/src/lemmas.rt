@@ -4,13 +4,11 @@ ghost use Rattle.claim_core.specs.Queries.{IsQuery};
 
 use crate::answers::{exceeds, falls, is_query};
 use crate::queries::{are_literals, match_query};
-use crate::refutation::takes_all;
-use cnf_core::{Base, LogLine, SatLit};
+use cnf_core::LogLine;
 use joint_hash::merge;
 use net_core::{Graphs, Matching};
-use query_core::{ConeClauses, Query, QueryBase};
-use rand_pcg::Pcg32;
-use samples::{GraphPair, drawn, matching};
+use query_core::{ConeClauses, Query};
+use samples::{GraphPair, matching};
 use std::alloc::{AllocError, Global};
 use std::test::Fail;
 
@@ -179,112 +177,5 @@ fn merges_what_a_match_asks(rt: HostRuntime) -> Result<(), Fail> {
     let both = GraphPair::new(rt.alloc(), 2, (&[(2, 4)], 6), (&[(4, 2)], 6))?;
     let identity = matching(rt.alloc(), &[(0, false), (1, false)], &[(0, false)])?;
     assert!(rt; has_match_lemmas(rt.alloc(), &both.graphs(), &identity, BOTH_WAYS)?);
-    Ok(())
-}
-
-fn bit_of(values: &[bool], literal: SatLit) -> bool {
-    let bit = values
-        .get(literal.variable() as usize)
-        .copied()
-        .unwrap_or(false);
-    bit != literal.is_negated()
-}
-
-/// The bit of each variable on a vector: each gate's is found from the clause that its operands imply it.
-fn values_on(alloc: Global, base: &QueryBase<'_>, code: u32) -> Result<Vec<bool>, AllocError> {
-    let mut values = vec![in alloc; false; base.variables() as usize]?;
-    put(&mut values, 0, true);
-    for input in 0..3u32 {
-        put(&mut values, 1 + u64::from(input), code >> input & 1 == 1);
-    }
-    for id in 1..base.count() {
-        put_gate(&mut values, base, id);
-    }
-    Ok(values)
-}
-
-fn put(values: &mut [bool], variable: u64, bit: bool) {
-    if let Some(place) = values.get_mut(variable as usize) {
-        *place = bit;
-    }
-}
-
-fn put_gate(values: &mut [bool], base: &QueryBase<'_>, id: u64) {
-    if id >= base.count() {
-        return;
-    }
-    let clause = base.clause(id);
-    if clause.len < 3 {
-        return;
-    }
-    let [output, first, second] = clause.lits;
-    let bit = !bit_of(values, first) & !bit_of(values, second);
-    put(values, output.variable(), bit);
-}
-
-fn is_met(values: &[bool], line: &LogLine) -> bool {
-    line.clause.iter().any(|literal| bit_of(values, *literal))
-}
-
-/// Whether each lemma holds on all vectors.
-fn all_hold(alloc: Global, base: &QueryBase<'_>, lines: &[LogLine]) -> Result<bool, AllocError> {
-    for code in 0..8u32 {
-        let values = values_on(alloc, base, code)?;
-        if !lines.iter().all(|line| is_met(&values, line)) {
-            return Ok(false);
-        }
-    }
-    Ok(true)
-}
-
-/// Whether the lemmas hold on all vectors, are taken one after the other, and are at least this many.
-fn are_lemmas(
-    alloc: Global,
-    graphs: &Graphs<'_>,
-    query: &Query,
-    least: usize,
-) -> Result<bool, AllocError>
-    requires { IsQuery graphs.now query.now }
-{
-    let cones = ConeClauses::new(alloc, graphs, query)?;
-    let lines = merge(alloc, &cones)?;
-    let base = QueryBase::new(alloc, graphs, query)?;
-    let hold = all_hold(alloc, &base, &lines)?;
-    let taken = takes_all(alloc, base, &lines)?;
-    Ok(hold & taken & (lines.len() >= least))
-}
-
-fn lemmas_are_right(alloc: Global, graphs: &Graphs<'_>, least: usize) -> Result<bool, AllocError> {
-    let query = exceeds(alloc, 3)?;
-    if !is_query(graphs, &query) {
-        return Ok(false);
-    }
-    are_lemmas(alloc, graphs, &query, least)
-}
-
-/// A drawn circuit beside another, or beside itself.
-fn pair_of(alloc: Global, numbers: &mut Pcg32, same: bool) -> Result<GraphPair, Fail> {
-    let first = drawn(alloc, numbers)?;
-    let second = if same {
-        first.copy(alloc)?
-    } else {
-        drawn(alloc, numbers)?
-    };
-    Ok(GraphPair { first, second })
-}
-
-#[test]
-fn drawn_lemmas_hold(rt: HostRuntime) -> Result<(), Fail> {
-    let mut numbers = Pcg32::new(11, 54);
-    for round in 0..40 {
-        let same = round % 2 == 0;
-        let both = pair_of(rt.alloc(), &mut numbers, same)?;
-        // each output is that of one of the last two gates, which has two lemmas at least beside its copy
-        let least = if same { 2 } else { 0 };
-        assert!(rt;
-            lemmas_are_right(rt.alloc(), &both.graphs(), least)?,
-            "in round {round}"
-        );
-    }
     Ok(())
 }
