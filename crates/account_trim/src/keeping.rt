@@ -15,7 +15,7 @@ pub(crate) fn keep_marked<T: Drop>(list: &mut Vec<T>, marks: &[bool])
     list.truncate(count);
 }
 
-// Moves the element at a place behind those that are kept so far, if it is marked. Answers how many are kept then.
+// Moves the element at a place after those that are kept so far, if it is marked. Answers how many are kept then.
 fn keep_one<T>(list: &mut Vec<T>, count: usize, place: usize, mark: bool) -> usize
     requires later { count ≤ place }
     requires there { place < vec_len list.old }

@@ -60,7 +60,7 @@ pub record AreFourNames (first second account restored : List ℕ) : Type 0 wher
   pub not_second : restored ≢ second
   pub not_account : restored ≢ account
 
--- What is restored: the second of two netlists behind the first one's ports, by an account of a match of them, in a file that is
+-- What is restored: the second of two netlists with the first one's ports, by an account of a match of them, in a file that is
 -- written.
 pub record Wished : Type 0 where
   pub first : List ℕ

@@ -43,7 +43,7 @@ pub enum Outcome {
     Informed,
     /// The two files have the pair of netlists that was asked for.
     Made,
-    /// The second netlist was written behind the first one's ports, with so many gates.
+    /// The second netlist was written with the first one's ports, with so many gates.
     Restored {
         gates: u64,
     },

@@ -88,7 +88,7 @@ pub struct Trial {
 pub enum Command<'a> {
     /// Whether an account proves that two netlists match.
     Check(Check<'a>),
-    /// The second of two netlists behind the first one's ports, by an account of a match.
+    /// The second of two netlists with the first one's ports, by an account of a match.
     Restore(Restore<'a>),
     /// A match of two netlists, or that there is none.
     Match(Match<'a>),

@@ -125,7 +125,7 @@ fn put_matched(words: &[String], text: &mut String) -> Result<(), ReadStop> {
     writeln!(
         text,
         "npnp: `npnp restore {first} {second} {account} NEW` gives the names back: NEW is {second} \
-         behind the ports of {first}"
+         with the ports of {first}"
     )?;
     Ok(())
 }

@@ -21,7 +21,7 @@ FIRST, SECOND and FILE are netlists, BLIF or AIGER (text or binary). `match` loo
 port of
 FIRST its partner in SECOND, plain or inverted. It prints `matched` and the port table, or `no matching`, and writes
 ACCOUNT, which proves either. `check` tests such an account, whoever wrote it. Where it proves a match, `restore` writes
-NEW, as binary AIGER: the gates of SECOND behind the ports of FIRST, with their names. `info` prints supports, unateness
+NEW, as binary AIGER: the gates of SECOND with the ports of FIRST, with their names. `info` prints supports, unateness
 and symmetries. `make` writes the pair of netlists that NUMBER gives, FIRST as binary AIGER and SECOND as BLIF: they
 match. `trial` makes it in memory, looks for its match and checks the account.
 

@@ -52,7 +52,7 @@ const OUT_OF_MEMORY: &[u8] = b"out of memory\n";
 ///   proves, by refutations, that it is a match of the two, or that proves by bans that no matching is one. A match
 ///   that it proves is printed as a port table.
 /// - `restore FIRST SECOND ACCOUNT NEW`: where ACCOUNT proves a match of the netlists FIRST and SECOND, as a check by
-///   these names would say, NEW is written, in the binary form of AIGER: SECOND's gates behind FIRST's ports, with
+///   these names would say, NEW is written, in the binary form of AIGER: SECOND's gates with FIRST's ports, with
 ///   their names and in their order. The name NEW is none of the others.
 /// - `info FILE [BUDGET]`: FILE is a netlist. Its supports, unateness and symmetries are decided; at most BUDGET
 ///   clauses are learned for that, by default 1,000,000,000.

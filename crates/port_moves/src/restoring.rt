@@ -1,4 +1,4 @@
-//! A netlist behind the ports of another one that it matches.
+//! A netlist with the ports of another one that it matches.
 
 ghost use Rattle.std.specs.Prelude.{◌≡◌, IfOk, length};
 ghost use Rattle.circuits.specs.Bijections.{IsSignedBijection};
@@ -12,7 +12,7 @@ use crate::moving::moved_graph;
 use net_core::{Graph, Matching};
 use std::alloc::{AllocError, Global};
 
-/// The gates of `second` behind the ports of a first circuit: input i is that from which the matching's entry i leads,
+/// The gates of `second` with the ports of a first circuit: input i is that from which the matching's entry i leads,
 /// and so are the outputs, inverted where the matching says so. It computes what any first circuit does of which the
 /// matching is a match with `second`, and has as many gates as `second`.
 ///

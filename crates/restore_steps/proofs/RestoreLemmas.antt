@@ -30,7 +30,7 @@ use Rattle.run_steps.proofs.CheckLemmas.{follows_files, follows_unwritten, leave
 use Rattle.run_steps.proofs.FormLemmas.{check_of_restore, reads_of}
 use Rattle.run_steps.proofs.MatchLemmas.{everywhere}
 use Rattle.run_steps.proofs.OutcomeLemmas.{early_unwritten, of_unwritten}
-use Rattle.restore_steps.specs.Restoring.{IsBehindPorts, Restores}
+use Rattle.restore_steps.specs.Restoring.{HasFirstPorts, Restores}
 use Rattle.restore_steps.proofs.WrittenLemmas.{is_restored}
 
 -- the check that the words of a restore name
@@ -137,8 +137,8 @@ module _ (tells : Bool) (asked : RestoreWords) (old now : ShelfState) (answer : 
 
   -- the new file has the netlist, or the first bytes of it
 
-  left_whole : (restored : Named) (new : ShelfState) → IsBehindPorts answer.first answer.second restored → new.held asked.restored.now ≡ Some (aig_text restored) → IsTrue tells → (words : List (List ℕ)) → AsksRestore words (wished_by asked) → HoldsRestored old.held new.held words (length restored.graph.gates)
-  left_whole restored new behind there t words asks = record {
+  left_whole : (restored : Named) (new : ShelfState) → HasFirstPorts answer.first answer.second restored → new.held asked.restored.now ≡ Some (aig_text restored) → IsTrue tells → (words : List (List ℕ)) → AsksRestore words (wished_by asked) → HoldsRestored old.held new.held words (length restored.graph.gates)
+  left_whole restored new ported there t words asks = record {
     wished = wished_by asked;
     asks = asks;
     first = netlist_of judges.first.circuit answer.first;
@@ -147,7 +147,7 @@ module _ (tells : Bool) (asked : RestoreWords) (old now : ShelfState) (answer : 
     second_held = second_netlist t;
     bytes = aig_text restored;
     there = there;
-    restored = is_restored (old.held asked.first.now) (old.held asked.second.now) judges.first.circuit answer.first answer.second restored (judges.first.held t) judges.first.computes (second_netlist t) behind;
+    restored = is_restored (old.held asked.first.now) (old.held asked.second.now) judges.first.circuit answer.first answer.second restored (judges.first.held t) judges.first.computes (second_netlist t) ported;
   }
 
   cut : (new : ShelfState) (o : Outcome) → Restores tells answer.first answer.second asked.restored.now now new (Err o) → IsTrue tells → (words : List (List ℕ)) → AsksRestore words (wished_by asked) → MayBeCut old.held new.held words
@@ -155,7 +155,7 @@ module _ (tells : Bool) (asked : RestoreWords) (old now : ShelfState) (answer : 
       let name = asked.restored.now in
       elim (restores.part t) [
         | inl same ↦ inl (λ n. everywhere old.held new.held name (λ m other. restores.others t m other ∙ judges.files m) (same ∙ judges.files name) n (bytes_eq n name) refl)
-        | inr (restored, behind, first_part) ↦ inr (inr (inr (record {
+        | inr (restored, ported, first_part) ↦ inr (inr (inr (record {
           wished = wished_by asked;
           asks = asks;
           first = netlist_of judges.first.circuit answer.first;
@@ -164,7 +164,7 @@ module _ (tells : Bool) (asked : RestoreWords) (old now : ShelfState) (answer : 
           second_held = second_netlist t;
           gates = length restored.graph.gates;
           bytes = aig_text restored;
-          restored = is_restored (old.held asked.first.now) (old.held asked.second.now) judges.first.circuit answer.first answer.second restored (judges.first.held t) judges.first.computes (second_netlist t) behind;
+          restored = is_restored (old.held asked.first.now) (old.held asked.second.now) judges.first.circuit answer.first answer.second restored (judges.first.held t) judges.first.computes (second_netlist t) ported;
           count = first_part.0;
           part = first_part.1;
         })))
@@ -173,13 +173,13 @@ module _ (tells : Bool) (asked : RestoreWords) (old now : ShelfState) (answer : 
   pub restores_decides : (new : ShelfState) (result : Result Ending Outcome) → Restores tells answer.first answer.second asked.restored.now now new result → Decides tells (asked_restore asked) old new result
   restores_decides new (Ok ending) restores =
       let restored = restores.answer.0 in
-      let behind = restores.answer.1 in
+      let ported = restores.answer.1 in
       let gates = length restored.graph.gates in
       let is : ending.outcome ≡ Restored gates = restores.answer.2 in
       record {
         files = λ t n other. restores.others t n other ∙ judges.files n;
-        left = λ t words asks. subst (Leaves old.held new.held words) (sym is) (left_whole restored new behind (restores.answer.4 t) t words asks);
-        right = λ t words asks. subst (IsRight old.held words) (sym is) (restorable t words asks gates behind.gates);
+        left = λ t words asks. subst (Leaves old.held new.held words) (sym is) (left_whole restored new ported (restores.answer.4 t) t words asks);
+        right = λ t words asks. subst (IsRight old.held words) (sym is) (restorable t words asks gates ported.gates);
         by_words = λ words asks. subst (FollowsWords words) (sym is) (follows_files words (Restored gates) (reads asked words asks) (λ e. cc) (λ number text e. cc));
         sound = λ t words asks. subst (IsSoundAnswer old.held words) (sym is) (record { matches = λ other e. cc; refuses = λ e. cc });
         report = λ words asks. inl (

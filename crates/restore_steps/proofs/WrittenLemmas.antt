@@ -24,7 +24,7 @@ use Rattle.check_steps.specs.declared.outcome.Outcome.TheVariants.{Restored, Mem
 use Rattle.check_steps.proofs.CircuitLemmas.{few_ports, ports_named}
 use Rattle.run_steps.specs.Restore.{IsRestored}
 use Rattle.run_steps.specs.Steps.{WritesText}
-use Rattle.restore_steps.specs.Restoring.{IsBehindPorts, Restores}
+use Rattle.restore_steps.specs.Restoring.{HasFirstPorts, Restores}
 use Rattle.restore_steps.proofs.GateLemmas.{few_gates}
 
 -- the names of a file's ports stand on lines
@@ -32,10 +32,10 @@ names_on_lines : (bytes : List ℕ) (circuit : Circuit) (i o : List (List ℕ)) 
 names_on_lines bytes circuit i o is =
     elim is [ inl (begins, aiger) ↦ aiger_names bytes circuit i o aiger | inr (not, blif) ↦ blif_names bytes circuit i o blif ]
 
--- two files were read, and this is the second netlist behind the first one's ports
+-- two files were read, and this is the second netlist with the first one's ports
 module _ (content other : Option (List ℕ)) (circuit : Circuit) (first second restored : Named)
     (holds : HoldsNetlist content (netlist_of circuit first)) (computes : Computes first.graph circuit) (graph : HoldsGraph other second.graph)
-    (behind : IsBehindPorts first second restored) where
+    (ported : HasFirstPorts first second restored) where
   good : IsPrintable restored
   good =
       let few = few_ports holds.bytes circuit first.input_names first.output_names holds.is in
@@ -45,15 +45,15 @@ module _ (content other : Option (List ℕ)) (circuit : Circuit) (first second r
       let gates = few_gates graph.holds.bytes net.circuit second.graph net.input_names net.output_names graph.holds.is graph.numbered in
       record {
         within = record {
-          ordered = behind.sound.ordered;
-          inputs = omega (arith, few.0, computes.inputs, behind.equal.inputs);
-          outputs = omega (arith, few.1, computes.outputs, behind.equal.outputs);
-          gates = omega (arith, gates, behind.gates);
+          ordered = ported.sound.ordered;
+          inputs = omega (arith, few.0, computes.inputs, ported.equal.inputs);
+          outputs = omega (arith, few.1, computes.outputs, ported.equal.outputs);
+          gates = omega (arith, gates, ported.gates);
         };
-        inputs_named = ap length behind.input_names ∙ (length-map first.input_names symbol_name ∙ (named.0 ∙ (sym computes.inputs ∙ sym behind.equal.inputs)));
-        outputs_named = ap length behind.output_names ∙ (length-map first.output_names symbol_name ∙ (named.1 ∙ (sym computes.outputs ∙ sym behind.equal.outputs)));
-        input_names = subst (All IsSymbolName) (sym behind.input_names) (symbol_names_good first.input_names names.0);
-        output_names = subst (All IsSymbolName) (sym behind.output_names) (symbol_names_good first.output_names names.1);
+        inputs_named = ap length ported.input_names ∙ (length-map first.input_names symbol_name ∙ (named.0 ∙ (sym computes.inputs ∙ sym ported.equal.inputs)));
+        outputs_named = ap length ported.output_names ∙ (length-map first.output_names symbol_name ∙ (named.1 ∙ (sym computes.outputs ∙ sym ported.equal.outputs)));
+        input_names = subst (All IsSymbolName) (sym ported.input_names) (symbol_names_good first.input_names names.0);
+        output_names = subst (All IsSymbolName) (sym ported.output_names) (symbol_names_good first.output_names names.1);
       }
 
   pub is_restored : IsRestored (netlist_of circuit first) second.graph (length restored.graph.gates) (aig_text restored)
@@ -63,11 +63,11 @@ module _ (content other : Option (List ℕ)) (circuit : Circuit) (first second r
       record {
         circuit = printed;
         binary = refl;
-        file = subst (λ names. IsAiger (aig_text restored) printed names (map symbol_name first.output_names)) behind.input_names
-            (subst (IsAiger (aig_text restored) printed restored.input_names) behind.output_names (aig_is restored good));
-        same = equal_circuits circuit printed first.graph net computes (computes_too net behind.sound.ordered) behind.equal;
+        file = subst (λ names. IsAiger (aig_text restored) printed names (map symbol_name first.output_names)) ported.input_names
+            (subst (IsAiger (aig_text restored) printed restored.input_names) ported.output_names (aig_is restored good));
+        same = equal_circuits circuit printed first.graph net computes (computes_too net ported.sound.ordered) ported.equal;
         gates_are = length-map (map greater_first net.gates) gate_def ∙ length-map net.gates greater_first;
-        no_more = omega (arith, behind.gates);
+        no_more = omega (arith, ported.gates);
       }
 
 -- there was no memory for the netlist
@@ -83,10 +83,10 @@ no_room tells first second name state result is =
     })
 
 -- it was written
-pub written : (tells : Bool) (first second restored : Named) (name : List ℕ) (old new : ShelfState) (ending : Ending) → IsBehindPorts first second restored → ending.outcome ≡ Restored (length restored.graph.gates) → ending.report.items ≡ line_of ending.outcome → WritesText tells name (aig_text restored) old new (Ok tt) → Restores tells first second name old new (Ok ending)
-written tells first second restored name old new ending behind is report writes = record {
+pub written : (tells : Bool) (first second restored : Named) (name : List ℕ) (old new : ShelfState) (ending : Ending) → HasFirstPorts first second restored → ending.outcome ≡ Restored (length restored.graph.gates) → ending.report.items ≡ line_of ending.outcome → WritesText tells name (aig_text restored) old new (Ok tt) → Restores tells first second name old new (Ok ending)
+written tells first second restored name old new ending ported is report writes = record {
   others = writes.others;
-  answer = (restored, behind, is, report, writes.whole);
+  answer = (restored, ported, is, report, writes.whole);
   stopped = tt;
   part = λ t. tt;
   last = writes.last;
@@ -94,13 +94,13 @@ written tells first second restored name old new ending behind is report writes 
 }
 
 -- or it wasn't
-pub unwritten_netlist : (tells : Bool) (first second restored : Named) (name : List ℕ) (old new : ShelfState) (o : Outcome) (result : Result Ending Outcome) → result ≡ Err o → IsBehindPorts first second restored → WritesText tells name (aig_text restored) old new (Err o) → Restores tells first second name old new result
-unwritten_netlist tells first second restored name old new o result is behind writes =
+pub unwritten_netlist : (tells : Bool) (first second restored : Named) (name : List ℕ) (old new : ShelfState) (o : Outcome) (result : Result Ending Outcome) → result ≡ Err o → HasFirstPorts first second restored → WritesText tells name (aig_text restored) old new (Err o) → Restores tells first second name old new result
+unwritten_netlist tells first second restored name old new o result is ported writes =
     subst (λ r. Restores tells first second name old new r) (sym is) (record {
       others = writes.others;
       answer = tt;
       stopped = writes.stopped;
-      part = λ t. elim (writes.part t) [ inl same ↦ inl same | inr first_part ↦ inr (restored, behind, first_part) ];
+      part = λ t. elim (writes.part t) [ inl same ↦ inl same | inr first_part ↦ inr (restored, ported, first_part) ];
       last = writes.last;
       failed = λ e. writes.failed (ap Err (cc e));
     })

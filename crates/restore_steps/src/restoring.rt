@@ -1,4 +1,4 @@
-//! A netlist behind the ports of another one that it matches, written to a file.
+//! A netlist with the ports of another one that it matches, written to a file.
 
 ghost use Rattle.std.specs.Prelude.{◌≡◌, IfOk, IfErr};
 ghost use Rattle.circuits.specs.Matches.{IsMatchOfFunctions};
@@ -6,7 +6,7 @@ ghost use Rattle.shelf_core.specs.State.{Closed};
 ghost use Rattle.check_steps.specs.Lines.{line_of};
 ghost use Rattle.run_steps.specs.Commands.{asked_restore};
 ghost use Rattle.run_steps.specs.Steps.{Decides};
-ghost use Rattle.restore_steps.specs.Restoring.{IsBehindPorts, Restores};
+ghost use Rattle.restore_steps.specs.Restoring.{HasFirstPorts, Restores};
 
 use crate::naming::symbol_names;
 use check_steps::{Check, Ending, Judgement, Outcome, Restore, judge_files, report_line};
@@ -20,7 +20,7 @@ use std::alloc::{AllocError, Global};
 use watch_core::Watch;
 
 /// Has the account that the words name judged as a check does, and where it proves a match of the two netlists, writes
-/// the second one behind the first one's ports, in the binary form of AIGER. Any other verdict is the answer, and
+/// the second one with the first one's ports, in the binary form of AIGER. Any other verdict is the answer, and
 /// nothing is written. The error is an outcome whose report is one line: a file is no netlist, or there was a fault.
 pub fn restore_files<S: Shelf, W: Watch>(
     alloc: Global,
@@ -63,7 +63,7 @@ fn reported(alloc: Global, verdict: Outcome) -> Result<Ending, Outcome>
     })
 }
 
-/// Writes the second of two netlists behind the first one's ports, by a match of them. The error is that memory ran
+/// Writes the second of two netlists with the first one's ports, by a match of them. The error is that memory ran
 /// out, or that the file wasn't written.
 fn restore_by<S: Shelf>(
     alloc: Global,
@@ -78,7 +78,7 @@ fn restore_by<S: Shelf>(
         matching.now.inputs matching.now.outputs }
     ensures { Restores S.tells first.now second.now name.now (S.state shelf.old) (S.state shelf.new) result }
 {
-    let netlist = behind_ports(alloc, first, second, matching)?;
+    let netlist = with_ports(alloc, first, second, matching)?;
     let outcome = Outcome::Restored {
         gates: netlist.graph.gates().len() as u64,
     };
@@ -88,8 +88,8 @@ fn restore_by<S: Shelf>(
     Ok(Ending { outcome, report })
 }
 
-/// The gates of `second` behind the ports of `first`, with its names.
-fn behind_ports(
+/// The gates of `second` with the ports of `first`, with its names.
+fn with_ports(
     alloc: Global,
     first: &Named,
     second: &Named,
@@ -97,7 +97,7 @@ fn behind_ports(
 ) -> Result<Named, AllocError>
     requires { IsMatchOfFunctions first.now.graph second.now.graph
         matching.now.inputs matching.now.outputs }
-    ensures { IfOk result (IsBehindPorts first.now second.now) }
+    ensures { IfOk result (HasFirstPorts first.now second.now) }
 {
     let graph = restored(alloc, &second.graph, matching)?;
     let input_names = symbol_names(alloc, &first.input_names)?;

@@ -1,4 +1,4 @@
--- What `restore` says of the words and of the files, and what it leaves: the second netlist behind the first one's ports.
+-- What `restore` says of the words and of the files, and what it leaves: the second netlist with the first one's ports.
 use Rattle.std.specs.Prelude.{◌≡◌, ◌⊎◌, ℕ, ◌≤◌, true, List, length, map, take, Option, Some}
 use Rattle.circuits.specs.Circuits.{Circuit}
 use Rattle.circuits.specs.Netlists.{Net}

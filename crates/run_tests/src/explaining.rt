@@ -379,7 +379,7 @@ fn tells_how_names_are_given_back(rt: HostRuntime) -> Result<(), Fail> {
     let told = told_of_run(rt.alloc(), MATCH, [A, B], None)?;
     assert_eq!(rt;
         told.as_str(),
-        "npnp: `npnp restore A B t NEW` gives the names back: NEW is B behind the ports of A\n"
+        "npnp: `npnp restore A B t NEW` gives the names back: NEW is B with the ports of A\n"
     );
     Ok(())
 }

@@ -3,7 +3,7 @@ use Rattle.std.proofs.Common.{length, map, ap, sym, ◌∙◌}
 use Rattle.std.proofs.lemmas.List.{length-map}
 use Rattle.circuits.proofs.MatchLaws.{IsSignedBijection-at}
 use Rattle.print_laws.specs.Printable.{symbol_name}
-use Rattle.restore_steps.proofs.restoring.behind_ports.Goals as goal
+use Rattle.restore_steps.proofs.restoring.with_ports.Goals as goal
 
 pub restored-requires-clause-inputs : goal.restored-requires-clause-inputs
 restored-requires-clause-inputs c = IsSignedBijection-at _ _ _ c.requires.same_inputs c.requires.inputs
