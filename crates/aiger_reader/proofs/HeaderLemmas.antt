@@ -5,7 +5,7 @@ use Rattle.std.proofs.lemmas.List.{length-map}
 use Rattle.std.proofs.lemmas.List.Elements.{All-head, All-tail}
 use Rattle.text_core.specs.Lines.{lines}
 use Rattle.text_core.specs.Piece.{Piece}
-use Rattle.aiger_reader.specs.declared.header.Numbers.{Numbers}
+use Rattle.aiger_reader.specs.declared.header.HeaderNumbers.{HeaderNumbers}
 use Rattle.aiger_reader.specs.Words.{numbers_on, AreSmall}
 use Rattle.aiger_reader.specs.Headers.{AigerHeader, header_numbers, keyword, line_after, WritesHeader, HasHeader}
 use Rattle.aiger_reader.specs.Numbers.{header_from, WritesNumbers, IsCounted}
@@ -84,11 +84,11 @@ keyword_same true false e = absurd (no_clash (sym (ap (λ (bytes : List ℕ). ge
 keyword_same false true e = absurd (no_clash (ap (λ (bytes : List ℕ). get_or bytes 1 0 == 97) e))
 
 -- a file's header has the form and the numbers that are read
-header_same : (bytes : List ℕ) (binary : Bool) (numbers : Numbers) (h : AigerHeader) → take 4 bytes ≡ keyword binary → (writes : WritesNumbers (line_after bytes) numbers) → HasHeader bytes h → (h.binary ≡ binary) × (header_numbers h ≡ header_numbers (header_from binary numbers writes.properties))
+header_same : (bytes : List ℕ) (binary : Bool) (numbers : HeaderNumbers) (h : AigerHeader) → take 4 bytes ≡ keyword binary → (writes : WritesNumbers (line_after bytes) numbers) → HasHeader bytes h → (h.binary ≡ binary) × (header_numbers h ≡ header_numbers (header_from binary numbers writes.properties))
 header_same bytes binary numbers h begins writes has =
     (keyword_same h.binary binary (sym has.begins ∙ begins), map_same _ _ (sym has.numbers.written ∙ (writes.header binary).written))
 
-pub not_counted : (bytes : List ℕ) (binary : Bool) (numbers : Numbers) → take 4 bytes ≡ keyword binary → WritesNumbers (line_after bytes) numbers → (IsCounted binary numbers → ⊥) → (h : AigerHeader) → HasHeader bytes h → ⊥
+pub not_counted : (bytes : List ℕ) (binary : Bool) (numbers : HeaderNumbers) → take 4 bytes ≡ keyword binary → WritesNumbers (line_after bytes) numbers → (IsCounted binary numbers → ⊥) → (h : AigerHeader) → HasHeader bytes h → ⊥
 not_counted bytes binary numbers begins writes not_so h has =
     let same = header_same bytes binary numbers h begins writes has in
     let variables : h.variables ≡ numbers.variables = cc in
@@ -100,7 +100,7 @@ not_counted bytes binary numbers begins writes not_so h has =
       no_gaps = λ t. let gaps = has.no_gaps (subst IsTrue (sym same.0) t) in omega (arith, gaps);
     })
 
-pub header_read : (bytes : List ℕ) (binary : Bool) (numbers : Numbers) → take 4 bytes ≡ keyword binary → (writes : WritesNumbers (line_after bytes) numbers) → IsCounted binary numbers → HasHeader bytes (header_from binary numbers writes.properties)
+pub header_read : (bytes : List ℕ) (binary : Bool) (numbers : HeaderNumbers) → take 4 bytes ≡ keyword binary → (writes : WritesNumbers (line_after bytes) numbers) → IsCounted binary numbers → HasHeader bytes (header_from binary numbers writes.properties)
 header_read bytes binary numbers begins writes counts =
     record {
       begins = begins;

@@ -30,7 +30,7 @@ port_or_not p q = elim (kind_or_not p.kind q.kind) [
 ]
 
 -- an entry names the port, or none does
-named_or_not : (entries : List Entry) (port : Port) → ((k : ℕ) × (k < length entries) × ((d : Entry) → (get_or entries k d).0 ≡ port)) ⊎ All (λ entry. entry.0 ≢ port) entries
+pub named_or_not : (entries : List Entry) (port : Port) → ((k : ℕ) × (k < length entries) × ((d : Entry) → (get_or entries k d).0 ≡ port)) ⊎ All (λ entry. entry.0 ≢ port) entries
 named_or_not [] port = inr (All-nil (λ (entry : Entry). entry.0 ≢ port))
 named_or_not (entry ∷ entries) port =
     elim (port_or_not entry.0 port) [

@@ -157,7 +157,7 @@ one_gate_each {X} a b (x ∷ xs) =
     omega (arith, one_gate_each a b xs, sum_by-cons def_gates (And (a x) (b x)) (map (λ y. And (a y) (b y)) xs))
 
 -- a file's netlist has a gate for each definition
-gates_of_form : (binary : Bool) (bytes : List ℕ) (h : AigerHeader) (rows : List (List ℕ)) (circuit : Circuit) (rest : List ℕ) → IsOfForm binary bytes h rows circuit rest → gates_in circuit ≡ length circuit.defs
+pub gates_of_form : (binary : Bool) (bytes : List ℕ) (h : AigerHeader) (rows : List (List ℕ)) (circuit : Circuit) (rest : List ℕ) → IsOfForm binary bytes h rows circuit rest → gates_in circuit ≡ length circuit.defs
 gates_of_form false bytes h rows circuit rest form =
     let lines = drop (h.inputs + h.outputs) rows in
     let each : gates_in (text_circuit h rows) ≡ length (text_circuit h rows).defs = one_gate_each _ _ lines ∙ sym (length-map lines _) in

@@ -4,7 +4,7 @@ use Rattle.std.specs.List.{list_any}
 use Rattle.net_file.specs.declared.fault.NetKind.{NetKind}
 use Rattle.net_file.specs.declared.fault.NetKind.TheVariants as kind
 use Rattle.aiger_reader.specs.declared.limits.Header.{Header}
-use Rattle.aiger_reader.specs.declared.header.Numbers.{Numbers}
+use Rattle.aiger_reader.specs.declared.header.HeaderNumbers.{HeaderNumbers}
 use Rattle.aiger_reader.specs.Headers.{AigerHeader, WritesHeader, HasHeader, header_fault}
 
 -- the whole header of the numbers that are kept of it: it has no latches
@@ -21,7 +21,7 @@ header_of header properties =
     }
 
 -- the whole header of a form and the numbers after its keyword
-abbrev pub header_from : Bool → Numbers → List ℕ → AigerHeader
+abbrev pub header_from : Bool → HeaderNumbers → List ℕ → AigerHeader
 header_from binary numbers properties =
     record {
       binary = binary;
@@ -34,19 +34,19 @@ header_from binary numbers properties =
     }
 
 -- The line writes these numbers, with or without a property.
-pub record WritesNumbers (line : List ℕ) (numbers : Numbers) : Type 0 where
+pub record WritesNumbers (line : List ℕ) (numbers : HeaderNumbers) : Type 0 where
   pub properties : List ℕ
   pub header : (binary : Bool) → WritesHeader line (header_from binary numbers properties)
   pub property : numbers.has_property ≡ list_any (nat_lt 0) properties
 
 -- The file has a header of this form and these numbers, with or without a property.
-pub record HasNumbers (bytes : List ℕ) (binary : Bool) (numbers : Numbers) : Type 0 where
+pub record HasNumbers (bytes : List ℕ) (binary : Bool) (numbers : HeaderNumbers) : Type 0 where
   pub properties : List ℕ
   pub header : HasHeader bytes (header_from binary numbers properties)
   pub property : numbers.has_property ≡ list_any (nat_lt 0) properties
 
 -- the variables are enough for what is defined, and no more in the binary form
-pub record IsCounted (binary : Bool) (numbers : Numbers) : Type 0 where
+pub record IsCounted (binary : Bool) (numbers : HeaderNumbers) : Type 0 where
   pub counted : numbers.inputs + numbers.latches + numbers.gates ≤ numbers.variables
   pub no_gaps : IsTrue binary → numbers.inputs + numbers.latches + numbers.gates ≡ numbers.variables
 

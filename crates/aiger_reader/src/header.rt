@@ -17,7 +17,7 @@ use text_core::{Cursor, Span, next_word};
 
 /// The numbers after the keyword, M I L O A, and whether one of the others, B C J F, is above 0.
 #[derive(Clone, Copy)]
-struct Numbers {
+struct HeaderNumbers {
     variables: u32,
     inputs: u32,
     latches: u32,
@@ -26,7 +26,7 @@ struct Numbers {
     has_property: bool,
 }
 
-impl Numbers {
+impl HeaderNumbers {
     // Whether there are enough variables for the inputs, latches and gates, and in the binary form no more.
     fn is_counted(&self, binary: bool) -> bool
         ensures { IsTrue result ↔ IsCounted binary self.now }
@@ -103,7 +103,7 @@ pub(crate) fn read_header(input: &[u8]) -> Result<Header, NetKind>
 }
 
 // The form of a file and the numbers of its header, where it has one.
-fn announced(input: &[u8]) -> Option<(bool, Numbers)>
+fn announced(input: &[u8]) -> Option<(bool, HeaderNumbers)>
     ensures header { IfSome result (λ found. HasNumbers input.now found.0 found.1) }
     ensures none { IfNone result ((h : AigerHeader) → HasHeader input.now h → ⊥) }
 {
@@ -140,7 +140,7 @@ fn line_after_keyword(input: &[u8]) -> Option<Span<'_>>
 }
 
 // The numbers on the first line after the keyword, where these are five to nine of 32 bits.
-fn read_numbers(input: &[u8]) -> Option<Numbers>
+fn read_numbers(input: &[u8]) -> Option<HeaderNumbers>
     requires { 4 ≤ length input.now }
     ensures numbers { IfSome result (WritesNumbers (line_after input.now)) }
     ensures none { IfNone result ((h : AigerHeader) → WritesHeader (line_after input.now) h → ⊥) }
@@ -152,7 +152,7 @@ fn read_numbers(input: &[u8]) -> Option<Numbers>
         return None;
     }
     let [variables, inputs, latches, outputs, gates, ..] = row;
-    Some(Numbers {
+    Some(HeaderNumbers {
         variables,
         inputs,
         latches,

@@ -14,7 +14,7 @@ use Rattle.claim_core.specs.Rows.{IsEntry, ListsPairs, ListsSupport}
 use Rattle.fact_tests.specs.declared.exchange_classes.ExchangeClasses.{ExchangeClasses}
 use Rattle.fact_tests.specs.declared.exchange_classes.Class.{Class}
 use Rattle.fact_tests.specs.declared.exchange_classes.OtherInputs.{OtherInputs}
-use Rattle.fact_tests.specs.declared.exchange_classes.Place.{Place}
+use Rattle.fact_tests.specs.declared.exchange_classes.ClassPlace.{ClassPlace}
 use Rattle.fact_tests.specs.declared.exchange_classes.FoundClass.{FoundClass}
 use Rattle.fact_tests.specs.Exchanges.{Adds, AreApart, AreClasses, Finds, HasLast, IsClass, IsExchange, IsFound, IsIn, IsJoined, IsNever, IsNext, IsOther, IsPlace, IsSecond, IsStranger, IsTried, IsWay, Joins, KeepsBoth, Sorts, both_by, classes_with, found_by, last_by, last_of, next_by, place_in, second_by, skew_by, sym_by}
 use Rattle.fact_tests.specs.Outputs.{IsAlike, IsSymmetry, input_at, pair_of}
@@ -225,7 +225,7 @@ in_grown n f entry old found i inverted same joins is =
       | inr other ↦ inr (subst (λ (first : ℕ × Unate). IsOther n f first.0 (Some found.others) i inverted) (sym same) (in_by n f old.first.0 i old.others found.others inverted joins.kept other))
     ]
 
-place_push : (n : ℕ) (f : List Bool → Bool) (entry : ℕ × Unate) (classes : List Class) (i : ℕ) (place : Place) → IsPlace n f classes i place → IsPlace n f (classes_with entry None classes) i place
+place_push : (n : ℕ) (f : List Bool → Bool) (entry : ℕ × Unate) (classes : List Class) (i : ℕ) (place : ClassPlace) → IsPlace n f classes i place → IsPlace n f (classes_with entry None classes) i place
 place_push n f entry classes i place is =
     let new : Class = record { first = entry; others = None } in
     record {
@@ -233,7 +233,7 @@ place_push n f entry classes i place is =
       belongs = λ d. subst (λ class. IsIn n f class i place.inverted) (sym (get_or_append_left classes (new ∷ []) d place.class is.there)) (is.belongs d);
     }
 
-place_set : (n : ℕ) (f : List Bool → Bool) (entry : ℕ × Unate) (classes : List Class) (found : FoundClass) (i : ℕ) (place : Place) → Finds n f classes entry found → IsPlace n f classes i place → IsPlace n f (classes_with entry (Some found) classes) i place
+place_set : (n : ℕ) (f : List Bool → Bool) (entry : ℕ × Unate) (classes : List Class) (found : FoundClass) (i : ℕ) (place : ClassPlace) → Finds n f classes entry found → IsPlace n f classes i place → IsPlace n f (classes_with entry (Some found) classes) i place
 place_set n f entry classes found i place finds is =
     let new : Class = record { first = found.first; others = Some found.others } in
     record {
@@ -320,7 +320,7 @@ pub sorts_more : (n : ℕ) (f : List Bool → Bool) (support : List (ℕ × Unat
     → Sorts n f support (k + 1) new
 sorts_more n f support k i old new lists there read sorts adds =
     let here : i ≡ input_at n support k = read ∙ read_at n support k there in
-    let P : ℕ → Place → Type 0 = λ m place. IsPlace n f new.classes (input_at n support m) place in
+    let P : ℕ → ClassPlace → Type 0 = λ m place. IsPlace n f new.classes (input_at n support m) place in
     let before : EachAt P old.places = λ m d h. adds.kept (input_at n support m) (get_or old.places m d) (sorts.places m d h) in
     let belongs : P (length old.places) adds.place = subst (λ i. IsPlace n f new.classes i adds.place) (here ∙ ap (input_at n support) (sym sorts.counted)) adds.belongs in
     record {
@@ -380,7 +380,7 @@ never_between n f one other i j p q apart classes first second =
     (never_in n f other j i q (λ e. apart (sym e)) (λ e. ends (sym e)) second (never_back n f i other.first.0 ends upper))
 
 -- inputs of two classes
-pub sym_apart : (n : ℕ) (f : List Bool → Bool) (end i j : ℕ) (classes : List Class) (one other : Place) → AreClasses n f end classes
+pub sym_apart : (n : ℕ) (f : List Bool → Bool) (end i j : ℕ) (classes : List Class) (one other : ClassPlace) → AreClasses n f end classes
     → IsPlace n f classes i one
     → IsPlace n f classes j other
     → i < j
@@ -419,7 +419,7 @@ exchange_in n f first i j (Some others) p q order (inr one) (inr other) =
     exchange_between n f first i j p q others.both (omega (arith, one.0)) (omega (arith, other.0)) (omega (arith, order)) one.1 other.1
 
 -- inputs of one class
-pub sym_same : (n : ℕ) (f : List Bool → Bool) (i j : ℕ) (classes : List Class) (one other : Place) (d : Class) (both : Bool) (way : Sym) → IsPlace n f classes i one
+pub sym_same : (n : ℕ) (f : List Bool → Bool) (i j : ℕ) (classes : List Class) (one other : ClassPlace) (d : Class) (both : Bool) (way : Sym) → IsPlace n f classes i one
     → IsPlace n f classes j other
     → i < j
     → one.class ≡ other.class
@@ -433,7 +433,7 @@ sym_same n f i j classes one other d both way first second order same has is =
     subst (λ (way : Sym). IsSymmetry n f i j (Some way)) (sym (is ∙ ap (λ both. sym_by both (differ one.inverted other.inverted)) has)) (exchange_is n f i j (both_by class.others) (differ one.inverted other.inverted) exchange)
 
 -- one pair more is decided, by where its inputs belong
-pub pair_at : (n : ℕ) (f : List Bool → Bool) (support : List (ℕ × Unate)) (sorted : ExchangeClasses) (place t lesser greater : ℕ) (pairs new : List (ℕ × ℕ × Sym)) (way : Option Sym) (lent : List Class) (one other : Place)
+pub pair_at : (n : ℕ) (f : List Bool → Bool) (support : List (ℕ × Unate)) (sorted : ExchangeClasses) (place t lesser greater : ℕ) (pairs new : List (ℕ × ℕ × Sym)) (way : Option Sym) (lent : List Class) (one other : ClassPlace)
     → ListsSupport n f 0 n support
     → Sorts n f support (length support) sorted
     → place < t

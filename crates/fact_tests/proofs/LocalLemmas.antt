@@ -17,7 +17,7 @@ use Rattle.claim_core.specs.Claims.{output_bit, with_input}
 use Rattle.net_core.specs.Values.{signed_word}
 use Rattle.word_sim.specs.Columns.{word_bit}
 use Rattle.word_sim.proofs.Lanes.{and-bit, inverted-bit, zero-bit}
-use Rattle.fact_tests.specs.declared.readers.Span.{Span}
+use Rattle.fact_tests.specs.declared.readers.GateSpan.{GateSpan}
 use Rattle.fact_tests.specs.declared.local_exchange.SideWords.{SideWords}
 use Rattle.fact_tests.specs.declared.local_exchange.Changed.{Changed}
 use Rattle.fact_tests.specs.declared.local_exchange.Near.{Near}
@@ -426,7 +426,7 @@ spreads_same net i j inverted start place end signal near new d ordered there is
   covered = subst (All (λ entry. IsCovered net.gates (length net.gates) start end entry.signal)) (sym changed) spreads.covered;
 }
 
-pub spreads_more : (net : Net) (i j : ℕ) (inverted : Bool) (start place end to signal : ℕ) (near new : Near) (d : Gate) (span : Span) → IsOrdered net → place < length net.gates → start ≤ place → signal ≡ 1 + net.inputs + place
+pub spreads_more : (net : Net) (i j : ℕ) (inverted : Bool) (start place end to signal : ℕ) (near new : Near) (d : Gate) (span : GateSpan) → IsOrdered net → place < length net.gates → start ≤ place → signal ≡ 1 + net.inputs + place
     → Spreads net i j inverted start place end near
     → GoesOver (get_or net.gates place d) signal near new
     → HasMore signal near.changed new.changed
@@ -465,7 +465,7 @@ spreads_end net i j inverted start place end near ordered le within spreads x le
 
 -- the spans of a circuit, gate by gate
 
-wider : (place signal k : ℕ) (old new : List Span) (d : Span) → Widens place signal old new → (get_or old k d).end ≤ place + 1
+wider : (place signal k : ℕ) (old new : List GateSpan) (d : GateSpan) → Widens place signal old new → (get_or old k d).end ≤ place + 1
     → ((get_or new k d).start ≤ (get_or old k d).start) × ((get_or old k d).end ≤ (get_or new k d).end) × ((get_or new k d).end ≤ place + 1) × (k ≡ signal → ((get_or new k d).start ≤ place) × (place < (get_or new k d).end))
 wider place signal k old new d widens before =
     elim (cases_eq k signal) [
@@ -475,11 +475,11 @@ wider place signal k old new d widens before =
           (λ end. (widens.before d, omega (arith, end, widens.end d), omega (arith, widens.end d), λ e. (widens.start d, omega (arith, widens.end d)))) before
       | inr apart ↦
           let same : get_or old k d ≡ get_or new k d = sym (widens.others k d apart) in
-          subst (λ (it : Span). (it.start ≤ (get_or old k d).start) × ((get_or old k d).end ≤ it.end) × (it.end ≤ place + 1) × (k ≡ signal → (it.start ≤ place) × (place < it.end))) same
+          subst (λ (it : GateSpan). (it.start ≤ (get_or old k d).start) × ((get_or old k d).end ≤ it.end) × (it.end ≤ place + 1) × (k ≡ signal → (it.start ≤ place) × (place < it.end))) same
           (omega arith, omega arith, before, λ e. absurd (apart e))
     ]
 
-pub spans_more : (net : Net) (place : ℕ) (d : Gate) (old mid new : List Span) → place < length net.gates
+pub spans_more : (net : Net) (place : ℕ) (d : Gate) (old mid new : List GateSpan) → place < length net.gates
     → AreSpans net place old
     → Widens place (signal_of (get_or net.gates place d).a) old mid
     → Widens place (signal_of (get_or net.gates place d).b) mid new
@@ -494,7 +494,7 @@ spans_more net place d old mid new there spans first second = record {
       record { end = other.2; covers = λ p f below reads. covers k e before one other p f below reads };
 }
   where
-    covers : (k : ℕ) (e : Span) → IsSpan net.gates place k (get_or old k e)
+    covers : (k : ℕ) (e : GateSpan) → IsSpan net.gates place k (get_or old k e)
         → ((get_or mid k e).start ≤ (get_or old k e).start) × ((get_or old k e).end ≤ (get_or mid k e).end) × ((get_or mid k e).end ≤ place + 1) × (k ≡ signal_of (get_or net.gates place d).a → ((get_or mid k e).start ≤ place) × (place < (get_or mid k e).end))
         → ((get_or new k e).start ≤ (get_or mid k e).start) × ((get_or mid k e).end ≤ (get_or new k e).end) × ((get_or new k e).end ≤ place + 1) × (k ≡ signal_of (get_or net.gates place d).b → ((get_or new k e).start ≤ place) × (place < (get_or new k e).end))
         → IsCovered net.gates (place + 1) (get_or new k e).start (get_or new k e).end k
@@ -516,33 +516,33 @@ spans_more net place d old mid new there spans first second = record {
               ]
         ]
 
-pub widens_set : (spans : List Span) (signal place start : ℕ) (d : Span) → signal < length spans
+pub widens_set : (spans : List GateSpan) (signal place start : ℕ) (d : GateSpan) → signal < length spans
     → start ≤ (get_or spans signal d).start
     → start ≤ place
     → Widens place signal spans (set spans signal (record { start = start; end = place + 1 }))
 widens_set spans signal place start d there before low =
-    let new : Span = record { start = start; end = place + 1 } in
-    let here : (e : Span) → get_or (set spans signal new) signal e ≡ new = λ e. get_or-set_same spans signal new e there in
+    let new : GateSpan = record { start = start; end = place + 1 } in
+    let here : (e : GateSpan) → get_or (set spans signal new) signal e ≡ new = λ e. get_or-set_same spans signal new e there in
     record {
       spans = length-set spans signal new;
       others = λ k e apart. get_or-set_other spans signal k new e apart;
-      before = λ e. omega (arith, before, ap (λ (span : Span). span.start) (here e), ap (λ (span : Span). span.start) (get_or_default spans signal d e there));
-      start = λ e. omega (arith, low, ap (λ (span : Span). span.start) (here e));
-      end = λ e. ap (λ (span : Span). span.end) (here e);
+      before = λ e. omega (arith, before, ap (λ (span : GateSpan). span.start) (here e), ap (λ (span : GateSpan). span.start) (get_or_default spans signal d e there));
+      start = λ e. omega (arith, low, ap (λ (span : GateSpan). span.start) (here e));
+      end = λ e. ap (λ (span : GateSpan). span.end) (here e);
     }
 
-pub spans_none : (net : Net) (spans : List Span) → length spans ≡ signals_of net → All (λ span. span.end ≡ 0) spans → AreSpans net 0 spans
+pub spans_none : (net : Net) (spans : List GateSpan) → length spans ≡ signals_of net → All (λ span. span.end ≡ 0) spans → AreSpans net 0 spans
 spans_none net spans count none = record {
   signals = count;
   each = λ k d h. record { end = omega (arith, none k d h); covers = λ p e below reads. absurd (omega (arith, below)) };
 }
 
-pub empty_more : (spans new : List Span) (count : ℕ) (span : Span) → length spans ≡ count → All (λ (span : Span). span.end ≡ 0) spans → span.end ≡ 0 → new ≡ spans ++ span ∷ [] → (length new ≡ count + 1) × All (λ (span : Span). span.end ≡ 0) new
+pub empty_more : (spans new : List GateSpan) (count : ℕ) (span : GateSpan) → length spans ≡ count → All (λ (span : GateSpan). span.end ≡ 0) spans → span.end ≡ 0 → new ≡ spans ++ span ∷ [] → (length new ≡ count + 1) × All (λ (span : GateSpan). span.end ≡ 0) new
 empty_more spans new count span counted none empty is =
-    subst (λ (new : List Span). (length new ≡ count + 1) × All (λ (span : Span). span.end ≡ 0) new) (sym is) (omega (arith, length_push spans span, counted), All-push (λ (span : Span). span.end ≡ 0) spans span none empty)
+    subst (λ (new : List GateSpan). (length new ≡ count + 1) × All (λ (span : GateSpan). span.end ≡ 0) new) (sym is) (omega (arith, length_push spans span, counted), All-push (λ (span : GateSpan). span.end ≡ 0) spans span none empty)
 
 -- from where on, and to where, gates are gone over
-pub both_spans : (one other : Span) (low start end : ℕ) → end ≡ max one.end other.end → low ≡ min one.start other.start → start ≡ min low end → (start ≤ one.start) × (start ≤ other.start) × (start ≤ end) × (one.end ≤ end) × (other.end ≤ end)
+pub both_spans : (one other : GateSpan) (low start end : ℕ) → end ≡ max one.end other.end → low ≡ min one.start other.start → start ≡ min low end → (start ≤ one.start) × (start ≤ other.start) × (start ≤ end) × (one.end ≤ end) × (other.end ≤ end)
 both_spans one other low start end last first begin =
     (omega (arith, first, begin), omega (arith, first, begin), omega (arith, begin), omega (arith, last), omega (arith, last))
 
@@ -563,7 +563,7 @@ step_same net gates i j inverted start place end to signal near new d result ord
     )
 
 -- and it is
-pub step_differs : (net of : Net) (gates : List Gate) (i j : ℕ) (inverted : Bool) (start place end to signal : ℕ) (near new : Near) (d : Gate) (result : Went) (span : Span) → IsOrdered net
+pub step_differs : (net of : Net) (gates : List Gate) (i j : ℕ) (inverted : Bool) (start place end to signal : ℕ) (near new : Near) (d : Gate) (result : Went) (span : GateSpan) → IsOrdered net
     → net ≡ of
     → gates ≡ net.gates
     → place < length gates

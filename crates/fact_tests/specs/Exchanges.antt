@@ -12,7 +12,7 @@ use Rattle.claim_core.specs.Rows.{IsEntry}
 use Rattle.fact_tests.specs.declared.exchange_classes.ExchangeClasses.{ExchangeClasses}
 use Rattle.fact_tests.specs.declared.exchange_classes.Class.{Class}
 use Rattle.fact_tests.specs.declared.exchange_classes.OtherInputs.{OtherInputs}
-use Rattle.fact_tests.specs.declared.exchange_classes.Place.{Place}
+use Rattle.fact_tests.specs.declared.exchange_classes.ClassPlace.{ClassPlace}
 use Rattle.fact_tests.specs.declared.exchange_classes.FoundClass.{FoundClass}
 use Rattle.fact_tests.specs.Outputs.{IsAlike, input_at}
 
@@ -69,7 +69,7 @@ pub record AreClasses (n : ℕ) (f : List Bool → Bool) (end : ℕ) (classes : 
   pub apart : AllPairs (AreApart n f) classes
 
 -- An input belongs where the place says.
-pub record IsPlace (n : ℕ) (f : List Bool → Bool) (classes : List Class) (i : ℕ) (place : Place) : Type 0 where
+pub record IsPlace (n : ℕ) (f : List Bool → Bool) (classes : List Class) (i : ℕ) (place : ClassPlace) : Type 0 where
   pub there : place.class < length classes
   pub belongs : (d : Class) → IsIn n f (slice_index_or classes place.class d) i place.inverted
 
@@ -82,10 +82,10 @@ pub record Sorts (n : ℕ) (f : List Bool → Bool) (support : List (ℕ × Unat
 -- The next input was added, and each other one belongs where it belonged.
 pub record Adds (n : ℕ) (f : List Bool → Bool) (i : ℕ) (old new : ExchangeClasses) : Type 0 where
   pub classes : AreClasses n f (i + 1) new.classes
-  pub place : Place
+  pub place : ClassPlace
   pub placed : new.places ≡ old.places ++ place ∷ []
   pub belongs : IsPlace n f new.classes i place
-  pub kept : (j : ℕ) (place : Place) → IsPlace n f old.classes j place → IsPlace n f new.classes j place
+  pub kept : (j : ℕ) (place : ClassPlace) → IsPlace n f old.classes j place → IsPlace n f new.classes j place
 
 -- an input may not be exchanged with the last one of a class
 abbrev pub IsStranger : ℕ → (List Bool → Bool) → Class → ℕ → Type 0
@@ -156,7 +156,7 @@ abbrev pub classes_with : ℕ × Unate → Option FoundClass → List Class → 
 classes_with entry None classes = classes ++ record { first = entry; others = None } ∷ []
 classes_with entry (Some found) classes = slice_set classes found.number (record { first = found.first; others = Some found.others })
 
-abbrev pub place_in : Option FoundClass → List Class → Place
+abbrev pub place_in : Option FoundClass → List Class → ClassPlace
 place_in None classes = record { class = length classes; inverted = false }
 place_in (Some found) classes = record { class = found.number; inverted = found.others.inverted }
 

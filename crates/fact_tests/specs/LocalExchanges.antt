@@ -9,7 +9,7 @@ use Rattle.circuits.specs.Netlists.{Net, gate_bit, signals_of, valuation_of}
 use Rattle.claim_core.specs.Claims.{with_input}
 use Rattle.net_core.specs.Values.{signed_word}
 use Rattle.word_sim.specs.Columns.{word_bit}
-use Rattle.fact_tests.specs.declared.readers.Span.{Span}
+use Rattle.fact_tests.specs.declared.readers.GateSpan.{GateSpan}
 use Rattle.fact_tests.specs.declared.local_exchange.SideWords.{SideWords}
 use Rattle.fact_tests.specs.declared.local_exchange.Changed.{Changed}
 use Rattle.fact_tests.specs.declared.local_exchange.Near.{Near}
@@ -24,22 +24,22 @@ IsCovered gates count start end signal =
     → (start ≤ place) × (place < end)
 
 -- The span of a signal has all gates below `count` that read it.
-pub record IsSpan (gates : List Gate) (count signal : ℕ) (span : Span) : Type 0 where
+pub record IsSpan (gates : List Gate) (count signal : ℕ) (span : GateSpan) : Type 0 where
   pub end : span.end ≤ count
   pub covers : IsCovered gates count span.start span.end signal
 
 -- A span for each signal.
-pub record AreSpans (net : Net) (count : ℕ) (spans : List Span) : Type 0 where
+pub record AreSpans (net : Net) (count : ℕ) (spans : List GateSpan) : Type 0 where
   pub signals : length spans ≡ signals_of net
   pub each : EachAt (IsSpan net.gates count) spans
 
 -- Spans are as before, but that of a signal has a place too.
-pub record Widens (place signal : ℕ) (old new : List Span) : Type 0 where
+pub record Widens (place signal : ℕ) (old new : List GateSpan) : Type 0 where
   pub spans : length new ≡ length old
-  pub others : (k : ℕ) (d : Span) → k ≢ signal → slice_index_or new k d ≡ slice_index_or old k d
-  pub before : (d : Span) → (slice_index_or new signal d).start ≤ (slice_index_or old signal d).start
-  pub start : (d : Span) → (slice_index_or new signal d).start ≤ place
-  pub end : (d : Span) → (slice_index_or new signal d).end ≡ place + 1
+  pub others : (k : ℕ) (d : GateSpan) → k ≢ signal → slice_index_or new k d ≡ slice_index_or old k d
+  pub before : (d : GateSpan) → (slice_index_or new signal d).start ≤ (slice_index_or old signal d).start
+  pub start : (d : GateSpan) → (slice_index_or new signal d).start ≤ place
+  pub end : (d : GateSpan) → (slice_index_or new signal d).end ≡ place + 1
 
 -- a way of the leaves: lane m has their bits
 abbrev pub IsLane : List Bool → List ℕ → ℕ → Type 0

@@ -23,7 +23,7 @@ use std::alloc::AllocError;
 pub(crate) struct ExchangeClasses {
     pub classes: Items<Class>,
     /// Where each input of the support belongs, in the order of the support.
-    pub places: Items<Place>,
+    pub places: Items<ClassPlace>,
 }
 
 /// Inputs of which any two may be exchanged.
@@ -49,7 +49,7 @@ pub(crate) struct OtherInputs {
 
 /// Where an input belongs.
 #[derive(Clone, Copy, Drop)]
-pub(crate) struct Place {
+pub(crate) struct ClassPlace {
     /// The number of its class.
     pub class: usize,
     /// Whether it may be exchanged with the first input of its class inverted, else as it is.
@@ -150,7 +150,7 @@ fn put(
     entry: (u32, Unate),
     found: Option<FoundClass>,
     sorted: &mut ExchangeClasses,
-) -> Result<Place, AllocError>
+) -> Result<ClassPlace, AllocError>
     requires found { IfSome found (λ found. found.number < length sorted.old.classes) }
     ensures classes { OnOk result (sorted.new.classes ≡ classes_with entry found sorted.old.classes) }
     ensures places { OnOk result (sorted.new.places ≡ sorted.old.places ++ place_in found sorted.old.classes ∷ []) }
@@ -165,7 +165,7 @@ fn put_class(
     entry: (u32, Unate),
     found: Option<FoundClass>,
     classes: &mut Items<Class>,
-) -> Result<Place, AllocError>
+) -> Result<ClassPlace, AllocError>
     requires found { IfSome found (λ found. found.number < length classes.old) }
     ensures classes { OnOk result (classes.new ≡ classes_with entry found classes.old) }
     ensures place { IfOk result (λ place. place ≡ place_in found classes.old) }
@@ -182,7 +182,7 @@ fn put_class(
                 others: Some(others),
             };
             classes.set(number, grown);
-            Ok(Place {
+            Ok(ClassPlace {
                 class: number,
                 inverted: others.inverted,
             })
@@ -193,7 +193,7 @@ fn put_class(
                 first: entry,
                 others: None,
             })?;
-            Ok(Place {
+            Ok(ClassPlace {
                 class,
                 inverted: false,
             })

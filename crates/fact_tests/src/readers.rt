@@ -13,7 +13,7 @@ use std::marker::Model;
 
 /// The gates that read a signal are among those from `start` on and before `end`.
 #[derive(Clone, Copy, Drop)]
-pub(crate) struct Span {
+pub(crate) struct GateSpan {
     pub start: u32,
     pub end: u32,
 }
@@ -22,7 +22,7 @@ pub(crate) struct Span {
 #[derive(Drop)]
 pub(crate) struct Readers<'a> {
     graph: &'a Graph,
-    spans: Items<Span>,
+    spans: Items<GateSpan>,
 }
 
 impl<'a> Model for Readers<'a> {
@@ -54,7 +54,7 @@ impl<'a> Readers<'a> {
     }
 
     /// The span of a signal.
-    pub(crate) fn span(&self, signal: u32) -> Span
+    pub(crate) fn span(&self, signal: u32) -> GateSpan
         requires { signal < signals_of self.now }
         ensures { IsSpan self.now.gates (length self.now.gates) signal result }
     {
@@ -63,7 +63,7 @@ impl<'a> Readers<'a> {
 }
 
 /// The spans of all signals.
-fn spans_of(alloc: Global, graph: &Graph) -> Result<Items<Span>, AllocError>
+fn spans_of(alloc: Global, graph: &Graph) -> Result<Items<GateSpan>, AllocError>
     ensures { IfOk result (AreSpans graph.now (length graph.now.gates)) }
 {
     let mut spans = no_spans(alloc, graph.signals())?;
@@ -77,12 +77,12 @@ fn spans_of(alloc: Global, graph: &Graph) -> Result<Items<Span>, AllocError>
 }
 
 /// Empty spans, as many as there are signals.
-fn no_spans(alloc: Global, count: usize) -> Result<Items<Span>, AllocError>
+fn no_spans(alloc: Global, count: usize) -> Result<Items<GateSpan>, AllocError>
     ensures { IfOk result (λ spans. (net : Net) → signals_of net ≡ count → AreSpans net 0 spans) }
 {
     let mut spans = Items::new(alloc);
     for _signal in 0..count {
-        spans.push(Span {
+        spans.push(GateSpan {
             start: u32::MAX,
             end: 0,
         })?;
@@ -91,7 +91,7 @@ fn no_spans(alloc: Global, count: usize) -> Result<Items<Span>, AllocError>
 }
 
 /// Notes that the next gate reads a literal.
-fn note_reader(lit: Lit, place: u32, spans: &mut Items<Span>)
+fn note_reader(lit: Lit, place: u32, spans: &mut Items<GateSpan>)
     requires signal { signal_of lit < length spans.old }
     requires place { place < 4_294_967_295 }
     ensures { Widens place (signal_of lit) spans.old spans.new }
@@ -100,7 +100,7 @@ fn note_reader(lit: Lit, place: u32, spans: &mut Items<Span>)
     let start = spans[signal].start.min(place);
     spans.set(
         signal,
-        Span {
+        GateSpan {
             start,
             end: place + 1,
         },

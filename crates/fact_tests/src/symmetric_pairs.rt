@@ -6,7 +6,7 @@ ghost use Rattle.claim_core.specs.Rows.{ListsPairs, ListsSupport};
 ghost use Rattle.fact_tests.specs.Exchanges.{AreClasses, IsPlace, Sorts, both_by, sym_by};
 ghost use Rattle.fact_tests.specs.Outputs.{IsOutput, IsSymmetry, MayAsk, arity, function, input_at, pair_of};
 
-use crate::exchange_classes::{Class, ExchangeClasses, OtherInputs, Place, sort};
+use crate::exchange_classes::{Class, ClassPlace, ExchangeClasses, OtherInputs, sort};
 use crate::first_output::FirstOutput;
 use claim_core::{Sym, Unate};
 use cnf_core::Stop;
@@ -91,7 +91,7 @@ fn note(
 }
 
 /// In which ways two inputs may be exchanged, by where they belong: None where they may not.
-fn sym_of(classes: &[Class], one: Place, other: Place) -> Option<Sym>
+fn sym_of(classes: &[Class], one: ClassPlace, other: ClassPlace) -> Option<Sym>
     requires there { one.class < length classes.now }
     ensures { (n : ℕ) (f : List Bool → Bool) (end i j : ℕ)
         → AreClasses n f end classes.now

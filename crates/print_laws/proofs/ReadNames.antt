@@ -1,5 +1,5 @@
 -- A symbol's line can hold each name that a file gives a port, but for a carriage return at its end.
-use Rattle.std.proofs.Common.{◌≡◌, ◌≢◌, ◌⊎◌, ℕ, zero, suc, ◌+◌, ◌-◌, ◌<◌, ◌≤◌, ◌^◌, ◌==◌, Bool, true, false, cond, List, [], ◌∷◌, ◌++◌, length, get_or, set, take, drop, map, All, inl, inr, if◌then◌else◌, refl, sym, ap, subst, ◌∙◌, arith}
+use Rattle.std.proofs.Common.{◌≡◌, ◌≢◌, ℕ, ◌+◌, ◌-◌, ◌<◌, ◌≤◌, ◌^◌, ◌==◌, Bool, true, false, cond, List, [], ◌∷◌, ◌++◌, length, get_or, set, take, drop, map, All, inl, inr, if◌then◌else◌, refl, sym, ap, subst, ◌∙◌, arith}
 use Rattle.std.specs.Fmt.{decimal}
 use Rattle.std.specs.List.{before_first, onto_first, position_or_len, slice_split}
 use Rattle.std.proofs.lemmas.Bool.{eq-eqb, false≢true}
@@ -17,7 +17,7 @@ use Rattle.text_core.proofs.LineLemmas.{lines-each}
 use Rattle.aiger_reader.specs.Aiger.{IsAiger}
 use Rattle.aiger_reader.specs.Symbols.{ArePortNames, Entry, GiveNames, GivesName, IsNameOf, NamesPort, Port, letter_of, port_at, symbol_lines}
 use Rattle.aiger_reader.proofs.LimitLemmas.{accepted_limits}
-use Rattle.aiger_reader.proofs.OneSymbols.{port_or_not}
+use Rattle.aiger_reader.proofs.OneSymbols.{named_or_not}
 use Rattle.blif_reader.specs.Blif.{IsBlif, blif_lines}
 use Rattle.blif_reader.specs.Directives.{directive_of}
 use Rattle.blif_reader.specs.JoinedLines.{content, ends_with_backslash, goes_on, has_words, is_comment_sign, joined, line_words, lines_at, onto_next, placed, without_backslash}
@@ -111,21 +111,9 @@ give_good inputs outputs (line ∷ all) before entries on_lines good is =
     give_good inputs outputs all (before ++ is.0) entries (All-tail IsLine line all on_lines)
     (All-append IsGoodEntry before is.0 good (gives_good line is.0 (All-head IsLine line all on_lines) is.1)) is.4
 
--- an entry names the port, or none does
-named_or_none : (entries : List Entry) (port : Port) → ((k : ℕ) × (k < length entries) × ((d : Entry) → (get_or entries k d).0 ≡ port)) ⊎ All (λ entry. entry.0 ≢ port) entries
-named_or_none [] port = inr (All-nil (λ (entry : Entry). entry.0 ≢ port))
-named_or_none (entry ∷ entries) port =
-    elim (port_or_not entry.0 port) [
-      | inl e ↦ inl (zero, omega arith, λ d. e)
-      | inr apart ↦ elim (named_or_none entries port) [
-        | inl (k, there, named) ↦ inl (suc k, omega (arith, there), named)
-        | inr none ↦ inr (All-cons (λ (e : Entry). e.0 ≢ port) entry entries apart none)
-      ]
-    ]
-
 name_good : (entries : List Entry) (port : Port) (name : List ℕ) → All IsGoodEntry entries → port.position < 2 ^ 64 → IsNameOf entries port name → IsNameOnLine name
 name_good entries port name all few is =
-    elim (named_or_none entries port) [
+    elim (named_or_not entries port) [
       | inl (k, there, named) ↦ let d : Entry = (port, []) in subst IsNameOnLine (sym (is.given k there d (named d))) (all k d there)
       | inr none ↦ subst IsNameOnLine (sym (is.unnamed none)) (
         λ e. cc,
