@@ -18,3 +18,4 @@ pub mod RunLemmas
 pub mod BoundLemmas
 pub mod OrderLemmas
 pub mod PursuitLemmas
+pub mod BackLevelLemmas

@@ -1,6 +1,6 @@
 -- What is learned from a conflict, and how far an analysis has come (Marques-Silva and Sakallah, GRASP, 1999).
 use Rattle.std.specs.Prelude.{◌≡◌, ℕ, ◌<◌, ◌≤◌, ◌==◌, ◌&&◌, Bool, true, false, List, [], length, map, take, filter, reverse, replicate, All, Contains, None}
-use Rattle.std.specs.Prelude.{count_by, if◌then◌else◌, ◌⊎◌}
+use Rattle.std.specs.Prelude.{count_by, if◌then◌else◌, nat_lt, ◌⊎◌}
 use Rattle.circuits.specs.Literals.{bit}
 use Rattle.cnf_core.specs.declared.literal.SatLit.{SatLit}
 use Rattle.cnf_core.specs.declared.effect.Effect.TheVariants.{Neither}
@@ -62,6 +62,11 @@ pub record CanAnalyse (clauses : List (List SatLit)) (trail : Trailing) (marked 
 -- whether an entry's variable is marked
 abbrev pub is_marked : List Bool → Assigned → Bool
 is_marked marked entry = bit marked (variable_of entry.literal)
+
+-- whether the literal at a place is marked and of a lower level than the present one
+abbrev pub is_lower : Trailing → List Bool → ℕ → Bool
+is_lower trail marked place =
+    is_marked marked (entry_at trail.entries place) && nat_lt (entry_at trail.entries place).level trail.level
 
 -- how many of the first n literals are marked and of the present level
 abbrev pub here_in : Trailing → List Bool → ℕ → ℕ

@@ -8,7 +8,7 @@ ghost use Rattle.trail_core.specs.Trails.{IsPlace, IsTrail, entry_at};
 ghost use Rattle.watch_lists.specs.Propagations.{IsSound};
 ghost use Rattle.learn_solver.specs.Analyses.{AreBefore, AreMarked, AreOnTrail, CanAnalyse, HasPlace, IsAnalysis};
 ghost use Rattle.learn_solver.specs.Analyses.{IsBackLevel, IsLearned, IsMinimized, IsReducing, StayFrom, StayMarked};
-ghost use Rattle.learn_solver.specs.Analyses.{here_in, kept_literals, kept_here};
+ghost use Rattle.learn_solver.specs.Analyses.{here_in, is_lower, kept_literals, kept_here};
 
 use cnf_core::{ClauseStore, SatLit};
 use items::Items;
@@ -363,19 +363,30 @@ fn negated(
     Ok(clause)
 }
 
-// The greatest level below the present one among the marked literals before a place.
+// The greatest level below the present one among the marked literals before a place: that of the last one of them,
+// since levels ascend.
 fn back_level(trail: &Trail, marked: &[bool], below: u64) -> u64
     requires trail { IsTrail trail.now }
     requires size { length marked.now ≡ trail.now.variables }
     requires within { below ≤ length trail.now.entries }
     ensures { IsBackLevel trail.now marked.now below result }
 {
-    let mut level = 0;
-    for place in 0..below {
-        let found = trail.level_at(place);
-        if marked[trail.lit_at(place).variable() as usize] & (found < trail.level()) {
-            level = level.max(found);
+    let mut place = below;
+    while place > 0 {
+        place -= 1;
+        if is_lower(trail, marked, place) {
+            return trail.level_at(place);
         }
     }
-    level
+    0
+}
+
+// Whether the literal at a place is marked and of a lower level than the present one.
+fn is_lower(trail: &Trail, marked: &[bool], place: u64) -> bool
+    requires trail { IsTrail trail.now }
+    requires size { length marked.now ≡ trail.now.variables }
+    requires within { place < length trail.now.entries }
+    ensures { result ≡ is_lower trail.now marked.now place }
+{
+    marked[trail.lit_at(place).variable() as usize] & (trail.level_at(place) < trail.level())
 }

@@ -18,10 +18,15 @@ pub(crate) struct Focus {
     /// decided, and nothing is to be known of them: of a divider of 12 bits a question has 3,000, and gates as many.
     pub(crate) is_spread: bool,
     /// The gates of the question, each after its operands.
-    pub(crate) gates: Vec<Operands>,
+    gates: Vec<Operands>,
+    /// The number of the gate that each variable is of, and 1 more; 0 where it is of none.
+    gate_numbers: Vec<usize>,
     /// The last turn in which each variable was one of those from which the literals are computed.
     turns: Vec<u64>,
     turn: u64,
+    /// The variables from which the literals are computed, each once: the first `cone_len` of these.
+    cone: Vec<u64>,
+    cone_len: usize,
     /// What is decided before all other variables. All are gone over at each decision, since they are few.
     leading: Vec<SatLit>,
 }
@@ -34,8 +39,11 @@ impl Drop for Focus {
             exhausted: _exhausted,
             is_spread: _is_spread,
             gates: _gates,
+            gate_numbers: _gate_numbers,
             turns: _turns,
             turn: _turn,
+            cone: _cone,
+            cone_len: _cone_len,
             leading: _leading,
         } = self;
     }
@@ -49,8 +57,11 @@ impl Focus {
             exhausted: false,
             is_spread: true,
             gates: Vec::new(alloc),
+            gate_numbers: vec![in alloc; 0; variables]?,
             turns: vec![in alloc; 0; variables]?,
             turn: 0,
+            cone: vec![in alloc; 0; variables]?,
+            cone_len: 0,
             leading: Vec::new(alloc),
         })
     }
@@ -83,15 +94,65 @@ impl Focus {
         self.is_spread = false;
     }
 
-    /// Marks all from which the candidate's literals are computed, if there is one.
+    /// What the search is after may be over these gates, each of which stands after its operands.
+    pub(crate) fn heed(&mut self, gates: Vec<Operands>) {
+        for (number, gate) in gates.iter().enumerate() {
+            set(&mut self.gate_numbers, gate.gate, number.saturating_add(1));
+        }
+        self.gates = gates;
+    }
+
+    /// Finds the candidate's cone, if there is a candidate. It costs by that cone.
     pub(crate) fn spread(&mut self) {
         self.is_spread = true;
+        self.cone_len = 0;
         if let Some(candidate) = self.candidate {
             self.turn = self.turn.saturating_add(1);
-            mark(&mut self.turns, self.turn, candidate.one.variable());
-            mark(&mut self.turns, self.turn, candidate.other.variable());
-            mark_operands(&self.gates, &mut self.turns, self.turn);
+            self.include(candidate.one.variable());
+            self.include(candidate.other.variable());
+            self.close_cone();
         }
+    }
+
+    // Takes a variable into the cone, unless it is there.
+    fn include(&mut self, variable: u64) {
+        if is_marked(&self.turns, self.turn, variable) {
+            return;
+        }
+        mark(&mut self.turns, self.turn, variable);
+        self.cone_len = put(&mut self.cone, self.cone_len, variable);
+    }
+
+    // Takes the operands of what is in the cone into it, and theirs.
+    fn close_cone(&mut self) {
+        for place in 0..self.cone.len() {
+            let Some(variable) = self.cone_at(place) else {
+                return;
+            };
+            self.include_operands(variable);
+        }
+    }
+
+    // Takes the operands of the gate that a variable is of into the cone, if it is of one.
+    fn include_operands(&mut self, variable: u64) {
+        if let Some(gate) = self.gate_of(variable) {
+            self.include(gate.first);
+            self.include(gate.second);
+        }
+    }
+
+    fn gate_of(&self, variable: u64) -> Option<Operands> {
+        let number = self.gate_numbers.get(variable as usize)?.checked_sub(1)?;
+        self.gates.get(number).copied()
+    }
+
+    fn cone_at(&self, place: usize) -> Option<u64> {
+        self.cone().get(place).copied()
+    }
+
+    /// The candidate's cone.
+    pub(crate) fn cone(&self) -> &[u64] {
+        front(&self.cone, self.cone_len)
     }
 
     /// Whether a variable is to be decided: all are for the whole question, and for a candidate those from which its
@@ -101,13 +162,26 @@ impl Focus {
     }
 }
 
-// Marks the operands of marked gates, from the last gate on.
-fn mark_operands(gates: &[Operands], turns: &mut Vec<u64>, turn: u64) {
-    for gate in gates.iter().rev() {
-        if is_marked(turns, turn, gate.gate) {
-            mark(turns, turn, gate.first);
-            mark(turns, turn, gate.second);
-        }
+// The first n of these.
+fn front(variables: &[u64], count: usize) -> &[u64] {
+    if count > variables.len() {
+        return variables;
+    }
+    &variables[..count]
+}
+
+// Puts a variable at a place, and says which is the next. Where there is no such place nothing is put.
+fn put(variables: &mut Vec<u64>, place: usize, variable: u64) -> usize {
+    if place >= variables.len() {
+        return place;
+    }
+    variables[place] = variable;
+    place + 1
+}
+
+fn set(numbers: &mut Vec<usize>, variable: u64, number: usize) {
+    if variable < numbers.len() as u64 {
+        numbers[variable as usize] = number;
     }
 }
 

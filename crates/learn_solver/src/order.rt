@@ -62,7 +62,6 @@ impl Order {
         occurring: &[u64],
         focus: &Focus,
     ) -> Result<Order, AllocError>
-        requires { All (λ v. v < variables) occurring.now }
         ensures { IfOk result (IsOrder variables) }
     {
         let mut order = Order {
@@ -80,24 +79,25 @@ impl Order {
     /// the one with the greater number comes first: where they are those of gates in order, the one next to the
     /// outputs, by which adders take a tenth to a fifth fewer lines than by the inputs.
     pub(crate) fn turn_to(&mut self, variables: &[u64], focus: &Focus)
-        requires order { IsOrder (length self.old.heap) self.old }
-        requires known { All (λ v. v < length self.old.heap) variables.now }
+        requires { IsOrder (length self.old.heap) self.old }
         ensures { IsOrder (length self.old.heap) self.new }
     {
         self.heap.clear();
         for variable in variables.iter().rev() {
-            self.hold(*variable as usize, focus);
+            self.hold(*variable, focus);
         }
     }
 
-    // A variable is to be decided, if a focus has it.
-    fn hold(&mut self, variable: usize, focus: &Focus)
-        requires order { IsOrder (length self.old.heap) self.old }
-        requires known { variable < length self.old.heap }
+    // A variable is to be decided, if it is one and a focus has it.
+    fn hold(&mut self, variable: u64, focus: &Focus)
+        requires { IsOrder (length self.old.heap) self.old }
         ensures { IsOrder (length self.old.heap) self.new }
     {
-        if focus.has(variable as u64) {
-            self.heap.insert(variable);
+        if variable >= self.heap.count() as u64 {
+            return;
+        }
+        if focus.has(variable) {
+            self.heap.insert(variable as usize);
         }
     }
 
@@ -107,8 +107,8 @@ impl Order {
         requires known { variable_of literal < length self.old.heap }
         ensures { IsOrder (length self.old.heap) self.new }
     {
-        let variable = literal.variable() as usize;
-        self.phases[variable] = !literal.is_negated();
+        let variable = literal.variable();
+        self.phases[variable as usize] = !literal.is_negated();
         self.hold(variable, focus);
     }
 

@@ -125,8 +125,7 @@ impl Tools {
 
     // Has those variables in the order that the focus has, if they aren't.
     fn spread(&mut self)
-        requires order { IsOrder (length self.old.order.heap) self.old.order }
-        requires known { All (λ v. v < length self.old.order.heap) self.old.occurring.items }
+        requires { IsOrder (length self.old.order.heap) self.old.order }
         ensures order { IsOrder (length self.old.order.heap) self.new.order }
         ensures same { self.new ≡ record self.old { order = self.new.order; focus = self.new.focus } }
     {
@@ -134,7 +133,11 @@ impl Tools {
             return;
         }
         self.focus.spread();
-        self.order.turn_to(&self.occurring, &self.focus);
+        if self.focus.candidate.is_some() {
+            self.order.turn_to(self.focus.cone(), &self.focus);
+        } else {
+            self.order.turn_to(&self.occurring, &self.focus);
+        }
     }
 
     // The next literal to decide before all others: one of those that lead, or of the candidate that the search is
@@ -208,7 +211,7 @@ impl Search {
         requires { CanTurn self.old }
         ensures { HasTurned self.old self.new }
     {
-        self.tools.focus.gates = gates;
+        self.tools.focus.heed(gates);
     }
 
     /// Turns to a candidate, from level 0 on.

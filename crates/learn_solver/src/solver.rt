@@ -98,7 +98,7 @@ impl<'a, B: Base> Solver<'a, B> {
         requires { All (λ k. k < length (active self.now.formula self.now.ids self.now.lines)) steps.now }
         ensures { IfOk result (λ hints. hints ≡ map (id_at self.now.formula self.now.ids) steps.now) }
     {
-        let mut hints = Items::new(alloc);
+        let mut hints = Items::with_capacity(alloc, steps.len())?;
         for step in steps.iter() {
             hints.push(self.id_of(*step))?;
         }

@@ -9,7 +9,7 @@ use Rattle.std.specs.declared.alloc.Global.{Global}
 use Rattle.cnf_core.specs.Clauses.{variable_of}
 use Rattle.trail_core.specs.declared.assigned.Assigned.{Assigned}
 use Rattle.trail_core.specs.Trails.{IsTrail, IsBack, IsPlace, IsCutAt, Trailing, decisions, entry_at, nothing}
-use Rattle.trail_core.specs.Places.{IsKept, IsUnset, place_at}
+use Rattle.trail_core.specs.Places.{AreValues, IsKept, IsUnset, place_at}
 use Rattle.trail_core.proofs.TrailLemmas.{decisions_more}
 
 -- the literals from a place on have a greater level
@@ -118,12 +118,13 @@ cut_trail t is level kept most cut =
     there k below = get_or-take kept t.entries k nothing below
 
 -- what a trail keeps whose last literals were taken off
-pub kept_cut : (entries new : Vec Assigned Global) (places now : List (Option ℕ)) (old_level walked level kept : ℕ) → IsKept entries places old_level walked → level ≤ old_level → IsCutAt level entries.items kept → IsUnset places now (drop kept entries.items) (length (drop kept entries.items)) → new.items ≡ take kept entries.items → vec_capacity new ≡ vec_capacity entries → IsKept new now level (min walked kept)
-kept_cut entries new places now old_level walked level kept is most cut unset items capacity = record {
+pub kept_cut : (entries new : Vec Assigned Global) (places now : List (Option ℕ)) (values values_now : List (Option Bool)) (old_level walked level kept : ℕ) → IsKept entries places values old_level walked → level ≤ old_level → IsCutAt level entries.items kept → IsUnset places now (drop kept entries.items) (length (drop kept entries.items)) → new.items ≡ take kept entries.items → vec_capacity new ≡ vec_capacity entries → AreValues (length places) (take kept entries.items) values_now → IsKept new now values_now level (min walked kept)
+kept_cut entries new places now values values_now old_level walked level kept is most cut unset items capacity valued = record {
   trail = subst (λ n. IsTrail (record { variables = n; entries = new.items; level = level; walked = min walked kept })) (sym unset.same_length) (subst (λ xs. IsTrail (record { variables = length places; entries = xs; level = level; walked = min walked kept })) (sym items) (cut_trail (record { variables = length places; entries = entries.items; level = old_level; walked = walked }) is.trail level kept most cut));
   filled = subst (λ (xs : List Assigned). (k : ℕ) → k < length xs → place_at now (variable_of (entry_at xs k).literal) ≡ Some k) (sym items) filled;
   told = subst (λ (xs : List Assigned). (v p : ℕ) → v < length now → place_at now v ≡ Some p → IsPlace xs v p) (sym items) told;
   room = omega (arith, unset.same_length, is.room, capacity);
+  valued = subst (λ n. AreValues n new.items values_now) (sym unset.same_length) (subst (λ (xs : List Assigned). AreValues (length places) xs values_now) (sym items) valued);
 }
   where
     there : (k : ℕ) → k < kept → entry_at (take kept entries.items) k ≡ entry_at entries.items k

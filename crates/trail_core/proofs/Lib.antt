@@ -1,3 +1,4 @@
 pub mod TrailLemmas
 pub mod CutLemmas
 pub mod BackLemmas
+pub mod ValueLemmas

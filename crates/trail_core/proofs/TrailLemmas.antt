@@ -2,7 +2,7 @@
 use Rattle.std.proofs.Common.{◌≡◌, ◌≢◌, ℕ, ◌+◌, ◌/◌, ◌<◌, ◌≤◌, cond, eqb, Bool, true, false, List, [], ◌∷◌, ◌++◌, length, map, take, All, Option, None, Some, is_none, slice_index_or, slice_set, Vec, vec_capacity, ◌⊎◌, inl, inr, refl, sym, ◌∙◌, ap, subst, arith}
 use Rattle.std.specs.List.{list_any}
 use Rattle.std.proofs.lemmas.Bool.{cases_eq, false≢true, false_from_ne_true, eq-eqb, eqb-true, ne_eqb}
-use Rattle.std.proofs.lemmas.Bool.Decides.{eqb_tells, leb_tells}
+use Rattle.std.proofs.lemmas.Bool.Decides.{leb_tells}
 use Rattle.std.proofs.lemmas.List.{get_or-map, get_or-set_same, get_or-set_other, get_or_append_left, get_or_at, length-set, length-append, length-map, take-append-le, take_all}
 use Rattle.std.proofs.lemmas.List.Elements.{All-contains, All-from_get_or, All-map}
 use Rattle.std.proofs.lemmas.List.Folds.{list_any_at}
@@ -17,7 +17,7 @@ use Rattle.cnf_core.specs.Derivations.{is_same, is_true, is_false}
 use Rattle.cnf_core.proofs.LiteralLemmas.{same_literal}
 use Rattle.trail_core.specs.declared.assigned.Assigned.{Assigned}
 use Rattle.trail_core.specs.Trails.{IsTrail, IsPlace, IsFree, Trailing, decisions, entry_at, literals, nothing, value_in}
-use Rattle.trail_core.specs.Places.{IsKept, place_at}
+use Rattle.trail_core.specs.Places.{AreValues, IsKept, place_at}
 
 -- a literal that stands on a trail is true
 pub true_at : (es : List Assigned) (j : ℕ) (l : SatLit) → j < length es → (entry_at es j).literal.0 ≡ l.0 → is_true (literals es) l ≡ true
@@ -81,21 +81,6 @@ same_place t is i j hi hj same = elim (cases_eq i j) [
     | inr (found, high) ↦ is.distinct j i high hi (sym same)
   ])
 ]
-
--- the value of a literal whose variable's literal stands at a place
-pub value_at : (t : Trailing) → IsTrail t → (l : SatLit) (p : ℕ) → IsPlace t.entries (variable_of l) p → Some (eqb (entry_at t.entries p).literal.0 l.0) ≡ value_in (literals t.entries) l
-value_at t is l p place =
-    let es = t.entries in
-    let m = (entry_at es p).literal in
-    elim (eqb_tells m.0 l.0) [
-      | inl (found, e) ↦ ap Some found ∙ sym (value_true (literals es) l (true_at es p l place.within e))
-      | inr (found, ne) ↦
-          let falsity = true_at es p (opposite l) place.within (opposites m l place.there ne) in
-          let other : is_true (literals es) l ≡ false = false_from_ne_true (is_true (literals es) l) (λ holds.
-          let there = place_of_true es l holds in
-          ne (ap (λ k. (entry_at es k).literal.0) (same_place t is p there.0 place.within there.1 (place.there ∙ sym (ap (λ n. n / 2) there.2))) ∙ there.2)) in
-          ap Some found ∙ sym (value_false (literals es) l other falsity)
-    ]
 
 -- what is at each place, with one literal more at the end
 at_before : (es : List Assigned) (e : Assigned) (k : ℕ) → k < length es → entry_at (es ++ e ∷ []) k ≡ entry_at es k
@@ -169,9 +154,14 @@ fewer t is l free =
     let more = trail_more t.variables t.entries t.level t.walked e is free.known free.unassigned refl in
     omega (arith, at_most _ more, length-append t.entries (e ∷ []))
 
+-- what a trail keeps, where equal lists stand for the places and the values
+pub kept_as : {entries : Vec Assigned Global} {places now : List (Option ℕ)} {values values_now : List (Option Bool)} {level walked : ℕ} → now ≡ places → values_now ≡ values → IsKept entries places values level walked → IsKept entries now values_now level walked
+kept_as {entries} {places} {now} {values} {values_now} {level} {walked} same values_same is =
+    subst (λ ps. IsKept entries ps values_now level walked) (sym same) (subst (λ vs. IsKept entries places vs level walked) (sym values_same) is)
+
 -- what a trail keeps, with one literal more
-pub kept_more : (entries new : Vec Assigned Global) (places : List (Option ℕ)) (level walked n : ℕ) (e : Assigned) → IsKept entries places level walked → variable_of e.literal < length places → value_in (literals entries.items) e.literal ≡ None → e.level ≡ level + cond (is_none e.reason) 1 0 → n ≡ length entries.items → new.items ≡ entries.items ++ e ∷ [] → vec_capacity new ≡ vec_capacity entries → IsKept new (slice_set places (variable_of e.literal) (Some n)) e.level walked
-kept_more entries new places level walked n e is known free raised counted items capacity =
+pub kept_more : (entries new : Vec Assigned Global) (places : List (Option ℕ)) (values now : List (Option Bool)) (level walked n : ℕ) (e : Assigned) → IsKept entries places values level walked → variable_of e.literal < length places → value_in (literals entries.items) e.literal ≡ None → e.level ≡ level + cond (is_none e.reason) 1 0 → n ≡ length entries.items → new.items ≡ entries.items ++ e ∷ [] → vec_capacity new ≡ vec_capacity entries → AreValues (length places) (entries.items ++ e ∷ []) now → IsKept new (slice_set places (variable_of e.literal) (Some n)) now e.level walked
+kept_more entries new places values now level walked n e is known free raised counted items capacity valued =
     let es = entries.items in
     let v = variable_of e.literal in
     let same = length-set places v (Some n) in
@@ -180,6 +170,7 @@ kept_more entries new places level walked n e is known free raised counted items
       filled = subst (λ (xs : List Assigned). (k : ℕ) → k < length xs → place_at (slice_set places v (Some n)) (variable_of (entry_at xs k).literal) ≡ Some k) (sym items) filled;
       told = subst (λ (xs : List Assigned). (w p : ℕ) → w < length (slice_set places v (Some n)) → place_at (slice_set places v (Some n)) w ≡ Some p → IsPlace xs w p) (sym items) told;
       room = omega (arith, same, is.room, capacity);
+      valued = subst (λ m. AreValues m new.items now) (sym same) (subst (λ (xs : List Assigned). AreValues (length places) xs now) (sym items) valued);
     }
   where
     filled : (k : ℕ) → k < length (entries.items ++ e ∷ []) → place_at (slice_set places (variable_of e.literal) (Some n)) (variable_of (entry_at (entries.items ++ e ∷ []) k).literal) ≡ Some k

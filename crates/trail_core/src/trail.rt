@@ -1,12 +1,12 @@
 //! The trail.
 
-ghost use Rattle.std.specs.Prelude.{◌≡◌, ◌≢◌, ◌+◌, ◌^◌, ◌<◌, ◌≤◌, ◌++◌, ◌∷◌, [], None, Some, IfOk, IfSome, IfNone, All};
+ghost use Rattle.std.specs.Prelude.{◌≡◌, ◌≢◌, ◌+◌, ◌*◌, ◌^◌, ◌<◌, ◌≤◌, ◌++◌, ◌∷◌, [], None, Some, IfOk, IfSome, IfNone, All};
 ghost use Rattle.std.specs.Prelude.{length, take, drop, filter, min, replicate, nat_le, ◌==◌, is_none, if◌then◌else◌};
 ghost use Rattle.std.specs.Prelude.{slice_set, vec_len, vec_capacity};
-ghost use Rattle.cnf_core.specs.Clauses.{variable_of};
+ghost use Rattle.cnf_core.specs.Clauses.{opposite, variable_of};
 ghost use Rattle.trail_core.specs.Trails.{IsTrail, IsPlace, IsFree, IsCutAt, IsBack, entry_at, literals, value_in};
 ghost use Rattle.trail_core.specs.Trails.{with_assigned, with_decision};
-ghost use Rattle.trail_core.specs.Places.{IsUnset};
+ghost use Rattle.trail_core.specs.Places.{AreUnassigned, IsUnset, with_true, without};
 
 use crate::assigned::Assigned;
 use cnf_core::SatLit;
@@ -22,6 +22,8 @@ pub struct Trail {
     entries: Vec<Assigned>,
     /// Where the literal of each variable stands, if it has one.
     places: Vec<Option<usize>>,
+    /// The value of each literal, by its number. It is what a search reads most, and lies close together.
+    values: Vec<Option<bool>>,
     level: u64,
     walked: usize,
 }
@@ -32,6 +34,7 @@ impl Drop for Trail {
         let Trail {
             entries: _entries,
             places: _places,
+            values: _values,
             level: _level,
             walked: _walked,
         } = self;
@@ -52,7 +55,7 @@ impl Model for Trail {
       walked = a.walked;
     } };
 
-    ghost invariant = { λ a. IsKept a.entries a.places.items a.level a.walked };
+    ghost invariant = { λ a. IsKept a.entries a.places.items a.values.items a.level a.walked };
 }
 
 impl Trail {
@@ -61,10 +64,12 @@ impl Trail {
         ensures { IfOk result (λ trail. trail ≡ record { variables = count; entries = []; level = 0; walked = 0 }) }
     {
         let places = no_places(alloc, count as usize)?;
+        let values = no_values(alloc, places.len())?;
         let entries = Vec::with_capacity(alloc, count as usize)?;
         Ok(Trail {
             entries,
             places,
+            values,
             level: 0,
             walked: 0,
         })
@@ -106,6 +111,7 @@ impl Trail {
         ensures most { length self.old.entries < self.old.variables }
     {
         put(&mut self.entries, &mut self.places, entry);
+        make_true(&mut self.values, entry.literal);
         self.level = entry.level;
     }
 
@@ -132,6 +138,7 @@ impl Trail {
     {
         let kept = kept_at(&self.entries, level);
         unset(&mut self.places, &self.entries[kept..]);
+        unassign_all(&mut self.values, &self.entries[kept..]);
         self.entries.truncate(kept);
         self.level = level;
         self.walked = self.walked.min(kept);
@@ -141,8 +148,10 @@ impl Trail {
     pub fn value(&self, lit: SatLit) -> Option<bool>
         ensures { result ≡ value_in (literals self.now.entries) lit }
     {
-        let place = self.place(lit.variable())?;
-        Some(self.entries[place as usize].literal == lit)
+        if lit.0 >= self.values.len() as u64 {
+            return None;
+        }
+        self.values[lit.0 as usize]
     }
 
     /// Where the literal of a variable stands, or None exactly where the variable is unassigned.
@@ -215,6 +224,24 @@ fn no_places(alloc: Global, count: usize) -> Result<Vec<Option<usize>>, AllocErr
     vec![in alloc; None; count]
 }
 
+// No literal of n variables is true or false.
+fn no_values(alloc: Global, count: usize) -> Result<Vec<Option<bool>>, AllocError>
+    requires { count < 2 ^ 63 }
+    ensures { IfOk result (λ values. values.items ≡ replicate (2 * count) None) }
+{
+    vec![in alloc; None; 2 * count]
+}
+
+// Makes a literal true, and its opposite false.
+fn make_true(values: &mut [Option<bool>], literal: SatLit)
+    requires known { literal.0 < length values.old }
+    requires opposite { (opposite literal).0 < length values.old }
+    ensures { values.new ≡ with_true literal values.old }
+{
+    values[literal.0 as usize] = Some(true);
+    values[literal.opposite().0 as usize] = Some(false);
+}
+
 // Adds a literal, for which there is room, at the end.
 fn put(entries: &mut Vec<Assigned>, places: &mut [Option<usize>], entry: Assigned)
     requires known { variable_of entry.literal < length places.old }
@@ -249,4 +276,23 @@ fn unset(places: &mut [Option<usize>], dropped: &[Assigned])
     for entry in dropped.iter() {
         places[entry.literal.variable() as usize] = None;
     }
+}
+
+// Takes the values of literals and of their opposites away.
+fn unassign_all(values: &mut [Option<bool>], dropped: &[Assigned])
+    requires { All (λ entry. 2 * variable_of entry.literal + 1 < length values.old) dropped.now }
+    ensures { AreUnassigned values.old values.new dropped.now (length dropped.now) }
+{
+    for entry in dropped.iter() {
+        unassign(values, entry.literal);
+    }
+}
+
+// Takes the values of a literal and of its opposite away.
+fn unassign(values: &mut [Option<bool>], literal: SatLit)
+    requires { 2 * variable_of literal + 1 < length values.old }
+    ensures { values.new ≡ without literal values.old }
+{
+    values[literal.0 as usize] = None;
+    values[literal.opposite().0 as usize] = None;
 }

@@ -1,10 +1,11 @@
 -- Where a variable is free, there is room; and what the trail keeps.
-use Rattle.std.proofs.Common.{◌≡◌, ℕ, ◌+◌, ◌<◌, cond, is_none, List, length, Option, Some, slice_set, sym, subst, ap, ◌∙◌, arith}
+use Rattle.std.proofs.Common.{◌≡◌, ◌+◌, ◌<◌, cond, is_none, true, false, length, Some, slice_set, sym, subst, ap, ◌∙◌, arith}
 use Rattle.std.proofs.lemmas.List.{length-set}
-use Rattle.cnf_core.specs.Clauses.{variable_of}
+use Rattle.cnf_core.specs.Clauses.{opposite, variable_of}
 use Rattle.trail_core.specs.Trails.{IsFree, Trailing}
-use Rattle.trail_core.specs.Places.{IsKept}
-use Rattle.trail_core.proofs.TrailLemmas.{fewer, kept_more}
+use Rattle.trail_core.specs.Places.{with_true}
+use Rattle.trail_core.proofs.TrailLemmas.{fewer, kept_as, kept_more}
+use Rattle.trail_core.proofs.ValueLemmas.{values_more}
 use Rattle.trail_core.proofs.trail.Trail.push.Goals as goal
 use Rattle.circuits.proofs.Lists.{given_back}
 
@@ -26,8 +27,22 @@ invariant_of-self c =
     let written : c.put.new.places ≡ slice_set old.places.items v there = c.put.ensures.places ∙ ap (λ ps. slice_set ps v there) c.deref_mut.ensures.value in
     let same : length c.put.new.places ≡ length c.deref_mut.result.now = ap length c.put.ensures.places ∙ length-set c.deref_mut.result.now v there in
     let back = given_back old.places.len old.places.items c.deref_mut.result.now c.put.new.places c.deref_mut.ensures.value same (omega (arith, old.places.ok.0)) in
-    let more = kept_more old.entries c.put.new.entries old.places.items old.level old.walked old.entries.len entry c.self.invariant free.known free.unassigned raised (omega (arith, old.entries.ok.0)) c.put.ensures.entries c.put.ensures.capacity in
-    subst (λ (ps : List (Option ℕ)). IsKept c.put.new.entries ps entry.level old.walked) (sym (back ∙ written)) more
+    let values_same : length c.make_true.new.values ≡ length c.deref_mut-2.result.now = ap length c.make_true.ensures ∙ (length-set (slice_set c.deref_mut-2.result.now entry.literal.0 (Some true)) (opposite entry.literal).0 (Some false) ∙ length-set c.deref_mut-2.result.now entry.literal.0 (Some true)) in
+    let values_back = given_back old.values.len old.values.items c.deref_mut-2.result.now c.make_true.new.values c.deref_mut-2.ensures.value values_same (omega (arith, old.values.ok.0)) in
+    let values_written : c.make_true.new.values ≡ with_true entry.literal old.values.items = c.make_true.ensures ∙ ap (with_true entry.literal) c.deref_mut-2.ensures.value in
+    let valued = values_more (length old.places.items) old.entries.items old.values.items entry c.self.invariant.valued free.known free.unassigned in
+    let more = kept_more old.entries c.put.new.entries old.places.items old.values.items (with_true entry.literal old.values.items) old.level old.walked old.entries.len entry c.self.invariant free.known free.unassigned raised (omega (arith, old.entries.ok.0)) c.put.ensures.entries c.put.ensures.capacity valued in
+    kept_as (back ∙ written) (values_back ∙ values_written) more
+
+pub make_true-requires-clause-known : goal.make_true-requires-clause-known
+make_true-requires-clause-known c =
+    let free = subst (λ (t : Trailing). IsFree t c.args.entry.literal) (sym c.self.view_is) c.requires.free in
+    omega (arith, free.known, c.self.invariant.valued.size, ap length c.deref_mut-2.ensures.value)
+
+pub make_true-requires-clause-opposite : goal.make_true-requires-clause-opposite
+make_true-requires-clause-opposite c =
+    let free = subst (λ (t : Trailing). IsFree t c.args.entry.literal) (sym c.self.view_is) c.requires.free in
+    omega (arith, free.known, c.self.invariant.valued.size, ap length c.deref_mut-2.ensures.value)
 
 pub returns-clause-most : goal.returns-clause-most
 returns-clause-most c =
