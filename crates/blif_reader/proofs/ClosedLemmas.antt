@@ -84,7 +84,7 @@ sound_line : (pre : List (List Piece)) (line : List Piece) (rest : List (List Pi
 sound_line pre line rest sound =
     no_fault (line_fault pre line) (sym (found-seam is_faulty pre line rest []) ∙ sound (length pre) [] (omega (arith, length-append pre (line ∷ rest))))
 
-by_tests : (names widths : Bool) (other : Option NetKind) → cond (not names) (Some fault.RowOutside) (cond (not widths) (Some fault.RowWidth) other) ≡ None → widths ≡ true
+pub by_tests : (names widths : Bool) (other : Option NetKind) → cond (not names) (Some fault.RowOutside) (cond (not widths) (Some fault.RowWidth) other) ≡ None → widths ≡ true
 by_tests true true other h = refl
 by_tests true false other h = cc h
 by_tests false widths other h = cc h
@@ -95,20 +95,20 @@ sound_row pre row k h =
     let at_row = ap (λ d. cond (has_line is_end pre) (fault_after_end d) (fault_before_end pre row d)) (sym k) ∙ h in
     by_tests (is_names (directive_of (opening pre))) (has_widths (operand_count (opening pre)) row) _ (not_ended (has_line is_end pre) fault.Directive (row_fault pre row) at_row)
 
-row_kind : (d : Directive) → is_row d ≡ true → d ≡ Row
+pub row_kind : (d : Directive) → is_row d ≡ true → d ≡ Row
 row_kind Row h = refl
 row_kind other h = cc h
 
-opening-row : (pre : List (List Piece)) (row : List Piece) → is_row (directive_of row) ≡ true → opening (pre ++ row ∷ []) ≡ opening pre
+pub opening-row : (pre : List (List Piece)) (row : List Piece) → is_row (directive_of row) ≡ true → opening (pre ++ row ∷ []) ≡ opening pre
 opening-row pre row h = ap opening_of (reversed_push pre row) ∙ (row_more (reverse pre) row h).1
 
-opening-line : (pre : List (List Piece)) (line : List Piece) → is_row (directive_of line) ≡ false → opening (pre ++ line ∷ []) ≡ line
+pub opening-line : (pre : List (List Piece)) (line : List Piece) → is_row (directive_of line) ≡ false → opening (pre ++ line ∷ []) ≡ line
 opening-line pre line h = ap opening_of (reversed_push pre line) ∙ (not_row (reverse pre) line h).1
 
-one_more : (pre : List (List Piece)) (line : List Piece) (rest : List (List Piece)) → NoneIs is_faulty (pre ++ line ∷ rest) → NoneIs is_faulty ((pre ++ line ∷ []) ++ rest)
+pub one_more : (pre : List (List Piece)) (line : List Piece) (rest : List (List Piece)) → NoneIs is_faulty (pre ++ line ∷ rest) → NoneIs is_faulty ((pre ++ line ∷ []) ++ rest)
 one_more pre line rest sound = subst (NoneIs is_faulty) (sym (append_assoc pre (line ∷ []) rest)) sound
 
-abbrev HasWidths : ℕ → List Piece → Type 0
+abbrev pub HasWidths : ℕ → List Piece → Type 0
 HasWidths operands row = has_widths operands row ≡ true
 
 -- the rows after a `.names` line have its widths
@@ -130,11 +130,11 @@ widths_by_test true n (output ∷ []) e h = sym (eqb-true n 0 e)
 widths_by_test false n (literals ∷ output ∷ []) e h = cc h
 widths_by_test t n row e h = cc h
 
-literal_widths : (n : ℕ) (row : List Piece) → HasWidths n row → length (literal_bytes row) ≡ n
+pub literal_widths : (n : ℕ) (row : List Piece) → HasWidths n row → length (literal_bytes row) ≡ n
 literal_widths n row h =
     widths_by_test (n == 0) n row refl ((bytes_eq-Decides (map (λ word. length word.bytes) row) (row_widths n)).0 h)
 
-length-operands : (line : List Piece) → length (operands line) ≡ operand_count line
+pub length-operands : (line : List Piece) → length (operands line) ≡ operand_count line
 length-operands line =
     omega (arith, length-take (operand_count line) (drop 1 line), length-drop 1 line)
 

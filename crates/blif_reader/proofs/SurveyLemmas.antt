@@ -45,7 +45,7 @@ differs-mixed (Some other) byte (row ∷ rows) have = differs-all byte other row
 in_cover : (t u : Bool) (other : Option NetKind) → t ≡ u → cond (not u) (Some fault.RowOutside) other ≡ cond (not t) (Some fault.RowOutside) other
 in_cover t u other h = ap (λ b. cond (not b) (Some fault.RowOutside) other) (sym h)
 
-row_same : (earlier : List (List Piece)) (line : List Piece) (cover : Option OpenCover) → IsOpen earlier cover → fault_by_cover cover line ≡ row_fault earlier line
+pub row_same : (earlier : List (List Piece)) (line : List Piece) (cover : Option OpenCover) → IsOpen earlier cover → fault_by_cover cover line ≡ row_fault earlier line
 row_same earlier line None none =
     in_cover (is_names (directive_of (opening earlier))) false (fault_in_cover (operand_count (opening earlier)) (list_any (differs_from (output_byte line)) (rows_before earlier)) line) none
 row_same earlier line (Some cover) opened =
@@ -116,7 +116,7 @@ opened_names nearest line k =
     let new = not_row nearest line (ap is_row k) in
     (ap (λ l. is_names (directive_of l)) new.1 ∙ ap is_names k, ap operand_count (sym new.1), new.0)
 
-cover_more : (nearest : List (List Piece)) (line : List Piece) (cover : Option OpenCover) (directive : Directive) → directive_of line ≡ directive → IsOpenBy nearest cover → (directive ≡ Row → fault_by_cover cover line ≡ None) → IsOpenBy (line ∷ nearest) (cover_after cover directive line)
+pub cover_more : (nearest : List (List Piece)) (line : List Piece) (cover : Option OpenCover) (directive : Directive) → directive_of line ≡ directive → IsOpenBy nearest cover → (directive ≡ Row → fault_by_cover cover line ≡ None) → IsOpenBy (line ∷ nearest) (cover_after cover directive line)
 cover_more nearest line cover Names k o f = opened_names nearest line k
 cover_more nearest line cover Row k o f = opened_more nearest line cover Row k o (f refl) refl
 cover_more nearest line cover other k o f = closed_as nearest line other k refl refl
@@ -130,7 +130,7 @@ row_known : (survey : Survey) (line : List Piece) (directive : Directive) → fa
 row_known survey line directive h r =
     not_ended survey.ended fault.Directive (fault_by_cover survey.cover line) (ap (fault_of survey line) (sym r) ∙ h)
 
-has_line-push : (is_it : Directive → Bool) (earlier : List (List Piece)) (line : List Piece) → has_line is_it (earlier ++ line ∷ []) ≡ (has_line is_it earlier || is_it (directive_of line))
+pub has_line-push : (is_it : Directive → Bool) (earlier : List (List Piece)) (line : List Piece) → has_line is_it (earlier ++ line ∷ []) ≡ (has_line is_it earlier || is_it (directive_of line))
 has_line-push is_it earlier line =
     list_any-append (λ l. is_it (directive_of l)) earlier (line ∷ []) ∙ ap (λ t. has_line is_it earlier || t) (or-false (is_it (directive_of line)))
 

@@ -6,7 +6,7 @@ use Rattle.std.specs.Str.{bytes_eq}
 use Rattle.text_core.specs.Piece.{Piece}
 use Rattle.blif_reader.specs.JoinedLines.{word_of}
 use Rattle.blif_reader.specs.declared.directive.Directive.{Directive}
-use Rattle.blif_reader.specs.declared.directive.Directive.TheVariants.{Model, Inputs, Outputs, Names, End, Latch, DontCares, PassedOver, Unknown, Row}
+use Rattle.blif_reader.specs.declared.directive.Directive.TheVariants.{Model, Inputs, Outputs, Names, Subckt, End, Latch, DontCares, PassedOver, Unknown, Row}
 
 -- delays, areas and drives, which the BLIF document gives, and three words that other writers use
 abbrev pub passed_over : List (List ℕ)
@@ -29,6 +29,7 @@ from_word word =
     else if bytes_eq word (codes ".inputs") then Inputs
     else if bytes_eq word (codes ".outputs") then Outputs
     else if bytes_eq word (codes ".names") then Names
+    else if bytes_eq word (codes ".subckt") then Subckt
     else if bytes_eq word (codes ".end") then End
     else if bytes_eq word (codes ".latch") then Latch
     else if bytes_eq word (codes ".exdc") then DontCares
@@ -57,9 +58,17 @@ abbrev pub is_names : Directive → Bool
 is_names Names = true
 is_names other = false
 
+abbrev pub is_subckt : Directive → Bool
+is_subckt Subckt = true
+is_subckt other = false
+
 abbrev pub is_end : Directive → Bool
 is_end End = true
 is_end other = false
+
+abbrev pub is_passed_over : Directive → Bool
+is_passed_over PassedOver = true
+is_passed_over other = false
 
 abbrev pub is_row : Directive → Bool
 is_row Row = true

@@ -7,7 +7,7 @@ use Rattle.text_core.specs.Piece.{Piece}
 use Rattle.net_file.specs.declared.fault.NetKind.{NetKind}
 use Rattle.net_file.specs.declared.fault.NetKind.TheVariants as fault
 use Rattle.blif_reader.specs.declared.directive.Directive.{Directive}
-use Rattle.blif_reader.specs.declared.directive.Directive.TheVariants.{Model, Names, Latch, DontCares, Unknown, Row}
+use Rattle.blif_reader.specs.declared.directive.Directive.TheVariants.{Model, Names, Subckt, Latch, DontCares, Unknown, Row}
 use Rattle.blif_reader.specs.declared.survey.Port.{Port}
 use Rattle.blif_reader.specs.JoinedLines.{word_of}
 use Rattle.blif_reader.specs.Directives.{directive_of, is_model, is_inputs, is_outputs, is_end}
@@ -24,6 +24,7 @@ has_line is_it lines = list_any (λ line. is_it (directive_of line)) lines
 abbrev pub fault_by_directive : Bool → Option NetKind → List Piece → Directive → Option NetKind
 fault_by_directive has_model in_row line Model = if has_model then Some fault.SecondModel else None
 fault_by_directive has_model in_row line Names = if length line == 1 then Some fault.Directive else None
+fault_by_directive has_model in_row line Subckt = Some fault.Directive
 fault_by_directive has_model in_row line Latch = Some fault.Latch
 fault_by_directive has_model in_row line DontCares = Some fault.DontCare
 fault_by_directive has_model in_row line Unknown = Some fault.Directive

@@ -241,7 +241,8 @@ impl CoverSoFar {
     }
 }
 
-fn trits_of(alloc: Global, literals: &[u8]) -> Result<Items<Trit>, AllocError>
+/// What the bytes of a row want of their operands.
+pub fn trits_of(alloc: Global, literals: &[u8]) -> Result<Items<Trit>, AllocError>
     ensures { IfOk result (λ trits. trits ≡ map trit_of literals.now) }
 {
     Ok(Items::from_vec(collect_trits(alloc, literals)?))

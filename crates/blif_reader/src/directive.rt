@@ -16,6 +16,8 @@ pub enum Directive {
     Outputs,
     /// `.names`: operands, and the name of a signal that the rows of a cover define by them.
     Names,
+    /// `.subckt`: an instance of a model, with what its ports are bound to.
+    Subckt,
     /// `.end`, after which nothing may stand.
     End,
     /// `.latch`, which is refused.
@@ -32,7 +34,7 @@ pub enum Directive {
 
 impl Directive {
     /// What a line is, by its first word.
-    pub(crate) fn from_word(word: &[u8]) -> Directive
+    pub fn from_word(word: &[u8]) -> Directive
         ensures { result ≡ from_word word.now }
     {
         if word == b".model".as_slice() {
@@ -46,6 +48,9 @@ impl Directive {
         }
         if word == b".names".as_slice() {
             return Directive::Names;
+        }
+        if word == b".subckt".as_slice() {
+            return Directive::Subckt;
         }
         if word == b".end".as_slice() {
             return Directive::End;

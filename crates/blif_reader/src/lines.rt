@@ -7,9 +7,10 @@ ghost use Rattle.blif_reader.specs.Reading.{words_left, lines_left, size_left, T
 
 use text_core::{Cursor, Span, is_blank, next_word};
 
-/// Goes over the joined lines of a file from its front.
+/// Goes over the joined lines of a BLIF file from its front, word by word: `#` begins a comment, and a line that ends
+/// with a backslash goes on on the next one.
 #[derive(Drop)]
-pub(crate) struct JoinedLines<'a> {
+pub struct JoinedLines<'a> {
     /// What is left of the line that is being read, without its comment.
     line: Span<'a>,
     /// Whether that line goes on on the next one.
@@ -20,7 +21,7 @@ pub(crate) struct JoinedLines<'a> {
 
 impl<'a> JoinedLines<'a> {
     /// At the front of a file.
-    pub(crate) fn new(input: &'a [u8]) -> JoinedLines<'a>
+    pub fn new(input: &'a [u8]) -> JoinedLines<'a>
         ensures words { words_left result ≡ [] }
         ensures lines { lines_left result
             ≡ joined (lines_at (record { bytes = input.now; at = 0 })) }
@@ -35,7 +36,17 @@ impl<'a> JoinedLines<'a> {
     }
 
     /// The next word of the joined line that is being read, or None where none is left.
-    pub(crate) fn next_word(&mut self) -> Option<Span<'a>>
+    pub fn next_word(&mut self) -> Option<Span<'a>>
+        ensures word { TakesWord result
+            (words_left self.old)
+            (words_left self.new) }
+        ensures lines { lines_left self.new ≡ lines_left self.old }
+    {
+        self.read_word()
+    }
+
+    // The same, with what is left of the file: where there is no word the line is at its end, and no byte comes back.
+    fn read_word(&mut self) -> Option<Span<'a>>
         ensures word { TakesWord result
             (words_left self.old)
             (words_left self.new) }
@@ -56,7 +67,7 @@ impl<'a> JoinedLines<'a> {
 
     /// The first word of the next joined line that has one, or None where there is no such line.
     /// What is left of the line before is passed over.
-    pub(crate) fn next_line(&mut self) -> Option<Span<'a>>
+    pub fn next_line(&mut self) -> Option<Span<'a>>
         ensures { TakesLine result (lines_left self.old)
             (words_left self.new)
             (lines_left self.new) }
@@ -64,7 +75,7 @@ impl<'a> JoinedLines<'a> {
         self.pass_line();
         while let Some(line) = self.rest.next_line() {
             self.enter(line);
-            if let Some(word) = self.next_word() {
+            if let Some(word) = self.read_word() {
                 return Some(word);
             }
         }

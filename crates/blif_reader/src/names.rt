@@ -17,13 +17,13 @@ use text_core::Span;
 
 /// The names of the ports of both kinds, each kind in the order of the text.
 #[derive(Drop)]
-pub(crate) struct PortNames<'a> {
-    pub(crate) inputs: IndexSet<&'a [u8]>,
-    pub(crate) outputs: IndexSet<&'a [u8]>,
+pub struct PortNames<'a> {
+    pub inputs: IndexSet<&'a [u8]>,
+    pub outputs: IndexSet<&'a [u8]>,
 }
 
 /// Names the ports. The fault is at the first word that names a port of the same kind again.
-pub(crate) fn name_ports<'a>(alloc: Global, ports: &[Port<'a>]) -> Result<PortNames<'a>, NetStop>
+pub fn name_ports<'a>(alloc: Global, ports: &[Port<'a>]) -> Result<PortNames<'a>, NetStop>
     ensures named { IfOk result (λ named.
         AreNamed ports.now (length ports.now) (names_of named.inputs) (names_of named.outputs)) }
     ensures stop { IfErr result (IsStopBy (IsRepeatedPort ports.now)) }
@@ -91,14 +91,14 @@ pub(crate) fn add_defined<'a>(
 }
 
 /// Adds a name at the end, where it isn't there already. Says whether it was added.
-fn add_name<'a>(names: &mut IndexSet<&'a [u8]>, name: &'a [u8]) -> Result<bool, AllocError>
+pub fn add_name<'a>(names: &mut IndexSet<&'a [u8]>, name: &'a [u8]) -> Result<bool, AllocError>
     ensures { IfOk result (λ added. IsAdded name.now added (names_of names.old) (names_of names.new)) }
 {
     Ok(names.insert(name)?)
 }
 
 /// The place of a name, counted from 0; None where it isn't there.
-pub(crate) fn find_name(names: &IndexSet<&[u8]>, name: &[u8]) -> Option<usize>
+pub fn find_name(names: &IndexSet<&[u8]>, name: &[u8]) -> Option<usize>
     ensures { MatchOption result (list_any (bytes_eq name.now) (names_of names.now) ≡ false)
         (λ place. (list_any (bytes_eq name.now) (names_of names.now) ≡ true)
         × (place ≡ position_or_len (bytes_eq name.now) (names_of names.now))

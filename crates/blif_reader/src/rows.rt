@@ -15,25 +15,25 @@ use text_core::Span;
 
 /// What is known of the cover that the last `.names` line opened.
 #[derive(Clone, Copy)]
-pub(crate) struct OpenCover {
+pub struct OpenCover {
     /// How many operands it has.
-    pub(crate) operands: usize,
+    pub operands: usize,
     /// The byte for the output that its rows have so far, if there are any.
-    pub(crate) output: Option<u8>,
+    pub output: Option<u8>,
 }
 
 /// The words of a row.
 #[derive(Drop)]
-pub(crate) struct RowWords<'a> {
+pub struct RowWords<'a> {
     /// A byte for each operand; None where the word for the output stands alone.
-    pub(crate) literals: Option<Span<'a>>,
+    pub literals: Option<Span<'a>>,
     /// A byte for the output.
-    pub(crate) output: Span<'a>,
+    pub output: Span<'a>,
 }
 
 /// The words of a row, of which `first` is the first. None where there are more than two, which no cover wants; so a
 /// long line takes no memory.
-pub(crate) fn words_of_row<'a>(first: Span<'a>, lines: &mut JoinedLines<'a>) -> Option<RowWords<'a>>
+pub fn words_of_row<'a>(first: Span<'a>, lines: &mut JoinedLines<'a>) -> Option<RowWords<'a>>
     ensures row { MatchOption result
         (2 < 1 + length (words_left lines.old))
         (λ row. first.entry ∷ words_left lines.old ≡ words_in_row row) }
@@ -56,7 +56,7 @@ pub(crate) fn words_of_row<'a>(first: Span<'a>, lines: &mut JoinedLines<'a>) -> 
 
 impl OpenCover {
     /// The byte for the output, where nothing is wrong with a row of the cover.
-    pub(crate) fn check_row(self, row: &RowWords<'_>) -> Result<u8, NetKind>
+    pub fn check_row(self, row: &RowWords<'_>) -> Result<u8, NetKind>
         ensures good { IfOk result (λ byte. (fault_by_cover (Some self) (words_in_row row.now) ≡ None)
             × (byte ≡ output_byte (words_in_row row.now))) }
         ensures fault { IfErr result (λ kind. fault_by_cover (Some self) (words_in_row row.now) ≡ Some kind) }

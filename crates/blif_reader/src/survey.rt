@@ -21,9 +21,9 @@ use text_core::Span;
 
 /// A word that names a port.
 #[derive(Drop)]
-pub(crate) struct Port<'a> {
-    pub(crate) kind: PortKind,
-    pub(crate) word: Span<'a>,
+pub struct Port<'a> {
+    pub kind: PortKind,
+    pub word: Span<'a>,
 }
 
 /// What is known of the lines that were read.
@@ -90,6 +90,8 @@ impl<'a> Survey<'a> {
                 self.pass_over();
                 Ok(())
             }
+            // Instances are for whoever reads several models.
+            Directive::Subckt => Err(fault_at(at, NetKind::Directive)),
             Directive::Latch => Err(fault_at(at, NetKind::Latch)),
             Directive::DontCares => Err(fault_at(at, NetKind::DontCare)),
             Directive::Unknown => Err(fault_at(at, NetKind::Directive)),
@@ -206,8 +208,11 @@ impl<'a> Survey<'a> {
     }
 }
 
-// The words that are left of a line.
-fn take_words<'a>(alloc: Global, lines: &mut JoinedLines<'a>) -> Result<Vec<Span<'a>>, AllocError>
+/// The words that are left of a line.
+pub fn take_words<'a>(
+    alloc: Global,
+    lines: &mut JoinedLines<'a>,
+) -> Result<Vec<Span<'a>>, AllocError>
     ensures words { IfOk result (λ words. words.items ≡ words_left lines.old) }
     ensures lines { OnOk result (lines_left lines.new ≡ lines_left lines.old) }
 {

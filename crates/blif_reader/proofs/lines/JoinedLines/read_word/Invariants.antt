@@ -1,5 +1,5 @@
 use Rattle.blif_reader.specs.Reading.{IsAsLeft, size_left}
-use Rattle.blif_reader.proofs.lines.JoinedLines.next_word.Given as goal
+use Rattle.blif_reader.proofs.lines.JoinedLines.read_word.Given as goal
 
 abbrev pub invariant-lines : goal.invariant-lines
 invariant-lines l =

@@ -2,7 +2,7 @@ use Rattle.std.proofs.Common.{◌≡◌, [], sym, ◌∙◌, arith}
 use Rattle.blif_reader.specs.JoinedLines.{words_at}
 use Rattle.blif_reader.proofs.PlacedLemmas.{words_at-no_first, words_at-empty}
 use Rattle.blif_reader.proofs.ReadingLemmas.{word_taken, nothing_left, same_left}
-use Rattle.blif_reader.proofs.lines.JoinedLines.next_word.Goals as goal
+use Rattle.blif_reader.proofs.lines.JoinedLines.read_word.Goals as goal
 
 pub returns-in-Some-clause-word : goal.returns-in-Some-clause-word
 returns-in-Some-clause-word c =
