@@ -1,6 +1,8 @@
 -- What was asked in a run, and the budget of learned lines.
-use Rattle.std.specs.Prelude.{◌≡◌, ℕ, ◌+◌, ◌-◌, ◌≤◌, ◌==◌, Bool, true, List, [], ◌∷◌, ◌++◌, length, take, All, nat_lt, sum_by, slice_index_or, slice_set}
+use Rattle.std.specs.Prelude.{◌≡◌, ℕ, ◌+◌, ◌-◌, ◌^◌, ◌<◌, ◌≤◌, ◌==◌, Bool, true, List, [], ◌∷◌, ◌++◌, length, take, drop, All, nat_lt, sum_by, slice_index_or}
+use Rattle.std.specs.Prelude.{slice_set}
 use Rattle.std.specs.Prelude.{if◌then◌else◌}
+use Rattle.std.specs.List.{flat_map}
 use Rattle.cnf_core.specs.declared.log.LogLine.{LogLine}
 use Rattle.cnf_core.specs.declared.stop.Stop.{Stop}
 use Rattle.cnf_core.specs.declared.stop.Stop.TheVariants.{Spent, Memory}
@@ -9,6 +11,7 @@ use Rattle.net_core.specs.declared.graphs.Side.TheVariants.{First}
 use Rattle.claim_core.specs.declared.query.Cone.{Cone}
 use Rattle.claim_core.specs.declared.query.Query.{Query}
 use Rattle.query_core.specs.declared.ledger.Asked.{Asked}
+use Rattle.line_codec.specs.LineBytes.{IsOfWords, lines_bytes}
 
 -- The budget, what was asked in order, and whether the last line was refused.
 pub record Ledgered : Type 0 where
@@ -36,6 +39,14 @@ with_lines lines asked = slice_set asked (length asked - 1) (record (last_asked 
 -- the last entry has one line more
 abbrev pub with_line : LogLine → List Asked → List Asked
 with_line line asked = with_lines ((last_asked asked).lines ++ line ∷ []) asked
+
+-- the lines that were charged for an entry, after its lemmas
+abbrev pub charged_of : Asked → List LogLine
+charged_of entry = drop entry.lemmas entry.lines
+
+-- those of all entries, one entry's after the other's
+abbrev pub charged_lines : List Asked → List LogLine
+charged_lines asked = flat_map charged_of asked
 
 -- how many lines were learned for an entry
 abbrev pub charged_in : Asked → ℕ
@@ -86,8 +97,16 @@ abbrev pub IsRefused : Ledgered → LogLine → Ledgered → Stop → Type 0
 IsRefused old line new (Spent learned) = IsSpent old line new learned
 IsRefused old line new Memory = new ≡ old
 
--- What each ledger keeps: how many lines were learned, which is within the budget.
-pub record IsLedger (ledger : Ledgered) (learned : ℕ) : Type 0 where
+-- What each ledger keeps: how many lines were learned, which is within the budget, and the bytes of those that were charged.
+pub record IsLedger (ledger : Ledgered) (learned : ℕ) (bytes : List ℕ) : Type 0 where
   pub counted : learned + one_if ledger.spent ≡ sum_by charged_in ledger.asked
   pub within : learned ≤ ledger.budget
   pub lemmas : All (λ entry. entry.lemmas ≤ length entry.lines) ledger.asked
+  pub coded : bytes ≡ lines_bytes (charged_lines ledger.asked)
+  pub words : All IsOfWords (charged_lines ledger.asked)
+
+-- These lines are left of those whose bytes are read, after some.
+pub record AreLeft (lines : List LogLine) (bytes : List ℕ) (read : ℕ) : Type 0 where
+  pub coded : bytes ≡ lines_bytes lines
+  pub words : All IsOfWords lines
+  pub few : read + length bytes < 2 ^ 64

@@ -2,6 +2,7 @@ pub mod Ledgers
 pub mod Reaching
 pub mod Variables
 pub mod ClaimClauses
+pub use Rattle.line_codec.specs.LineBytes
 pub use Rattle.cnf_core.specs.Clauses
 pub use Rattle.cnf_core.specs.Derivations
 pub use Rattle.net_core.specs.Sides

@@ -2,13 +2,18 @@
 
 ghost use Rattle.std.specs.Prelude.{◌≡◌, ◌+◌, ◌-◌, ◌<◌, ◌≤◌, [], ◌∷◌, ◌++◌, false, IfOk, IfErr, OnOk, OnErr, All};
 ghost use Rattle.std.specs.Prelude.{length, vec_len, vec_capacity};
-ghost use Rattle.query_core.specs.Ledgers.{IsRefused, charged_front, entry_of, last_asked, learned_in, opened};
+ghost use Rattle.query_core.specs.Ledgers.{IsRefused, charged_front, charged_lines, entry_of, last_asked, learned_in};
+ghost use Rattle.query_core.specs.Ledgers.{opened};
 ghost use Rattle.query_core.specs.Ledgers.{with_line};
+ghost use Rattle.text_core.specs.Extends.{Extends};
+ghost use Rattle.line_codec.specs.LineBytes.{IsOfWords, line_bytes};
 
 use crate::asked_query::AskedQuery;
+use crate::charged::ChargedLines;
 use crate::lines::Lines;
 use claim_core::Query;
 use cnf_core::{Charge, LogLine, Stop};
+use line_codec::put_line;
 use std::alloc::{AllocError, Global};
 use std::marker::Model;
 
@@ -24,12 +29,18 @@ pub struct Asked {
 
 /// Everything that was asked in a run, in order, with every line that was learned. A learned line costs one unit of the
 /// budget. The line that is met with the budget spent is kept as the last one, and isn't counted.
+///
+/// The lines that were charged, the refused one among them, can be read ([`charged_lines`](Ledger::charged_lines)): each
+/// stands once, in one arena. Lemmas have no bytes: there may be millions, each for nothing; those of joint hashing can
+/// be made again, and the others are charged lines of earlier entries, derived there by other hints.
 #[derive(Debug)]
 pub struct Ledger {
     budget: u64,
     asked: Vec<Asked>,
     learned: u64,
     spent: bool,
+    /// The bytes of the lines that were charged.
+    arena: Vec<u8>,
 }
 
 impl Model for Ledger {
@@ -40,7 +51,7 @@ impl Model for Ledger {
     ghost view = { λ a. record { budget = a.budget; asked = a.asked.items; spent = a.spent } };
 
     ghost invariant = { λ a.
-        IsLedger (record { budget = a.budget; asked = a.asked.items; spent = a.spent }) a.learned };
+        IsLedger (record { budget = a.budget; asked = a.asked.items; spent = a.spent }) a.learned a.arena.items };
 }
 
 // By hand: a derived drop is expanded, field by field, wherever a value ends, and makes proofs long.
@@ -51,6 +62,7 @@ impl Drop for Ledger {
             asked: _asked,
             learned: _learned,
             spent: _spent,
+            arena: _arena,
         } = self;
     }
 }
@@ -65,6 +77,7 @@ impl Ledger {
             asked: Vec::new(alloc),
             learned: 0,
             spent: false,
+            arena: Vec::new(alloc),
         }
     }
 
@@ -101,7 +114,7 @@ impl Ledger {
             ≡ record self.old { asked = with_line line.now self.old.asked }) }
         ensures refused { IfErr result (IsRefused self.old line.now self.new) }
     {
-        push_last(&mut self.asked, line)?;
+        push_learned(&mut self.asked, &mut self.arena, line)?;
         if self.learned == self.budget {
             self.spent = true;
             return Err(Stop::Spent(self.learned));
@@ -138,6 +151,14 @@ impl Ledger {
         ensures lemmas { All (λ entry. entry.lemmas ≤ length entry.lines) self.now.asked }
     {
         self.asked.as_slice()
+    }
+
+    /// Goes over the lines that were charged, those of one entry after those of the entry before it; a refused one is
+    /// the last. Of each entry there are as many as it has lines after its lemmas. Hints may name a lemma by its number.
+    pub fn charged_lines(&self) -> ChargedLines<'_>
+        ensures { result ≡ charged_lines self.now.asked }
+    {
+        ChargedLines::new(self.arena.as_slice(), self.asked.as_slice())
     }
 }
 
@@ -178,6 +199,40 @@ fn drop_uncharged(asked: &mut Vec<Asked>)
     if last.lines.len() as u64 == last.lemmas {
         let _ = asked.pop();
     }
+}
+
+// Adds a line to the last entry, and its bytes. A refusal changes nothing.
+fn push_learned(asked: &mut Vec<Asked>, arena: &mut Vec<u8>, line: &LogLine) -> Result<(), Stop>
+    requires { 0 < length asked.old.items }
+    ensures pushed { OnOk result (asked.new.items ≡ with_line line.now asked.old.items) }
+    ensures coded { OnOk result (arena.new.items ≡ arena.old.items ++ line_bytes line.now) }
+    ensures words { OnOk result (IsOfWords line.now) }
+    ensures refused { OnErr result (asked.new.items ≡ asked.old.items) }
+    ensures arena { OnErr result (arena.new.items ≡ arena.old.items) }
+    ensures stop { IfErr result (λ stop. stop ≡ Stop.Memory) }
+{
+    let before = arena.len();
+    match push_both(asked, arena, line) {
+        Ok(()) => Ok(()),
+        Err(stop) => {
+            arena.truncate(before);
+            Err(stop)
+        }
+    }
+}
+
+// The same, but a refusal may leave a part of the bytes.
+fn push_both(asked: &mut Vec<Asked>, arena: &mut Vec<u8>, line: &LogLine) -> Result<(), Stop>
+    requires { 0 < length asked.old.items }
+    ensures pushed { OnOk result (asked.new.items ≡ with_line line.now asked.old.items) }
+    ensures coded { OnOk result (arena.new.items ≡ arena.old.items ++ line_bytes line.now) }
+    ensures words { OnOk result (IsOfWords line.now) }
+    ensures refused { OnErr result (asked.new.items ≡ asked.old.items) }
+    ensures kept { Extends arena.old.items arena.new.items }
+    ensures stop { IfErr result (λ stop. stop ≡ Stop.Memory) }
+{
+    put_line(line, arena)?;
+    push_last(asked, line)
 }
 
 // Adds a line to the last entry. A refusal changes nothing.

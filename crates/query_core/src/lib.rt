@@ -4,6 +4,7 @@
 
 mod asked_query;
 mod base;
+mod charged;
 mod claim_base;
 mod clauses;
 mod cone_clauses;
@@ -15,6 +16,7 @@ mod variables;
 
 pub use asked_query::AskedQuery;
 pub use base::QueryBase;
+pub use charged::ChargedLines;
 pub use claim_base::ClaimBase;
 pub use claim_core::{Claim, Cone, Feed, Feeds, Query, Shape, image, of_claim, of_match, pair_of};
 pub use clauses::count_of;

@@ -7,7 +7,7 @@ use std::marker::Model;
 use std::snapshot::Snapshot;
 
 /// The lines of a question. Contracts see it as the list of the lines; when the program runs it is how many there are,
-/// since a snapshot has no bytes. Nothing reads the lines of a question again: whoever derives them has them.
+/// since a snapshot has no bytes. Those that were charged can be read from the ledger's arena.
 pub struct Lines {
     inside: Vec<Snapshot<LogLine>>,
 }

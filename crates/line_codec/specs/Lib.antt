@@ -1,0 +1,2 @@
+pub mod LineBytes
+pub use Rattle.text_core.specs.Extends
