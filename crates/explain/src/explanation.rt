@@ -9,11 +9,12 @@ use crate::faults::FileFault;
 use crate::malformed::{put_malformed, put_unread};
 use crate::meanings::meaning_of_line;
 use crate::notice::FORMS;
-use crate::spending::{put_enough_of_one, put_enough_of_two};
+use crate::spending::{put_enough_of_one, put_enough_of_two, put_lines};
 use crate::word_fault::fault_of_words;
 use account_check::Why;
 use check_steps::{Command, Outcome, ReadStop, Which, command_asked};
 use net_file::NetFault;
+use query_core::Ledger;
 use refusal_words::{TerminalText, put_refusal, seek_in};
 use shelf_core::Shelf;
 use std::alloc::Global;
@@ -102,7 +103,7 @@ fn put_explanation<S: Shelf>(
         Outcome::Rejected { line, why } => { put_rejected(alloc, told, *line, *why, shelf, text) }
         Outcome::Matched(_) => put_matched(told.words, text),
         Outcome::NoMatching => put_no_matching(alloc, told, shelf, text),
-        Outcome::Spent(ledger) => put_spent(alloc, told, ledger.budget(), shelf, text),
+        Outcome::Spent(ledger) => put_spent(alloc, told, ledger, shelf, text),
         _ => Ok(()),
     }
 }
@@ -225,21 +226,18 @@ fn put_no_matching<S: Shelf>(
     }
 }
 
-/// Says that a budget was spent, and what budget is enough for the circuits.
+/// Says that a budget was spent, on lines of which lengths, and what budget is enough for the circuits.
 fn put_spent<S: Shelf>(
     alloc: Global,
     told: &EndedRun<'_>,
-    budget: u64,
+    ledger: &Ledger,
     shelf: &mut S,
     text: &mut String,
 ) -> Result<(), ReadStop>
     requires { (S.state shelf.old).mode ≡ Closed }
     ensures { SameFiles (S.state shelf.old) (S.state shelf.new) }
 {
-    writeln!(
-        text,
-        "npnp: the budget of {budget} learned clauses was spent"
-    )?;
+    put_lines(alloc, ledger, text)?;
     match command_asked(told.words) {
         Some(Command::Match(asked)) if told.readable => {
             put_enough_of_two(alloc, &asked, shelf, text)

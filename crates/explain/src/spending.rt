@@ -1,4 +1,4 @@
-//! What budget is enough for circuits.
+//! What a budget was spent on, and what budget is enough for circuits.
 
 ghost use Rattle.std.specs.Prelude.{◌≡◌};
 ghost use Rattle.refusal_words.specs.Files.{SameFiles};
@@ -6,10 +6,90 @@ ghost use Rattle.shelf_core.specs.State.{Closed};
 
 use check_steps::{Info, Match, ReadStop, Which};
 use net_core::Graphs;
+use query_core::{ChargedLines, Ledger};
 use refusal_words::netlist_again;
 use shelf_core::Shelf;
-use std::alloc::Global;
+use std::alloc::{AllocError, Global};
 use work_bound::{enough, tens_enough};
+
+/// How many lines have how many literals.
+#[derive(Clone, Copy)]
+struct Lengths {
+    none: u64,
+    one: u64,
+    two: u64,
+    /// Up to four.
+    few: u64,
+    /// Up to eight.
+    some: u64,
+    more: u64,
+}
+
+impl Lengths {
+    /// No lines.
+    fn new() -> Lengths {
+        Lengths {
+            none: 0,
+            one: 0,
+            two: 0,
+            few: 0,
+            some: 0,
+            more: 0,
+        }
+    }
+
+    fn add(&mut self, literals: usize) {
+        match literals {
+            0 => self.none = self.none.saturating_add(1),
+            1 => self.one = self.one.saturating_add(1),
+            2 => self.two = self.two.saturating_add(1),
+            3 | 4 => self.few = self.few.saturating_add(1),
+            5..=8 => self.some = self.some.saturating_add(1),
+            _ => self.more = self.more.saturating_add(1),
+        }
+    }
+}
+
+/// Says that a budget was spent, and how many literals the lines have that were charged, the refused one among them.
+pub(crate) fn put_lines(alloc: Global, ledger: &Ledger, text: &mut String) -> Result<(), ReadStop> {
+    let budget = ledger.budget();
+    writeln!(
+        text,
+        "npnp: the budget of {budget} learned clauses was spent"
+    )?;
+    let mut lines = ledger.charged_lines();
+    let lengths = lengths_of(alloc, ledger.learned().saturating_add(1), &mut lines)?;
+    put_lengths(&lengths, text)
+}
+
+/// How many literals up to so many of the lines have that are left.
+fn lengths_of(
+    alloc: Global,
+    count: u64,
+    lines: &mut ChargedLines<'_>,
+) -> Result<Lengths, AllocError> {
+    let mut lengths = Lengths::new();
+    for _line in 0..count {
+        let Some(line) = lines.next_line(alloc)? else {
+            return Ok(lengths);
+        };
+        lengths.add(line.clause.len());
+    }
+    Ok(lengths)
+}
+
+fn put_lengths(lengths: &Lengths, text: &mut String) -> Result<(), ReadStop> {
+    write!(
+        text,
+        "npnp: lines by how many literals they have, with the refused one: {} of 0, {} of 1, {} of 2",
+        lengths.none, lengths.one, lengths.two
+    )?;
+    Ok(writeln!(
+        text,
+        ", {} of 3 or 4, {} of 5 to 8, {} of more",
+        lengths.few, lengths.some, lengths.more
+    )?)
+}
 
 /// Says what budget is enough for a match of two netlists.
 pub(crate) fn put_enough_of_two<S: Shelf>(

@@ -237,17 +237,17 @@ static SPENT: [(&[&str], [&[u8]; 2], &str); 3] = [
     (
         &["info", "A", "0"],
         [AND, EMPTY],
-        "npnp: the budget of 0 learned clauses was spent\nnpnp: 174960 are enough for these circuits\n",
+        "npnp: the budget of 0 learned clauses was spent\nnpnp: lines by how many literals they have, with the refused one: 1 of 0, 0 of 1, 0 of 2, 0 of 3 or 4, 0 of 5 to 8, 0 of more\nnpnp: 174960 are enough for these circuits\n",
     ),
     (
         &["match", "A", "B", "t", "0"],
         [A, B],
-        "npnp: the budget of 0 learned clauses was spent\nnpnp: 629856 are enough for these circuits\n",
+        "npnp: the budget of 0 learned clauses was spent\nnpnp: lines by how many literals they have, with the refused one: 1 of 0, 0 of 1, 0 of 2, 0 of 3 or 4, 0 of 5 to 8, 0 of more\nnpnp: 629856 are enough for these circuits\n",
     ),
     (
         &["match", "A", "B", "t", "0"],
         [C17, C17_MOVED],
-        "npnp: the budget of 0 learned clauses was spent\nnpnp: 10^23 are known to be enough for these circuits; fewer are likely to be\n",
+        "npnp: the budget of 0 learned clauses was spent\nnpnp: lines by how many literals they have, with the refused one: 1 of 0, 0 of 1, 0 of 2, 0 of 3 or 4, 0 of 5 to 8, 0 of more\nnpnp: 10^23 are known to be enough for these circuits; fewer are likely to be\n",
     ),
 ];
 

@@ -3,14 +3,16 @@
 ghost use Rattle.std.specs.Prelude.{◌≡◌, ◌<◌, All, IsTrue, false, length};
 ghost use Rattle.claim_core.specs.Queries.{IsCone, IsQuery, IsWired};
 
-use crate::refutation::is_refutation;
+use crate::refutation::{count_taken, is_refutation, takes_lines};
 use crate::truth_tables::outputs;
 use ask_core::{Answer, ask};
 use cnf_core::Stop;
 use items::Items;
+use joint_hash::merge;
 use net_core::{Graphs, Side};
-use query_core::{Cone, Feed, Feeds, Ledger, Query, QueryBase};
+use query_core::{Cone, ConeClauses, Feed, Feeds, Ledger, Query, QueryBase};
 use rand_pcg::Pcg32;
+use refute_check::Refuter;
 use samples::{GraphPair, drawn};
 use std::alloc::{AllocError, Global};
 use std::test::Fail;
@@ -277,6 +279,44 @@ fn unate_outcome(alloc: Global, budget: u64) -> Result<Outcome, Fail> {
 #[test]
 fn polarity_takes_one_line(rt: HostRuntime) -> Result<(), Fail> {
     assert_eq!(rt; unate_outcome(rt.alloc(), 1)?, Outcome::Refuted(1));
+    Ok(())
+}
+
+/// How many lines an entry has after the lemmas of joint hashing, where a refuter takes all of them.
+fn charged_for(
+    alloc: Global,
+    graphs: &Graphs<'_>,
+    query: &Query,
+    ledger: &Ledger,
+) -> Result<Option<u64>, AllocError>
+    requires { IsQuery graphs.now query.now }
+{
+    let cones = ConeClauses::new(alloc, graphs, query)?;
+    let lemmas = merge(alloc, &cones)?;
+    let mut refuter = Refuter::new(alloc, QueryBase::new(alloc, graphs, query)?)?;
+    if !takes_lines(&mut refuter, &lemmas)? {
+        return Ok(None);
+    }
+    let mut lines = ledger.charged_lines();
+    count_taken(alloc, &mut refuter, &mut lines)
+}
+
+fn unate_lines(alloc: Global, budget: u64) -> Result<Option<u64>, Fail> {
+    let both = GraphPair::new(alloc, 9, (&UNATE, 41), (&[], 0))?;
+    let query = falls(alloc, 9)?;
+    let graphs = both.graphs();
+    let mut ledger = Ledger::new(alloc, budget);
+    if !is_query(&graphs, &query) {
+        return Ok(None);
+    }
+    let _ = outcome_in(alloc, &graphs, &query, &mut ledger)?;
+    Ok(charged_for(alloc, &graphs, &query, &ledger)?)
+}
+
+#[test]
+fn lines_stand_after_lemmas(rt: HostRuntime) -> Result<(), Fail> {
+    assert_eq!(rt; unate_lines(rt.alloc(), 0)?, Some(1));
+    assert_eq!(rt; unate_lines(rt.alloc(), 1)?, Some(1));
     Ok(())
 }
 

@@ -1,6 +1,7 @@
 //! Logs that are taken line by line.
 
 use cnf_core::{Base, Log, LogLine};
+use query_core::ChargedLines;
 use refute_check::Refuter;
 use std::alloc::{AllocError, Global};
 
@@ -31,15 +32,40 @@ pub fn takes_all<B: Base + Drop>(
     takes_lines(&mut refuter, lines)
 }
 
-fn takes_lines<B: Base + Drop>(
+pub fn takes_lines<B: Base + Drop>(
     refuter: &mut Refuter<B>,
     lines: &[LogLine],
 ) -> Result<bool, AllocError> {
     for line in lines.iter() {
-        refuter.reserve(line.clause.len())?;
-        if refuter.line(line).is_err() {
+        if !takes_line(refuter, line)? {
             return Ok(false);
         }
     }
     Ok(true)
+}
+
+/// How many lines are left, where a refuter takes each of them and there are fewer than a thousand.
+pub fn count_taken<B: Base + Drop>(
+    alloc: Global,
+    refuter: &mut Refuter<B>,
+    lines: &mut ChargedLines<'_>,
+) -> Result<Option<u64>, AllocError> {
+    for taken in 0..1_000 {
+        let Some(line) = lines.next_line(alloc)? else {
+            return Ok(Some(taken));
+        };
+        if !takes_line(refuter, &line)? {
+            return Ok(None);
+        }
+    }
+    Ok(None)
+}
+
+/// Whether a refuter takes a line.
+fn takes_line<B: Base + Drop>(
+    refuter: &mut Refuter<B>,
+    line: &LogLine,
+) -> Result<bool, AllocError> {
+    refuter.reserve(line.clause.len())?;
+    Ok(refuter.line(line).is_ok())
 }

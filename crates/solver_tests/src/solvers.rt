@@ -3,13 +3,14 @@
 ghost use Rattle.std.specs.Prelude.{◌≡◌, ◌%◌, ◌<◌, ◌∷◌, [], ℕ, true, false, All, IfOk, length, map};
 ghost use Rattle.query_core.specs.Ledgers.{charging_of};
 
-use crate::refutation::is_refutation;
+use crate::refutation::{count_taken, is_refutation};
 use cnf_core::{Base, Clause3, SatLit, Stop};
 use learn_solver::{Solver, Verdict, solve};
 use net_core::Side;
 use query_core::{Cone, Feeds, Ledger, Query};
 use rand_core::utils::NextWord;
 use rand_pcg::Pcg32;
+use refute_check::Refuter;
 use std::alloc::{AllocError, Global};
 use std::test::Fail;
 
@@ -157,6 +158,20 @@ fn outcome_of(
     searched(alloc, clauses, &ids, &mut ledger)
 }
 
+/// How many lines a search is charged, where a refuter takes each of them as the ledger gives it.
+fn charged_in(
+    alloc: Global,
+    clauses: &[(u64, u64, u64)],
+    budget: u64,
+) -> Result<Option<u64>, AllocError> {
+    let ids = numbers(alloc, clauses.len())?;
+    let mut ledger = opened(alloc, budget)?;
+    let _ = searched(alloc, clauses, &ids, &mut ledger)?;
+    let mut refuter = Refuter::new(alloc, Triples { clauses })?;
+    let mut lines = ledger.charged_lines();
+    count_taken(alloc, &mut refuter, &mut lines)
+}
+
 /// Three pigeons sit in two holes, no two in one (Cook's formulas). Pigeon i sits in hole h where variable 3i + h is
 /// true.
 static THREE_PIGEONS: [(u64, u64, u64); 9] = [
@@ -228,6 +243,19 @@ fn answers_small_formulas(rt: HostRuntime) -> Result<(), Fail> {
     for (clauses, budget, wanted) in rows {
         assert_eq!(rt; outcome_of(rt.alloc(), clauses, budget)?, wanted);
     }
+    Ok(())
+}
+
+#[test]
+fn gives_charged_lines_back(rt: HostRuntime) -> Result<(), Fail> {
+    // the refused line is one of them
+    for budget in 0..4 {
+        assert_eq!(rt;
+            charged_in(rt.alloc(), &FOUR_PIGEONS, budget)?,
+            Some(budget + 1)
+        );
+    }
+    assert!(rt; charged_in(rt.alloc(), &THREE_PIGEONS, 99)?.is_some());
     Ok(())
 }
 
