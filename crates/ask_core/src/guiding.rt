@@ -26,15 +26,12 @@ impl<'a> QuestionGuide for GatePairs<'a> {
         agenda_of(alloc, self.base, self.ids)
     }
 
-    fn done_with(&mut self, candidate: Candidate, lines: u64) -> Result<(), AllocError> {
-        let _ = (candidate, lines);
+    fn done_with(&mut self, _candidate: Candidate, _lines: u64) -> Result<(), AllocError> {
         Ok(())
     }
 
     // The tab tells of each line.
-    fn learned(&mut self, lines: u64) {
-        let _ = lines;
-    }
+    fn learned(&mut self, _lines: u64) {}
 }
 
 /// What a search is to look at first. Where the cones of a query have few inputs, these are decided first, and nothing
