@@ -11,9 +11,9 @@ use net_core::Side;
 use std::alloc::{AllocError, Global};
 use std::marker::Model;
 
-/// A claim that was decided: it holds, or it fails.
+/// A fact that was given: a claim, and whether it holds.
 #[derive(Clone, Copy, Debug, Drop)]
-pub(crate) struct DecidedClaim {
+pub(crate) struct GivenFact {
     pub(crate) claim: Claim,
     pub(crate) holds: bool,
 }
@@ -21,7 +21,7 @@ pub(crate) struct DecidedClaim {
 /// The facts, and the pairs of the bans, each numbered from 0 in its own order.
 #[derive(Drop)]
 pub struct Given {
-    facts: Items<DecidedClaim>,
+    facts: Items<GivenFact>,
     bans: Items<Few<Pair, 8>>,
 }
 
@@ -61,12 +61,12 @@ impl Given {
     }
 
     /// The fact of a number; where there is none, one that says nothing of use.
-    pub(crate) fn fact(&self, number: u64) -> DecidedClaim
+    pub(crate) fn fact(&self, number: u64) -> GivenFact
         ensures claim { result.claim ≡ (fact_at self.now number).claim }
         ensures holds { result.holds ≡ (fact_at self.now number).holds }
     {
         if number >= self.facts.len() as u64 {
-            return DecidedClaim {
+            return GivenFact {
                 claim: Claim {
                     side: Side::First,
                     output: 0,
@@ -97,7 +97,7 @@ impl Given {
         ensures added { OnOk result (self.new ≡ with_fact self.old claim holds) }
         ensures unchanged { OnErr result (self.new ≡ self.old) }
     {
-        self.facts.push(DecidedClaim { claim, holds })?;
+        self.facts.push(GivenFact { claim, holds })?;
         Ok(())
     }
 
