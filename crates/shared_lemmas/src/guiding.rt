@@ -65,8 +65,7 @@ impl<'a, W: Watch> QuestionGuide for QuestionPairs<'a, W> {
         agenda_of(alloc, self.base, self.ids)
     }
 
-    fn done_with(&mut self, candidate: Candidate, lines: u64) -> Result<(), AllocError> {
-        let _ = candidate;
+    fn done_with(&mut self, _candidate: Candidate, lines: u64) -> Result<(), AllocError> {
         self.reporter.tell(lines);
         Ok(())
     }

@@ -74,9 +74,7 @@ impl<'a> Decide for AllVectors<'a> {
     }
 
     /// Nobody watches.
-    fn at(&self, stage: Stage) {
-        let _ = stage;
-    }
+    fn at(&self, _stage: Stage) {}
 }
 
 /// A vector that meets a query, or else a log that refutes it, each line of which is charged.
