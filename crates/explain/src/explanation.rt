@@ -5,7 +5,7 @@ ghost use Rattle.refusal_words.specs.Files.{SameFiles};
 ghost use Rattle.shelf_core.specs.State.{Closed};
 
 use crate::account_lines::LineSearch;
-use crate::faults::FileFault;
+use crate::faults::FailedFile;
 use crate::malformed::{put_malformed, put_unread};
 use crate::meanings::meaning_of_line;
 use crate::notice::FORMS;
@@ -27,7 +27,7 @@ pub struct EndedRun<'a> {
     /// How the run ended.
     pub outcome: &'a Outcome,
     /// The file that failed, where one did.
-    pub fault: Option<FileFault<'a>>,
+    pub fault: Option<FailedFile<'a>>,
     /// Whether the files of `files_read_again` may be read once more: a pipe gives its bytes only once.
     pub readable: bool,
 }
@@ -146,7 +146,7 @@ fn put_file(
 
 /// Says which file failed, and why, or what failed where it wasn't a file.
 fn put_fault(
-    fault: Option<FileFault<'_>>,
+    fault: Option<FailedFile<'_>>,
     otherwise: &str,
     text: &mut String,
 ) -> Result<(), ReadStop> {

@@ -5,16 +5,16 @@ use std::fmt;
 
 /// A file of which a call failed.
 #[derive(Clone, Copy, Debug)]
-pub struct FileFault<'a> {
+pub struct FailedFile<'a> {
     pub name: &'a str,
     /// Why, in the system's words.
     pub reason: &'a str,
 }
 
 /// As `NAME: reason`.
-impl fmt::Display for FileFault<'_> {
+impl fmt::Display for FailedFile<'_> {
     fn fmt<W: fmt::Write>(&self, f: &mut fmt::Formatter<W>) -> fmt::Result {
-        let FileFault { name, reason } = self;
+        let FailedFile { name, reason } = self;
         write!(
             f,
             "{}: {}",

@@ -17,7 +17,7 @@ mod version;
 mod word_fault;
 
 pub use explanation::{EndedRun, explain, files_read_again};
-pub use faults::FileFault;
+pub use faults::FailedFile;
 pub use folder::{FolderFault, Warning, folder_of, written_names};
 pub use notice::Notice;
 pub use word_fault::{Slot, WordFault, fault_of_words};

@@ -2,7 +2,7 @@
 
 use crate::asked::is_asked;
 use crate::folders::warn;
-use explain::{EndedRun, FileFault, explain, files_read_again};
+use explain::{EndedRun, FailedFile, explain, files_read_again};
 use npnp::outcome::Outcome;
 use shelf_core::{DiskShelf, FileError};
 use std::rt::{Files, Runtime};
@@ -54,7 +54,7 @@ impl People {
         error: FileError<'_>,
     ) -> io::Result<()> {
         let reason = format!(in self.rt.alloc(); "{error}")?;
-        let fault = FileFault {
+        let fault = FailedFile {
             name: error.name,
             reason: reason.as_str(),
         };
@@ -65,7 +65,7 @@ impl People {
         &self,
         words: &[String],
         outcome: &Outcome,
-        fault: Option<FileFault<'_>>,
+        fault: Option<FailedFile<'_>>,
     ) -> io::Result<()> {
         let told = EndedRun {
             words,

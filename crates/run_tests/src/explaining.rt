@@ -6,7 +6,7 @@ ghost use Rattle.shelf_core.specs.State.{Closed};
 use crate::files::{A, AND, B, C17, C17_MOVED, EMPTY, TABLE, THREE, TWO, XOR};
 use crate::runs::{CHECK, MATCH, files_of, words_of};
 use explain::{
-    EndedRun, FileFault, FolderFault, Notice, Warning, explain, fault_of_words, folder_of,
+    EndedRun, FailedFile, FolderFault, Notice, Warning, explain, fault_of_words, folder_of,
 };
 use npnp::outcome::Outcome;
 use npnp::run::run;
@@ -23,7 +23,7 @@ fn told_over<S: Shelf>(
     alloc: Global,
     words: &[&str],
     outcome: &Outcome,
-    fault: Option<FileFault<'_>>,
+    fault: Option<FailedFile<'_>>,
     shelf: &mut S,
 ) -> Result<String, AllocError>
     requires { (S.state shelf.old).mode ≡ Closed }
@@ -345,7 +345,7 @@ fn expect_fault(rt: &impl Abort, alloc: Global, words: &[&str], text: &str) -> R
 #[test]
 fn tells_which_file_failed(rt: HostRuntime) -> Result<(), Fail> {
     let mut shelf = SafeShelf::new(rt.alloc(), Vec::new(rt.alloc()), 16)?;
-    let fault = FileFault {
+    let fault = FailedFile {
         name: "a\nb",
         reason: "permission denied",
     };
