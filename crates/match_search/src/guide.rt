@@ -4,7 +4,7 @@ ghost use Rattle.std.specs.Prelude.{◌<◌, IfSome};
 
 use crate::compared::ComparedPairs;
 use crate::reads::{Reads, by_count};
-use crate::room::Room;
+use crate::room::BanRoom;
 use crate::rounds::Rounds;
 use crate::weights::Weights;
 use account_core::{Ban, PairableGraphs};
@@ -24,7 +24,7 @@ pub struct Guide {
     pub(crate) reads: Reads,
     pub(crate) weights: Weights,
     pub(crate) rounds: Rounds,
-    room: Room,
+    room: BanRoom,
     /// The outputs of the first circuit whose tallies are made at first, in that order, and how many have been.
     order: Vec<u32>,
     tallied: usize,
@@ -55,7 +55,7 @@ impl Guide {
             reads,
             weights,
             rounds: Rounds::new(),
-            room: Room::new(),
+            room: BanRoom::new(),
             order,
             tallied: 0,
             asked: 0,
@@ -87,7 +87,7 @@ impl Guide {
     /// Notes that the search begins anew, with no pair assigned and no ban, so that no output has its tallies. What was
     /// learned of the ports, as their weights, stays.
     pub fn begin_anew(&mut self) {
-        self.room = Room::new();
+        self.room = BanRoom::new();
         self.tallied = 0;
         self.decided = None;
         self.urgent = None;

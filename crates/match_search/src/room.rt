@@ -14,17 +14,17 @@ const REFERENCE: u64 = 16;
 
 /// How much memory the bans of a search take, some of a book's, which come one after the other.
 #[derive(Drop)]
-pub(crate) struct Room {
+pub(crate) struct BanRoom {
     /// How many bytes, about.
     taken: u64,
     /// How many of the book's bans were counted.
     counted: usize,
 }
 
-impl Room {
+impl BanRoom {
     /// That of no bans.
-    pub(crate) fn new() -> Room {
-        Room {
+    pub(crate) fn new() -> BanRoom {
+        BanRoom {
             taken: 0,
             counted: 0,
         }
