@@ -52,7 +52,5 @@ impl Sink for SafeSink {
 
 impl Watch for SafeSink {
     /// Nobody watches.
-    fn at(&self, stage: Stage) {
-        let _ = stage;
-    }
+    fn at(&self, _stage: Stage) {}
 }

@@ -12,7 +12,5 @@ pub trait Watch: Drop {
 pub struct Silent;
 
 impl Watch for Silent {
-    fn at(&self, stage: Stage) {
-        let _ = stage;
-    }
+    fn at(&self, _stage: Stage) {}
 }
