@@ -119,7 +119,12 @@ fn is_out(trail: &Trail, literal: SatLit, other: SatLit) -> bool
 fn is_false(trail: &Trail, literal: SatLit) -> bool
     ensures { result ≡ is_false (literals trail.now.entries) literal }
 {
-    matches!(trail.value(literal.opposite()), Some(true))
+    // tells that no literal is both true and false
+    let _level = trail.level();
+    match trail.value(literal) {
+        Some(value) => !value,
+        None => false,
+    }
 }
 
 /// How a clause can be attached.
