@@ -2,7 +2,9 @@
 
 use account_core::Tallied;
 use net_core::Graph;
-use port_cells::{Counts, Draws, FlipSim, Influence, Lanes, Tally, all_lanes, blocks_of_all};
+use port_cells::{
+    Counter, Counts, Draws, FlipSim, Influence, Lanes, all_lanes, blocks_of_all,
+};
 use std::alloc::{AllocError, Global};
 
 /// How many words of gates may be computed of a circuit: about a tenth of a second. On half and on twice as many five
@@ -126,7 +128,7 @@ fn mark_input(row: &mut [Flips], input: u32) {
 
 // Counts on all vectors where these are few, else on drawn ones.
 fn counted(alloc: Global, simulator: &mut FlipSim<'_>, seed: u64) -> Result<Counts, AllocError> {
-    let mut tally = Tally::new(alloc, simulator)?;
+    let mut counter = Counter::new(alloc, simulator)?;
     let mut draws = Draws::new(seed);
     let all = blocks_of_all(simulator.graph().inputs());
     let most = (MOST_WORDS / simulator.words_of_flips().max(1)).clamp(LEAST_BLOCKS, MOST_BLOCKS);
@@ -134,9 +136,9 @@ fn counted(alloc: Global, simulator: &mut FlipSim<'_>, seed: u64) -> Result<Coun
     for block in 0..blocks {
         put_block(simulator, block, blocks == all, &mut draws);
         simulator.run();
-        tally.add(simulator);
+        counter.add(simulator);
     }
-    tally.counts(alloc)
+    counter.counts(alloc)
 }
 
 /// Gives the inputs a block of all vectors, or a drawn one.
