@@ -2,9 +2,7 @@
 
 use account_core::Tallied;
 use net_core::Graph;
-use port_cells::{
-    Counter, Counts, Draws, FlipSim, Influence, Lanes, all_lanes, blocks_of_all,
-};
+use port_cells::{Counter, Counts, Draws, FlipSim, Influence, Lanes, all_lanes, blocks_of_all};
 use std::alloc::{AllocError, Global};
 
 /// How many words of gates may be computed of a circuit: about a tenth of a second. On half and on twice as many five
