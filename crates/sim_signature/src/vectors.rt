@@ -86,11 +86,12 @@ fn drawn_block(generator: &mut Pcg32) -> u64x8 {
 }
 
 /// 512 vectors near one, a block of eight words for each input, drawn by a generator. On the first word's vectors each
-/// input is inverted on one of 16, on the second's on one of 32, then on one of 64 and on one of 128, for two words each.
-/// So circuits of a hundred inputs, where few vectors are near with fewer inverted, and those of few inputs, where one of
-/// 128 mostly leaves the vector as it is, both get many. On the last two words, with one of 64 and one of 128, the two
-/// inputs that a gate joins are also inverted together, on one of four: a digit of an adder that hands a carry on does so
-/// still. For vectors on which a carry comes from far are rare, and one of them has each digit in one of its two ways.
+/// input is inverted on one of 16, on the second's on one of 32, then on one of 64 and on one of 128, for two words
+/// each. So circuits of a hundred inputs, where few vectors are near with fewer inverted, and those of few inputs,
+/// where one of 128 mostly leaves the vector as it is, both get many. On the last two words, with one of 64 and one of
+/// 128, the two inputs that a gate joins are also inverted together, on one of four: a digit of an adder that hands a
+/// carry on does so still. For vectors on which a carry comes from far are rare, and one of them has each digit in one
+/// of its two ways.
 ///
 /// # Errors
 ///
