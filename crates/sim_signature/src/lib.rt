@@ -6,6 +6,7 @@ mod claims;
 mod columns;
 mod gates;
 mod hunting;
+mod input_pairs;
 mod lanes;
 mod reading;
 mod sighting;

@@ -113,7 +113,7 @@ impl<'a> Signatures<'a> {
         requires inputs { length vector.now ≡ graph.now.inputs }
         ensures { IfOk result (AreOf graph.now first count) }
     {
-        let inputs = near_vectors(alloc, vector, &mut Pcg32::new(seed, first as u64))?;
+        let inputs = near_vectors(alloc, graph, vector, &mut Pcg32::new(seed, first as u64))?;
         Signatures::on(alloc, graph, first, count, inputs)
     }
 

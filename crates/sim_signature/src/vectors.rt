@@ -3,7 +3,9 @@ ghost use Rattle.circuits.specs.Literals.{vector_of};
 ghost use Rattle.word_sim.specs.Columns.{word_of};
 ghost use Rattle.sim_signature.specs.Blocks.{pattern};
 
+use crate::input_pairs::joining_gates;
 use bit_list::Bits;
+use net_core::Graph;
 use rand_core::Rng;
 use rand_pcg::Pcg32;
 use std::alloc::{AllocError, Global};
@@ -83,24 +85,32 @@ fn drawn_block(generator: &mut Pcg32) -> u64x8 {
     ])
 }
 
-/// 512 vectors near one, a block of eight words for each input, drawn by a generator: of the first 128 each input is
-/// inverted on one of 16, of the others on one of 32, of 64 and of 128. So circuits of a hundred inputs, where few
-/// vectors are near with fewer inverted, and those of few inputs, where one of 128 mostly leaves the vector as it is,
-/// both get many.
+/// 512 vectors near one, a block of eight words for each input, drawn by a generator. On the first word's vectors each
+/// input is inverted on one of 16, on the second's on one of 32, then on one of 64 and on one of 128, for two words
+/// each. So circuits of a hundred inputs, where few vectors are near with fewer inverted, and those of few inputs,
+/// where one of 128 mostly leaves the vector as it is, both get many. On the last two words, with one of 64 and one of
+/// 128, the two inputs that a gate joins are also inverted together, on one of four: a digit of an adder that hands a
+/// carry on does so still. For vectors on which a carry comes from far are rare, and one of them has each digit in one
+/// of its two ways.
 ///
 /// # Errors
 ///
 /// Only when out of memory.
 pub(crate) fn near_vectors(
     alloc: Global,
+    graph: &Graph,
     vector: &Bits,
     generator: &mut Pcg32,
 ) -> Result<Vec<u64x8>, AllocError>
+    requires { length vector.now ≡ graph.now.inputs }
     ensures { IfOk result (λ blocks. length blocks.items ≡ length vector.now) }
 {
+    let joints = joining_gates(alloc, graph)?;
+    let seed = generator.next_u64();
     let mut blocks = Vec::with_capacity(alloc, vector.len())?;
     for place in 0..vector.len() {
-        blocks.push(near_block(vector.get(place), generator))?;
+        let near = near_block(vector.get(place), generator);
+        blocks.push(joined(near, joints[place], seed))?;
     }
     Ok(blocks)
 }
@@ -108,14 +118,33 @@ pub(crate) fn near_vectors(
 fn near_block(bit: bool, generator: &mut Pcg32) -> u64x8 {
     u64x8::from_array([
         near_word(bit, 4, generator),
-        near_word(bit, 4, generator),
-        near_word(bit, 5, generator),
         near_word(bit, 5, generator),
         near_word(bit, 6, generator),
         near_word(bit, 6, generator),
         near_word(bit, 7, generator),
+        near_word(bit, 7, generator),
+        near_word(bit, 6, generator),
         near_word(bit, 7, generator),
     ])
+}
+
+/// The block of an input, inverted where both inputs are that the gate joins: the same is drawn for either of them.
+fn joined(block: u64x8, gate: Option<u32>, seed: u64) -> u64x8 {
+    let Some(gate) = gate else {
+        return block;
+    };
+    let mut generator = Pcg32::new(seed, gate as u64);
+    let inverted = u64x8::from_array([
+        0,
+        0,
+        0,
+        0,
+        0,
+        0,
+        near_word(false, 2, &mut generator),
+        near_word(false, 2, &mut generator),
+    ]);
+    block ^ inverted
 }
 
 /// A bit 64 times, each time inverted with a chance of one in 2^`halvings`.
