@@ -1,0 +1,8 @@
+//! Values as bytes, one after the other: numbers in network byte order, and what is read from the front of bytes.
+#![tactic(auto)]
+
+mod numbers;
+mod reader;
+
+pub use numbers::{put_u32, put_u64};
+pub use reader::ByteReader;
