@@ -5,7 +5,7 @@ use Rattle.std.proofs.lemmas.List.{append_cancel_left, flat_map_more}
 use Rattle.std.proofs.lemmas.List.Elements.{All-head, All-nil, All-push, All-tail}
 use Rattle.byteorder.specs.Numbers.{big_number-reads_back, length-bytes_high_first}
 use Rattle.byteorder.specs.Endian.{big_from}
-use Rattle.byte_form.specs.Codes.{number_bytes, both_bytes, BothFit, list_bytes, ListFits, IsPrefixCode, BeginsWith, BeginsNone}
+use Rattle.byte_form.specs.Codes.{number_bytes, both_bytes, BothFit, list_bytes, ListFits, HasItems, IsPrefixCode, BeginsWith, BeginsNone}
 
 -- numbers of n bytes
 number_one : (n : ℕ) (x y : ℕ) (after other : List ℕ) → x < 256 ^ n → y < 256 ^ n → number_bytes n x ++ after ≡ number_bytes n y ++ other → x ≡ y
@@ -118,11 +118,7 @@ items_none {X} bytes Fits code (i ∷ items) (x ∷ xs) left after fewer all eac
     let rest = same_left bytes Fits code i x (flat_map bytes items ++ left) (flat_map bytes xs ++ after) (All-head Fits i items all) (All-head Fits x xs each) moved in
     items_none bytes Fits code items xs left after (omega (arith, fewer)) (All-tail Fits i items all) (All-tail Fits x xs each) rest h
 
--- of a list's values the first were read, and this is left
-pub record HasItems {X : Type 0} (bytes : X → List ℕ) (Fits : X → Type 0) (text : List ℕ) (items : List X) (left : List ℕ) : Type 0 where
-  pub each : All Fits items
-  pub text_is : text ≡ flat_map bytes items ++ left
-
+-- the first values of a list
 pub no_items : {X : Type 0} (bytes : X → List ℕ) (Fits : X → Type 0) (text : List ℕ) → HasItems bytes Fits text [] text
 no_items {X} bytes Fits text = record { each = All-nil Fits; text_is = refl }
 

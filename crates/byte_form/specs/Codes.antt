@@ -35,3 +35,8 @@ pub record BeginsWith {X : Type 0} (bytes : X → List ℕ) (Fits : X → Type 0
 -- bytes begin with those of no value
 pub record BeginsNone {X : Type 0} (bytes : X → List ℕ) (Fits : X → Type 0) (text : List ℕ) : Type 0 where
   pub none : (x : X) (left : List ℕ) → BeginsWith bytes Fits text x left → ⊥
+
+-- bytes begin with those of these values, one after the other, and these are left
+pub record HasItems {X : Type 0} (bytes : X → List ℕ) (Fits : X → Type 0) (text : List ℕ) (items : List X) (left : List ℕ) : Type 0 where
+  pub each : All Fits items
+  pub text_is : text ≡ flat_map bytes items ++ left
