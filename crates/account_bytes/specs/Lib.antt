@@ -1,0 +1,4 @@
+pub mod Bodies
+pub mod Entries
+pub mod PrefixCodes
+pub mod Reading
