@@ -22,7 +22,8 @@ use Rattle.byte_form.proofs.CodeLemmas.{both_code, code_by, list_code, number_co
 use Rattle.account_bytes.specs.Bodies.{Always, ClaimHasPorts, HasPorts, IsLiteral, IsNumber, IsPort, IsReference, LineFits, ShapeHasPorts}
 use Rattle.account_bytes.specs.Bodies.{bit_byte, bit_bytes, claim_bytes, kind_byte, kind_bytes, line_bytes, literal_bytes, pair_bytes, port_bytes}
 use Rattle.account_bytes.specs.Bodies.{BanFits, StepFits, ban_bytes, cover_tag, step_bytes, step_fields, step_tag, tally_tag}
-use Rattle.account_bytes.specs.Bodies.{reference_bytes, reference_fields, reference_tag, shape_bytes, shape_fields, shape_tag, side_byte, side_bytes, tri_byte, tri_bytes}
+use Rattle.account_bytes.specs.Bodies.{reference_bytes, reference_fields, reference_tag, shape_bytes, shape_fields, shape_tag, side_byte, side_bytes, tri_byte}
+use Rattle.account_bytes.specs.Bodies.{tri_bytes}
 
 abbrev pub byte_bytes : {X : Type 0} → (X → ℕ) → X → List ℕ
 byte_bytes {X} byte x = byte x ∷ []

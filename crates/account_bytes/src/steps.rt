@@ -3,7 +3,8 @@
 ghost use Rattle.std.specs.Prelude.{◌≡◌, ◌++◌, OnOk};
 ghost use Rattle.byte_form.specs.Codes.{ListFits, list_bytes};
 ghost use Rattle.account_bytes.specs.Bodies.{IsPort, IsReference, port_bytes, reference_bytes};
-ghost use Rattle.account_bytes.specs.Bodies.{BanFits, StepFits, ban_bytes, cover_tag, step_bytes, step_fields, step_tag};
+ghost use Rattle.account_bytes.specs.Bodies.{BanFits, StepFits, ban_bytes, cover_tag, step_bytes, step_fields};
+ghost use Rattle.account_bytes.specs.Bodies.{step_tag};
 ghost use Rattle.account_bytes.specs.Bodies.{tally_tag};
 ghost use Rattle.account_bytes.specs.PrefixCodes.{ban_code, step_code};
 ghost use Rattle.account_bytes.specs.Reading.{OfTag, Reads};

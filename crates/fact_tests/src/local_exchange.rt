@@ -22,9 +22,10 @@ const MOST_LEAVES: usize = 6;
 /// exchanges of which nothing is shown in the end, and with fewer more exchanges are asked.
 const MOST_CHANGED: usize = 32;
 
-/// How many gates are gone over for one exchange. Where that isn't enough nothing is shown, and the exchange is asked.
-/// With fewer that is so of inputs whose readers stand farther apart in the netlist; this many take some 65,000 steps at
-/// most, which is little beside a question, and more would be spent on inputs that are far from each other.
+/// How many gates are gone over for one exchange. Where that isn't enough nothing is shown, and the exchange is
+/// asked. With fewer that is so of inputs whose readers stand farther apart in the netlist; this many take some
+/// 65,000 steps at most, which is little beside a question, and more would be spent on inputs that are far from each
+/// other.
 const MOST_GATES: u32 = 1024;
 
 /// A signal's bits where the two inputs have a pair of bits, and where they have the opposite one: a bit for each way

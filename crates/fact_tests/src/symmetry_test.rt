@@ -24,9 +24,10 @@ pub(crate) struct InputExchange {
 }
 
 /// Whether the two inputs may be exchanged. That is so where two swaps hold, claims of both inputs. Neither is asked
-/// where unateness tells the inputs apart, or where the gates near the inputs show the exchange. `start` says which swap
-/// is asked first, by the value of the lesser input; where that swap holds, the other one is asked first from then on:
-/// of a carry one holds for the inputs of lesser digits, and is expensive, and the other one for those of greater digits.
+/// where unateness tells the inputs apart, or where the gates near the inputs show the exchange. `start` says which
+/// swap is asked first, by the value of the lesser input; where that swap holds, the other one is asked first from
+/// then on: of a carry one holds for the inputs of lesser digits, and is expensive, and the other one for those of
+/// greater digits.
 pub(crate) fn are_alike<O: Oracle>(
     output: &FirstOutput<'_>,
     exchange: InputExchange,

@@ -30,9 +30,9 @@ pub struct Asked {
 /// Everything that was asked in a run, in order, with every line that was learned. A learned line costs one unit of the
 /// budget. The line that is met with the budget spent is kept as the last one, and isn't counted.
 ///
-/// The lines that were charged, the refused one among them, can be read ([`charged_lines`](Ledger::charged_lines)): each
-/// stands once, in one arena. Lemmas have no bytes: there may be millions, each for nothing; those of joint hashing can
-/// be made again, and the others are charged lines of earlier entries, derived there by other hints.
+/// The lines that were charged, the refused one among them, can be read ([`charged_lines`](Ledger::charged_lines)):
+/// each stands once, in one arena. Lemmas have no bytes: there may be millions, each for nothing; those of joint
+/// hashing can be made again, and the others are charged lines of earlier entries, derived there by other hints.
 #[derive(Debug)]
 pub struct Ledger {
     budget: u64,
@@ -154,7 +154,8 @@ impl Ledger {
     }
 
     /// Goes over the lines that were charged, those of one entry after those of the entry before it; a refused one is
-    /// the last. Of each entry there are as many as it has lines after its lemmas. Hints may name a lemma by its number.
+    /// the last. Of each entry there are as many as it has lines after its lemmas. Hints may name a lemma by its
+    /// number.
     pub fn charged_lines(&self) -> ChargedLines<'_>
         ensures { result ≡ charged_lines self.now.asked }
     {
