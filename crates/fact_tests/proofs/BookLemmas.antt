@@ -32,6 +32,7 @@ use Rattle.account_core.specs.Facts.{AreFacts, IsEvidence, IsFact}
 use Rattle.oracle_core.specs.declared.oracle.Compared.TheVariants.{Differs}
 use Rattle.oracle_core.specs.Oracles.{Claims, Compares, Grows, IsAnswered, IsDifference, IsNumberOf, IsStopped, Keeps, Known, Serves, Suits}
 use Rattle.oracle_core.proofs.ServeLemmas.{grows_same, keeps_same, served_one, serves_last, serves_ok}
+use Rattle.work_bound.proofs.WorkLemmas.{few_lines_of_work}
 use Rattle.ask_core.specs.declared.question.Answer.{Answer}
 use Rattle.ask_core.specs.declared.question.Answer.TheVariants.{Vector}
 use Rattle.ask_core.specs.Answers.{IsAnswer}
@@ -288,6 +289,7 @@ module _ (known : Known) (query : Query) (before after : Ledgered) (fresh : IsUn
     refused = halted.spent;
     work = asked_work known query before after fresh halted.asked suits;
     keeps = asked_keeps known query before after fresh halted.asked;
+    below = λ many. omega (arith, few_lines_of_work known.graphs after many (asked_work known query before after fresh halted.asked suits), halted.made);
   }
 
   pub serves_halted : {X : Type 0} (stop : Stop) → AreFacts known.graphs known.facts → IsHalted known.graphs query before after stop → Serves {X = X} known known before after (Err stop)

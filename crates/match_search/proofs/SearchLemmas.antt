@@ -1,15 +1,17 @@
 -- The search under way.
-use Rattle.std.proofs.Common.{◌≡◌, List, [], map, Result, Ok, Err, refl, sym, subst, arith}
+use Rattle.std.proofs.Common.{◌≡◌, ℕ, ◌<◌, List, [], map, Result, Ok, Err, IfErr, refl, sym, subst, arith}
 use Rattle.std.specs.Prelude.{IsErrAnd}
 use Rattle.cnf_core.specs.declared.stop.Stop.{Stop}
-use Rattle.cnf_core.specs.declared.stop.Stop.TheVariants.{Memory}
+use Rattle.cnf_core.specs.declared.stop.Stop.TheVariants.{Memory, Spent}
 use Rattle.net_core.specs.Sides.{Graphs}
 use Rattle.query_core.specs.Ledgers.{Ledgered}
 use Rattle.account_core.specs.declared.step.Ban.{Ban}
 use Rattle.account_core.specs.Facts.{AreFacts}
 use Rattle.account_core.specs.Given.{decided_by}
+use Rattle.account_core.specs.Ports.{HaveAsMany}
 use Rattle.ban_book.proofs.VectorLemmas.{last_resorts_none}
-use Rattle.oracle_core.specs.Oracles.{Known, Serves}
+use Rattle.oracle_core.specs.Enough.{enough}
+use Rattle.oracle_core.specs.Oracles.{IsSpentWork, IsStopped, Known, Serves}
 use Rattle.fact_bans.specs.Serving.{HoldsBans, MayHold}
 use Rattle.fact_bans.proofs.HoldingLemmas.{held_same, holds_no_more}
 use Rattle.fact_bans.proofs.ServeLemmas.{served_one, served_then, serves_err, serves_last, serves_memory, serves_ok, valid_grows}
@@ -71,6 +73,12 @@ searches_last served searches = record {
   valid = searches.valid;
   found = searches.found;
 }
+
+-- a budget that a search spent wasn't enough
+pub spent_below : {graphs : Graphs} {old new : Known} {a b : Ledgered} {bans : List Ban} {result : Result Found Stop} → graphs ≡ old.graphs → HaveAsMany graphs.first graphs.second → Searches graphs old new a b bans result → (learned : ℕ) → result ≡ Err (Spent learned) → a.budget < enough graphs
+spent_below {old = old} {a = a} {b = b} are many searches learned is =
+    let spent : IsSpentWork old a b learned = subst (λ (r : Result Found Stop). IfErr r (IsStopped old a b)) is searches.serves.stopped in
+    subst (λ graphs. a.budget < enough graphs) (sym are) (spent.below (subst (λ (graphs : Graphs). HaveAsMany graphs.first graphs.second) are many))
 
 -- Bans were kept and let go, again and again.
 pub record IsSearching (graphs : Graphs) (old now : Lent) : Type 0 where

@@ -14,3 +14,4 @@ pub use Rattle.account_core.specs.Steps
 pub use Rattle.ban_book.specs.Covering
 pub use Rattle.ban_book.specs.Vectors
 pub use Rattle.pair_domains.specs.Trails
+pub use Rattle.oracle_core.specs.Enough

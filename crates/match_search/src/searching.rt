@@ -1,8 +1,10 @@
 //! The search, from its beginning.
 
-ghost use Rattle.std.specs.Prelude.{◌≡◌, [], IfOk, IfSome, map};
+ghost use Rattle.std.specs.Prelude.{ℕ, ◌≡◌, ◌<◌, [], Err, IfOk, IfSome, map};
+ghost use Rattle.cnf_core.specs.declared.stop.Stop.TheVariants.{Spent};
 ghost use Rattle.account_core.specs.Given.{decided_by};
 ghost use Rattle.account_core.specs.Shown.{IsEmptyBan};
+ghost use Rattle.oracle_core.specs.Enough.{enough};
 ghost use Rattle.match_search.specs.Founds.{IsDecidedFound};
 ghost use Rattle.match_search.specs.States.{Explores, MayBegin, MaySearch, Searches, SearchesBy, lent};
 
@@ -41,8 +43,29 @@ const MOST_TIMES: u64 = 10_000;
 /// # Errors
 ///
 /// `Spent` where a line had to be learned and the ledger's budget was spent, also where a match was found, and its
-/// claims weren't decided. `Memory` when out of memory.
+/// claims weren't decided; never where the budget is enough for all that can be asked of the two circuits. `Memory`
+/// when out of memory.
 pub fn search<O: Oracle>(
+    alloc: Global,
+    graphs: &PairableGraphs<'_>,
+    oracle: &mut O,
+    book: &mut BanBook,
+    seed: u64,
+    ledger: &mut Ledger,
+) -> Result<Found, Stop>
+    requires may { MayBegin graphs.now (O.known oracle.old) ledger.old book.old }
+    ensures searches { Searches graphs.now (O.known oracle.old)
+        (O.known oracle.new) ledger.old ledger.new book.new result }
+    ensures decided { IfOk result (IsDecidedFound graphs.now (map decided_by (O.known oracle.new).facts)) }
+    ensures below { (learned : ℕ) → result ≡ Err (Spent learned) → ledger.old.budget < enough graphs.now }
+{
+    // pairable graphs have as many ports
+    let _ports = graphs.graphs();
+    search_all(alloc, graphs, oracle, book, seed, ledger)
+}
+
+// The same, without what is said of a spent budget.
+fn search_all<O: Oracle>(
     alloc: Global,
     graphs: &PairableGraphs<'_>,
     oracle: &mut O,

@@ -9,8 +9,7 @@ use Rattle.query_core.specs.Ledgers.{Ledgered}
 use Rattle.oracle_core.specs.Oracles.{IsSpentWork, Known, Suits}
 use Rattle.oracle_core.specs.Work.{IsWorkOfClaimsAndMatches}
 use Rattle.account_core.specs.Ports.{HaveAsMany}
-use Rattle.work_bound.specs.Enough.{enough}
-use Rattle.work_bound.proofs.WorkLemmas.{spent_below_enough}
+use Rattle.oracle_core.specs.Enough.{enough}
 use Rattle.claim_core.specs.Rows.{AreRows}
 use Rattle.fact_tests.proofs.RowLemmas.{rows_of}
 use Rattle.claim_core.specs.declared.info.OutputInfo.{OutputInfo}
@@ -63,7 +62,7 @@ pub spent_is : (two graphs : Graphs) (known : Known) (before after : Ledgered) (
 spent_is two graphs known before after budget learned ports same is empty spent =
     let first : before.budget ≡ budget = ap (λ (ledger : Ledgered). ledger.budget) empty in
     let are : known.graphs ≡ two = ap (λ (known : Known). known.graphs) is ∙ same in
-    let below : before.budget < enough known.graphs = spent_below_enough known before after learned (subst (λ (graphs : Graphs). HaveAsMany graphs.first graphs.second) (sym are) ports) spent in
+    let below : before.budget < enough known.graphs = spent.below (subst (λ (graphs : Graphs). HaveAsMany graphs.first graphs.second) (sym are) ports) in
     record {
       budget_is = spent.keeps.budget ∙ first;
       learned = spent.used ∙ first;

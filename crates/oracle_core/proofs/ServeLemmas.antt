@@ -1,10 +1,13 @@
 -- Calls of an oracle, one after the other.
-use Rattle.std.proofs.Common.{◌≡◌, [], ◌++◌, Result, Ok, Err, refl, sym, ap, subst, ◌∙◌, inl, inr, append_assoc, append-nil, ℕ, ◌+◌}
+use Rattle.std.proofs.Common.{◌≡◌, [], ◌++◌, Result, Ok, Err, refl, sym, ap, subst, ◌∙◌, inl, inr, append_assoc, append-nil, ℕ, ◌+◌, ◌<◌}
 use Rattle.std.specs.Prelude.{IsErrAnd}
 use Rattle.cnf_core.specs.declared.stop.Stop.{Stop}
 use Rattle.cnf_core.specs.declared.stop.Stop.TheVariants.{Spent, Memory}
+use Rattle.net_core.specs.Sides.{Graphs}
 use Rattle.query_core.specs.Ledgers.{Ledgered}
 use Rattle.account_core.specs.Facts.{AreFacts}
+use Rattle.account_core.specs.Ports.{HaveAsMany}
+use Rattle.oracle_core.specs.Enough.{enough}
 use Rattle.oracle_core.specs.Work.{IsCharged, IsWorkOfClaimsAndMatches}
 use Rattle.oracle_core.specs.Oracles.{Grows, HasServed, IsAnswered, IsStopped, Keeps, Known, Serves, Suits, entry_at}
 
@@ -59,6 +62,9 @@ stopped_then old mid a b c (Spent learned) grows keeps is = record {
   refused = is.refused;
   work = subst (λ graphs. IsWorkOfClaimsAndMatches graphs c) grows.graphs is.work;
   keeps = keeps_then old mid a b c grows keeps is.keeps;
+  below = λ many.
+      let before : b.budget < enough mid.graphs = is.below (subst (λ (graphs : Graphs). HaveAsMany graphs.first graphs.second) (sym grows.graphs) many) in
+      subst (λ graphs. a.budget < enough graphs) grows.graphs (subst (λ budget. budget < enough mid.graphs) keeps.budget before);
 }
 
 -- nothing was asked yet

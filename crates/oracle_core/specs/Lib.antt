@@ -1,3 +1,4 @@
+pub mod Enough
 pub mod Work
 pub mod Oracles
 pub use Rattle.account_core.specs.Facts

@@ -13,9 +13,11 @@ use Rattle.query_core.specs.declared.ledger.Asked.{Asked}
 use Rattle.query_core.specs.Ledgers.{Ledgered, learned_in, lines_in, nothing_asked}
 use Rattle.account_core.specs.declared.fact.Fact.{Fact}
 use Rattle.account_core.specs.Facts.{AreFacts}
+use Rattle.account_core.specs.Ports.{HaveAsMany}
 use Rattle.account_core.specs.Shown.{AreSame}
 use Rattle.oracle_core.specs.declared.oracle.Compared.{Compared}
 use Rattle.oracle_core.specs.declared.oracle.Compared.TheVariants.{Same, Differs}
+use Rattle.oracle_core.specs.Enough.{enough}
 use Rattle.oracle_core.specs.Work.{IsCharged, IsWorkOfClaimsAndMatches}
 
 -- What an oracle knows: its two circuits, the facts of the claims that it decided, in order, and the queries that it answered.
@@ -65,6 +67,7 @@ pub record Keeps (old : Known) (before after : Ledgered) : Type 0 where
       → IsAsBefore before.asked after.asked k ⊎ (IsAnswered old (entry_at after.asked k).query → ⊥)
 
 -- The budget was spent by work, and the last line was refused: the entries have as many learned lines as the budget, and that one.
+-- It wasn't enough for all that can be asked of two circuits with as many ports.
 pub record IsSpentWork (old : Known) (before after : Ledgered) (learned : ℕ) : Type 0 where
   pub learned_is : learned ≡ before.budget
   pub used : learned_in after ≡ before.budget
@@ -72,6 +75,7 @@ pub record IsSpentWork (old : Known) (before after : Ledgered) (learned : ℕ) :
   pub refused : after.spent ≡ true
   pub work : IsWorkOfClaimsAndMatches old.graphs after
   pub keeps : Keeps old before after
+  pub below : HaveAsMany old.graphs.first old.graphs.second → before.budget < enough old.graphs
 
 -- no answer: the budget is spent, or memory ran out
 abbrev pub IsStopped : Known → Ledgered → Ledgered → Stop → Type 0

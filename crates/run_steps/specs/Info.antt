@@ -7,7 +7,7 @@ use Rattle.net_core.specs.Sides.{Graphs}
 use Rattle.net_file.specs.declared.named.Named.{Named}
 use Rattle.query_core.specs.Ledgers.{Ledgered, learned_in, lines_in}
 use Rattle.oracle_core.specs.Work.{IsWorkOfClaimsAndMatches}
-use Rattle.work_bound.specs.Enough.{enough}
+use Rattle.oracle_core.specs.Enough.{enough}
 use Rattle.claim_core.specs.declared.info.OutputInfo.{OutputInfo}
 use Rattle.port_report.specs.Infos.{info_text}
 use Rattle.claim_core.specs.Rows.{AreRowsOf}

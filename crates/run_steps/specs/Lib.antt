@@ -26,10 +26,10 @@ pub use Rattle.gen_pair.specs.Names
 pub use Rattle.gen_pair.specs.Pairs
 pub use Rattle.net_print.specs.BlifLines
 pub use Rattle.net_print.specs.Files as PrintedFiles
+pub use Rattle.oracle_core.specs.Enough
 pub use Rattle.oracle_core.specs.Work
 pub use Rattle.port_moves.specs.Restored
 pub use Rattle.port_report.specs.Infos
 pub use Rattle.port_report.specs.Reports
 pub use Rattle.print_laws.specs.Printable
 pub use Rattle.query_core.specs.Ledgers
-pub use Rattle.work_bound.specs.Enough

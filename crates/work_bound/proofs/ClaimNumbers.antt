@@ -7,7 +7,7 @@ use Rattle.claim_core.specs.declared.claims.Shape.{Shape}
 use Rattle.claim_core.specs.declared.claims.Shape.TheVariants.{Up, Down, Swap}
 use Rattle.claim_core.specs.declared.claims.Claim.{Claim}
 use Rattle.claim_core.specs.Claims.{IsPlaced}
-use Rattle.work_bound.specs.Enough.{claims_of}
+use Rattle.oracle_core.specs.Enough.{claims_of}
 use Rattle.work_bound.proofs.Radices.{square, AreDigits, number, number_below, product, same_digits}
 
 abbrev pub bit_digit : Bool → ℕ

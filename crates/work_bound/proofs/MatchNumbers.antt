@@ -10,7 +10,7 @@ use Rattle.net_core.specs.declared.matching.Matching.{Matching}
 use Rattle.claim_core.specs.declared.query.Query.{Query}
 use Rattle.claim_core.specs.MatchQueries.{match_query, moved_feed, straight}
 use Rattle.net_core.specs.declared.graphs.Side.TheVariants.{First, Second}
-use Rattle.work_bound.specs.Enough.{matches_of}
+use Rattle.oracle_core.specs.Enough.{matches_of}
 use Rattle.work_bound.proofs.Radices.{AreDigits, digits-replicate, number, number_below, product, product-replicate, same_digits, square}
 use Rattle.work_bound.proofs.ClaimNumbers.{bit_digit, bit_small, same_bit}
 

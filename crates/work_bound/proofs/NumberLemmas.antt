@@ -1,7 +1,7 @@
 -- Products that don't fit 64 bits.
 use Rattle.std.proofs.Common.{◌≡◌, ℕ, zero, suc, ◌+◌, ◌*◌, ◌^◌, ◌<◌, sym, ap, ◌∙◌, arith}
 use Rattle.std.proofs.Math.Nat.{mul_assoc, mul_comm, le-mul_of_pos_right, one-le-pow, pow-zero}
-use Rattle.work_bound.specs.Enough.{claims_of, matches_of}
+use Rattle.oracle_core.specs.Enough.{claims_of, matches_of}
 use Rattle.work_bound.proofs.Radices.{square}
 
 -- a factor doesn't, and the other one isn't 0

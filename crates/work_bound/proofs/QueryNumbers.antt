@@ -11,7 +11,7 @@ use Rattle.claim_core.specs.ClaimQueries.{claim_query}
 use Rattle.claim_core.specs.MatchQueries.{match_query}
 use Rattle.account_core.specs.Ports.{HaveAsMany}
 use Rattle.oracle_core.specs.Work.{IsOfClaim, IsOfMatch}
-use Rattle.work_bound.specs.Enough.{claims_of, matches_of}
+use Rattle.oracle_core.specs.Enough.{claims_of, matches_of}
 use Rattle.work_bound.proofs.ClaimNumbers.{claim_number, claim_number_below, same_claim, IsAmong}
 use Rattle.work_bound.proofs.EntryLemmas.{IsCounted}
 use Rattle.work_bound.proofs.MatchNumbers.{match_number, match_number_below, same_match, IsSent}

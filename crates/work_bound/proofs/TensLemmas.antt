@@ -3,7 +3,7 @@ use Rattle.std.proofs.Common.{◌≡◌, ℕ, zero, suc, ◌+◌, ◌*◌, ◌/�
 use Rattle.std.proofs.Math.Nat.{div-add-mod, le-mul_of_pos_right, mul_assoc, mul_comm, mul-le-mul, mul-suc, pow-le-pow_left, pow-le-pow_right, pow-suc, pow-zero}
 use Rattle.std.proofs.lemmas.Nat.{pow-add}
 use Rattle.net_core.specs.Sides.{Graphs}
-use Rattle.work_bound.specs.Enough.{claims_of, enough, have_as_many, lines_enough, matches_of}
+use Rattle.oracle_core.specs.Enough.{claims_of, enough, have_as_many, lines_enough, matches_of}
 use Rattle.work_bound.proofs.Radices.{square}
 
 tens_of_both : (a b i j : ℕ) → a ≤ 10 ^ i → b ≤ 10 ^ j → a * b ≤ 10 ^ (i + j)

@@ -1,5 +1,5 @@
 -- As many lines as there are queries, each with as many clauses.
-use Rattle.std.proofs.Common.{◌≡◌, ℕ, ◌+◌, ◌*◌, ◌^◌, ◌<◌, ◌≤◌, ◌==◌, ◌&&◌, cond, length, take, All, slice_index_or, ap, ◌∙◌, arith}
+use Rattle.std.proofs.Common.{◌≡◌, ℕ, ◌+◌, ◌*◌, ◌^◌, ◌≤◌, ◌==◌, ◌&&◌, cond, length, take, All, slice_index_or, ap, ◌∙◌, arith}
 use Rattle.std.proofs.Math.Nat.{mul_comm, pow-le-pow_right}
 use Rattle.std.proofs.lemmas.Bool.{eq-eqb}
 use Rattle.cnf_core.specs.Derivations.{clauses_of, no_line}
@@ -12,9 +12,8 @@ use Rattle.claim_core.specs.Formulas.{formula_of}
 use Rattle.query_core.specs.declared.ledger.Asked.{Asked}
 use Rattle.query_core.specs.Ledgers.{Ledgered, charged_in, lines_in}
 use Rattle.account_core.specs.Ports.{HaveAsMany}
-use Rattle.oracle_core.specs.Oracles.{IsSpentWork, Known}
 use Rattle.oracle_core.specs.Work.{IsWorkOn, IsWorkOfClaimsAndMatches}
-use Rattle.work_bound.specs.Enough.{claims_of, enough, lines_enough, matches_of}
+use Rattle.oracle_core.specs.Enough.{claims_of, enough, lines_enough, matches_of}
 use Rattle.work_bound.proofs.QueryNumbers.{HasNumber, inputs_on, is_numbered, same_query}
 use Rattle.work_bound.proofs.EntryLemmas.{IsCounted, lines_counted}
 
@@ -59,6 +58,3 @@ few_lines_of_work graphs ledger same is =
     let counted : All (λ entry. IsCounted (HasNumber n m graphs) count entry.query) ledger.asked = λ k d within. is_numbered graphs (slice_index_or ledger.asked k d).query same (is.queries k d within) in
     let few : All (λ entry. charged_in entry ≤ most) ledger.asked = λ k d within. lines_within graphs (slice_index_or ledger.asked k d) same (is.work.entries k d within) in
     omega (arith, lines_counted (HasNumber n m graphs) count most (same_query n m graphs) ledger.asked counted few is.work.once, mul_comm count most, is_enough graphs same)
-
-pub spent_below_enough : (known : Known) (before after : Ledgered) (learned : ℕ) → HaveAsMany known.graphs.first known.graphs.second → IsSpentWork known before after learned → before.budget < enough known.graphs
-spent_below_enough known before after learned same spent = omega (arith, few_lines_of_work known.graphs after same spent.work, spent.made)

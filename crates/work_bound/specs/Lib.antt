@@ -1,5 +1,4 @@
-pub mod Enough
 pub use Rattle.account_core.specs.Ports
-pub use Rattle.oracle_core.specs.Oracles
+pub use Rattle.oracle_core.specs.Enough
 pub use Rattle.oracle_core.specs.Work
 pub use Rattle.query_core.specs.Ledgers

@@ -1,12 +1,11 @@
 //! What the budget of a ledger says. Each function does nothing; its contract is the law.
 
-ghost use Rattle.std.specs.Prelude.{ℕ, ◌<◌, ◌≤◌};
+ghost use Rattle.std.specs.Prelude.{◌≤◌};
 ghost use Rattle.net_core.specs.Sides.{Graphs};
 ghost use Rattle.query_core.specs.Ledgers.{Ledgered, lines_in};
 ghost use Rattle.account_core.specs.Ports.{HaveAsMany};
-ghost use Rattle.oracle_core.specs.Oracles.{IsSpentWork, Known};
 ghost use Rattle.oracle_core.specs.Work.{IsWorkOfClaimsAndMatches};
-ghost use Rattle.work_bound.specs.Enough.{enough};
+ghost use Rattle.oracle_core.specs.Enough.{enough};
 
 /// A ledger that is work on two circuits with as many ports has at most `enough` lines after its lemmas, a refused line
 /// counted: the lines of one query are different clauses, and no query has lines in two entries.
@@ -15,12 +14,4 @@ pub fn few_lines_of_work()
         → HaveAsMany graphs.first graphs.second
         → IsWorkOfClaimsAndMatches graphs ledger
         → lines_in ledger ≤ enough graphs }
-{}
-
-/// No call of an oracle ends with its budget spent where that is `enough`.
-pub fn spent_below_enough()
-    ensures { (known : Known) (before after : Ledgered) (learned : ℕ)
-        → HaveAsMany known.graphs.first known.graphs.second
-        → IsSpentWork known before after learned
-        → before.budget < enough known.graphs }
 {}

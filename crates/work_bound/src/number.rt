@@ -1,7 +1,7 @@
 //! How many learned lines are enough, as a number.
 
 ghost use Rattle.std.specs.Prelude.{ℕ, ◌+◌, ◌*◌, ◌^◌, ◌<◌, SomeIff};
-ghost use Rattle.work_bound.specs.Enough.{claims_of, enough, lines_enough, matches_of};
+ghost use Rattle.oracle_core.specs.Enough.{claims_of, enough, lines_enough, matches_of};
 
 use account_core::have_as_many;
 use net_core::Graphs;

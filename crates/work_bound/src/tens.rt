@@ -1,7 +1,7 @@
 //! A power of ten that is enough, for people.
 
 ghost use Rattle.std.specs.Prelude.{◌*◌, ◌^◌, ◌<◌, ◌≤◌};
-ghost use Rattle.work_bound.specs.Enough.{enough, lines_enough};
+ghost use Rattle.oracle_core.specs.Enough.{enough, lines_enough};
 
 use net_core::Graphs;
 

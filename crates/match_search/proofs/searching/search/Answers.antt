@@ -1,5 +1,6 @@
-use Rattle.match_search.proofs.SearchLemmas.{may_start}
+-- A spent budget wasn't enough for circuits whose ports can be paired.
+use Rattle.match_search.proofs.SearchLemmas.{spent_below}
 use Rattle.match_search.proofs.searching.search.Goals as goal
 
-pub refuse_or_explore-requires : goal.refuse_or_explore-requires
-refuse_or_explore-requires g c = record { may = record { may = may_start c.requires.may c.facts-facts.ensures.lawful; trials = c.in_ok-heuristics.ensures } }
+pub returns-clause-below : goal.returns-clause-below
+returns-clause-below g c = spent_below c.requires.may.graphs_are c.graphs-ports.ensures.ports c.search_all.ensures.searches

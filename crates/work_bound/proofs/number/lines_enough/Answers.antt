@@ -1,7 +1,7 @@
 -- A factor that doesn't fit.
 use Rattle.std.proofs.Common.{arith, ◌+◌, ◌*◌, ◌^◌}
 use Rattle.std.proofs.Math.Nat.{one-le-pow}
-use Rattle.work_bound.specs.Enough.{claims_of, matches_of}
+use Rattle.oracle_core.specs.Enough.{claims_of, matches_of}
 use Rattle.work_bound.proofs.NumberLemmas.{first_too_large, queries_some, second_too_large}
 use Rattle.work_bound.proofs.number.lines_enough.Goals as goal
 
