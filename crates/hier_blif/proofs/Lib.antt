@@ -1,3 +1,13 @@
 pub mod StopLemmas
 pub mod ModelLemmas
 pub mod ReaderLemmas
+pub mod ElementLemmas
+pub mod AgreeLemmas
+pub mod FlatCoverLemmas
+pub mod FlatLemmas
+pub mod WellNamedLemmas
+pub mod DistinctLemmas
+pub mod ApartNamedLemmas
+pub mod SignalLemmas
+pub mod DepthLemmas
+pub mod OneHierLemmas

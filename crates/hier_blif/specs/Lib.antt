@@ -4,3 +4,10 @@ pub mod Bindings
 pub mod Models
 pub mod LineFaults
 pub mod Reading
+pub mod Names
+pub mod NameFaults
+pub mod Depths
+pub mod Nested
+pub mod Flattening
+pub mod Signals
+pub mod Hierarchies

@@ -1,7 +1,7 @@
 -- What is wrong with a line of a file of models, and where: the first line that is refused decides (this project's
 -- order). The directives are those of a file of one model, and `.subckt`.
-use Rattle.std.specs.Prelude.{◌≡◌, ℕ, ◌==◌, ◌&&◌, Bool, not, List, [], length, take, take_while, drop, reverse, filter, map, slice_index_or, Option, None, Some}
-use Rattle.std.specs.Prelude.{is_some, option_map, if◌then◌else◌}
+use Rattle.std.specs.Prelude.{◌≡◌, ℕ, ◌==◌, ◌&&◌, Bool, not, List, [], length, take, take_while}
+use Rattle.std.specs.Prelude.{drop, reverse, filter, map, slice_index_or, Option, None, Some, is_some, option_map, if◌then◌else◌}
 use Rattle.std.specs.List.{list_any, find}
 use Rattle.text_core.specs.Piece.{Piece}
 use Rattle.net_file.specs.declared.fault.NetKind.{NetKind}

@@ -1,7 +1,7 @@
 //! The models of a file, read line by line.
 
-ghost use Rattle.std.specs.Prelude.{◌≡◌, ◌==◌, ◌&&◌, ◌||◌, not, ℕ, [], ◌∷◌, ◌++◌, List, true, false, None, Some};
-ghost use Rattle.std.specs.Prelude.{length, OnOk, IfOk, IfErr, if◌then◌else◌};
+ghost use Rattle.std.specs.Prelude.{◌≡◌, ◌==◌, ◌&&◌, ◌||◌, not, ℕ, [], ◌∷◌, ◌++◌};
+ghost use Rattle.std.specs.Prelude.{List, true, false, None, Some, length, OnOk, IfOk, IfErr, if◌then◌else◌};
 ghost use Rattle.text_core.specs.Piece.{Piece};
 ghost use Rattle.blif_reader.specs.Blif.{blif_lines};
 ghost use Rattle.blif_reader.specs.Directives.{directive_of, is_model};
