@@ -12,6 +12,8 @@ mod generated;
 #[cfg(test)]
 mod graphs;
 #[cfg(test)]
+mod hier_files;
+#[cfg(test)]
 mod named_circuits;
 #[cfg(test)]
 mod printed;

@@ -1,0 +1,165 @@
+//! Files of several models, whose lines and first faults are worked out by hand.
+
+use hier_blif::{
+    BlifModel, CoverLine, HierFault, HierKind, HierStop, InstanceLine, ModelLine, read_models,
+};
+use std::alloc::{AllocError, Global};
+use std::test::Fail;
+use text_core::{Span, put_decimal};
+
+/// Writes words one after another, each with a comma after it.
+fn put_words(words: &[Span<'_>], text: &mut Vec<u8>) -> Result<(), AllocError> {
+    for word in words.iter() {
+        text.extend_from_slice(word.bytes())?;
+        text.extend_from_slice(b",")?;
+    }
+    Ok(())
+}
+
+// Writes the operands and the name of a cover, how many rows it has, and whether they are of the on-set.
+fn put_cover(cover: &CoverLine<'_>, text: &mut Vec<u8>) -> Result<(), AllocError> {
+    text.extend_from_slice(b" cover ")?;
+    put_words(&cover.operands, text)?;
+    text.extend_from_slice(cover.defined.bytes())?;
+    text.extend_from_slice(b"/")?;
+    put_decimal(cover.rows.len() as u64, text)?;
+    text.extend_from_slice(if cover.on {
+        b"/on".as_slice()
+    } else {
+        b"/off".as_slice()
+    })?;
+    Ok(())
+}
+
+fn put_instance(instance: &InstanceLine<'_>, text: &mut Vec<u8>) -> Result<(), AllocError> {
+    text.extend_from_slice(b" instance ")?;
+    text.extend_from_slice(instance.model.bytes())?;
+    text.extend_from_slice(b":")?;
+    put_words(&instance.bindings, text)
+}
+
+fn put_ports(kind: &[u8], words: &[Span<'_>], text: &mut Vec<u8>) -> Result<(), AllocError> {
+    text.extend_from_slice(kind)?;
+    put_words(words, text)
+}
+
+fn put_line(line: &ModelLine<'_>, text: &mut Vec<u8>) -> Result<(), AllocError> {
+    match line {
+        ModelLine::Inputs(words) => put_ports(b" inputs ", words, text),
+        ModelLine::Outputs(words) => put_ports(b" outputs ", words, text),
+        ModelLine::Cover(cover) => put_cover(cover, text),
+        ModelLine::Instance(instance) => put_instance(instance, text),
+    }
+}
+
+fn put_model(model: &BlifModel<'_>, text: &mut Vec<u8>) -> Result<(), AllocError> {
+    text.extend_from_slice(model.name.bytes())?;
+    text.extend_from_slice(b"@")?;
+    put_decimal(model.at, text)?;
+    for line in model.lines.iter() {
+        put_line(line, text)?;
+    }
+    text.extend_from_slice(b";")?;
+    Ok(())
+}
+
+fn put_models(models: &[BlifModel<'_>], text: &mut Vec<u8>) -> Result<(), AllocError> {
+    for model in models.iter() {
+        put_model(model, text)?;
+    }
+    Ok(())
+}
+
+// Whether a file has these models, each with its place and its lines.
+fn has_models(alloc: Global, file: &[u8], expected: &[u8]) -> Result<bool, HierStop> {
+    let models = read_models(alloc, file)?;
+    let mut text = Vec::new(alloc);
+    put_models(&models, &mut text)?;
+    Ok(text.as_slice() == expected)
+}
+
+#[test]
+fn reads_models_of_instances(rt: HostRuntime) -> Result<(), Fail> {
+    let has_both = has_models(
+        rt.alloc(),
+        b".model top\n.inputs a b\n.outputs y\n.subckt nd p=a q=b r=t\n.subckt nd p=t q=t r=y\n.end\n\
+          .model nd\n.inputs p q\n.outputs r\n.names p q r\n11 0\n.end\n",
+        b"top@0 inputs a,b, outputs y, instance nd:p=a,q=b,r=t, instance nd:p=t,q=t,r=y,;\
+          nd@85 inputs p,q, outputs r, cover p,q,r/1/off;",
+    )?;
+    assert!(rt; has_both);
+    Ok(())
+}
+
+static MODELS: [(&'static [u8], &'static [u8]); 6] = [
+    // without a `.model` line there is one model, which has no name
+    (b"", b"@0;"),
+    (b".default_input_arrival 0 0\n", b"@0;"),
+    // what is passed over begins no model, and `.end` does
+    (b".area 1\n.model m\n", b"m@8;"),
+    (b".end\n.model m\n", b"@0;m@5;"),
+    // lines before the first `.model` line
+    (
+        b".names y\n1\n.model m\n.inputs a\n",
+        b"@0 cover y/1/on;m@11 inputs a,;",
+    ),
+    // without rows a cover is of the on-set; a model ends where the next begins
+    (
+        b".model m\n.names a y\n.model n\n.names y\n1\n1\n",
+        b"m@0 cover a,y/0/on;n@20 cover y/2/on;",
+    ),
+];
+
+#[test]
+fn reads_models_of_all_forms(rt: HostRuntime) -> Result<(), Fail> {
+    for (file, models) in MODELS.iter() {
+        let has = has_models(rt.alloc(), file, models)?;
+        assert!(rt; has);
+    }
+    Ok(())
+}
+
+static FAULTS: [(&'static [u8], HierKind, u64); 20] = [
+    (b".model\n", HierKind::ModelName, 0),
+    (b".model a\n.model a\n", HierKind::ModelName, 9),
+    (b".subckt\n", HierKind::Directive, 0),
+    (b".subckt x a=\n", HierKind::Binding, 10),
+    (b".subckt x =b\n", HierKind::Binding, 10),
+    (b".subckt x a=b ab a=\n", HierKind::Binding, 14),
+    (b".names\n", HierKind::Directive, 0),
+    (b".gate and2 a=b\n", HierKind::Directive, 0),
+    (b" .latch a b 0\n", HierKind::Sequential, 1),
+    (b".exdc\n", HierKind::DontCare, 0),
+    (b"11 1\n", HierKind::RowOutside, 0),
+    (b".names a b y\n1 1\n", HierKind::RowWidth, 13),
+    (b".names a b y\n1 1 1\n", HierKind::RowWidth, 13),
+    (b".names a y\n2 1\n", HierKind::RowChar, 11),
+    (b".names a y\n1 1\n0 0\n", HierKind::MixedCover, 15),
+    // after `.end`, and after the next model has begun
+    (b".end\n.end\n", HierKind::Directive, 5),
+    (b".model a\n.end\n.names x\n", HierKind::Directive, 14),
+    (b".names a y\n.model b\n1 1\n", HierKind::RowOutside, 20),
+    // the first line that is refused decides
+    (b".model a\n.exdc\n.latch\n", HierKind::DontCare, 9),
+    // a line goes on, and is refused at its first word
+    (b"#\n\\\n .subckt \\\n\n", HierKind::Directive, 5),
+];
+
+fn has_fault(alloc: Global, file: &[u8], fault: HierFault) -> bool {
+    match read_models(alloc, file) {
+        Err(HierStop::Fault(found)) => found == fault,
+        _ => false,
+    }
+}
+
+#[test]
+fn finds_the_first_line_that_is_refused(rt: HostRuntime) -> Result<(), Fail> {
+    for (file, kind, at) in FAULTS.iter() {
+        let fault = HierFault {
+            kind: *kind,
+            at: *at,
+        };
+        assert!(rt; has_fault(rt.alloc(), file, fault));
+    }
+    Ok(())
+}
