@@ -1,10 +1,10 @@
 -- Lists, written value by value, and read.
-use Rattle.std.proofs.Common.{◌≡◌, ◌<◌, ◌≤◌, ◌+◌, ◌^◌, ℕ, List, [], ◌∷◌, ◌++◌, length, take, All, slice_index_or, Result, Ok, Err, sym, ap, subst, ◌∙◌, arith, append_assoc, append-nil}
+use Rattle.std.proofs.Common.{◌≡◌, ◌<◌, ◌≤◌, ◌+◌, ◌^◌, ℕ, List, [], ◌∷◌, ◌++◌, length, take, All, slice_index_or, Result, Ok, Err, sym, ap, subst, ◌∙◌, append_assoc, append-nil}
 use Rattle.std.specs.Result.{IsErrAnd}
 use Rattle.std.specs.List.{flat_map}
 use Rattle.std.proofs.lemmas.List.{flat_map_more, take_all, take_more}
 use Rattle.std.proofs.lemmas.List.Elements.{All-nil, All-push}
-use Rattle.byte_form.specs.Codes.{BeginsWith, BeginsNone, HasItems, IsPrefixCode, ListFits, list_bytes, number_bytes}
+use Rattle.byte_form.specs.Codes.{BeginsWith, HasItems, IsPrefixCode, ListFits, list_bytes, number_bytes}
 use Rattle.byte_form.proofs.CodeLemmas.{list_begins, list_none, more_items}
 use Rattle.account_bytes.specs.declared.form.FormStop.{FormStop}
 use Rattle.account_bytes.specs.declared.form.FormStop.TheVariants.{Malformed, Memory}

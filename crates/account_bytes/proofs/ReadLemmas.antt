@@ -1,5 +1,5 @@
 -- What reading a value says of reading another that begins with it.
-use Rattle.std.proofs.Common.{◌≡◌, ℕ, List, [], ◌∷◌, ◌++◌, Result, Ok, Err, refl, sym, ap, subst, ◌∙◌, append_assoc}
+use Rattle.std.proofs.Common.{◌≡◌, ℕ, List, ◌∷◌, ◌++◌, Result, Ok, Err, refl, sym, ap, subst, ◌∙◌, append_assoc}
 use Rattle.std.specs.Result.{IsErrAnd}
 use Rattle.byte_form.specs.Codes.{BeginsWith, BeginsNone, BothFit, IsPrefixCode, both_bytes}
 use Rattle.byte_form.proofs.CodeLemmas.{first_none, next_none}

@@ -1,5 +1,5 @@
 -- Steps and shapes of one kind, where their fields aren't there.
-use Rattle.std.proofs.Common.{◌≡◌, ℕ, List, Bool, Option, arith}
+use Rattle.std.proofs.Common.{ℕ, List, Option, arith}
 use Rattle.circuits.specs.declared.port.PortKind.{PortKind}
 use Rattle.word_sim.specs.declared.tri.Tri.{Tri}
 use Rattle.claim_core.specs.declared.claims.Shape.{Shape}

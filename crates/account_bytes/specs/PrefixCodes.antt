@@ -22,8 +22,8 @@ use Rattle.byte_form.proofs.CodeLemmas.{both_code, code_by, list_code, number_co
 use Rattle.account_bytes.specs.Bodies.{Always, ClaimHasPorts, HasPorts, IsLiteral, IsNumber, IsPort, IsReference, LineFits, ShapeHasPorts}
 use Rattle.account_bytes.specs.Bodies.{bit_byte, bit_bytes, claim_bytes, kind_byte, kind_bytes, line_bytes, literal_bytes, pair_bytes, port_bytes}
 use Rattle.account_bytes.specs.Bodies.{BanFits, StepFits, ban_bytes, cover_tag, step_bytes, step_fields, step_tag, tally_tag}
-use Rattle.account_bytes.specs.Bodies.{reference_bytes, reference_fields, reference_tag, shape_bytes, shape_fields, shape_tag, side_byte, side_bytes, tri_byte}
-use Rattle.account_bytes.specs.Bodies.{tri_bytes}
+use Rattle.account_bytes.specs.Bodies.{reference_bytes, reference_fields, reference_tag, shape_bytes, shape_fields, shape_tag}
+use Rattle.account_bytes.specs.Bodies.{side_byte, side_bytes, tri_byte, tri_bytes}
 
 abbrev pub byte_bytes : {X : Type 0} → (X → ℕ) → X → List ℕ
 byte_bytes {X} byte x = byte x ∷ []
@@ -78,7 +78,9 @@ abbrev literal_with : ℕ → SatLit
 literal_with number = record { 0 = number }
 
 pub literal_code : IsPrefixCode literal_bytes IsLiteral
-literal_code = code_by literal_bytes IsLiteral (number_bytes 8) IsNumber (λ literal. literal.0) (number_code 8) (λ literal. refl) (λ literal fits. fits) (λ x y same. ap literal_with same)
+literal_code =
+    code_by literal_bytes IsLiteral (number_bytes 8) IsNumber (λ literal. literal.0) (number_code 8)
+    (λ literal. refl) (λ literal fits. fits) (λ x y same. ap literal_with same)
 
 -- a pair's fields
 abbrev pub PairFields : Type 0
@@ -112,12 +114,15 @@ pair_code = code_by pair_bytes HasPorts pair_fields_bytes PairFieldsFit pair_fie
 abbrev pub tagged_bytes : {X : Type 0} → (X → ℕ) → (X → List ℕ) → X → List ℕ
 tagged_bytes {X} tag fields x = tag x ∷ fields x
 
-tagged_code : {X : Type 0} (tag : X → ℕ) (fields : X → List ℕ) (Fits : X → Type 0) → ((x y : X) (after other : List ℕ) → Fits x → Fits y → tag x ≡ tag y → fields x ++ after ≡ fields y ++ other → x ≡ y) → IsPrefixCode (tagged_bytes tag fields) Fits
+tagged_code : {X : Type 0} (tag : X → ℕ) (fields : X → List ℕ) (Fits : X → Type 0)
+    → ((x y : X) (after other : List ℕ) → Fits x → Fits y → tag x ≡ tag y → fields x ++ after ≡ fields y ++ other → x ≡ y)
+    → IsPrefixCode (tagged_bytes tag fields) Fits
 tagged_code {X} tag fields Fits by = record {
   one = λ x y after other fits fit same. by x y after other fits fit (cc same) (ap (drop 1) same);
 }
 
-same_reference : (x y : Option ℕ) (after other : List ℕ) → IsReference x → IsReference y → reference_tag x ≡ reference_tag y → reference_fields x ++ after ≡ reference_fields y ++ other → x ≡ y
+same_reference : (x y : Option ℕ) (after other : List ℕ) → IsReference x → IsReference y → reference_tag x ≡ reference_tag y
+    → reference_fields x ++ after ≡ reference_fields y ++ other → x ≡ y
 same_reference None None after other fits fit tags same = refl
 same_reference (Some x) (Some y) after other fits fit tags same =
     let e = (number_code 8).one x y after other fits fit same in cc
@@ -146,7 +151,8 @@ swap_fields_code =
     (both_code port_bytes IsPort (both_bytes bit_bytes bit_bytes) (BothFit Always Always) (number_code 4)
     (both_code bit_bytes Always bit_bytes Always bit_code bit_code))
 
-same_shape : (x y : Shape) (after other : List ℕ) → ShapeHasPorts x → ShapeHasPorts y → shape_tag x ≡ shape_tag y → shape_fields x ++ after ≡ shape_fields y ++ other → x ≡ y
+same_shape : (x y : Shape) (after other : List ℕ) → ShapeHasPorts x → ShapeHasPorts y → shape_tag x ≡ shape_tag y
+    → shape_fields x ++ after ≡ shape_fields y ++ other → x ≡ y
 same_shape (Up i) (Up j) after other fits fit tags same =
     let e = (number_code 4).one i j after other fits fit same in cc
 same_shape (Down i) (Down j) after other fits fit tags same =
@@ -188,7 +194,9 @@ pub claim_fits : (claim : Claim) → ClaimHasPorts claim → ClaimFieldsFit (cla
 claim_fits claim fits = (tt, (fits.output, fits.shape))
 
 pub claim_code : IsPrefixCode claim_bytes ClaimHasPorts
-claim_code = code_by claim_bytes ClaimHasPorts claim_fields_bytes ClaimFieldsFit claim_fields claim_fields_code (λ claim. refl) claim_fits (λ x y same. ap claim_with same)
+claim_code =
+    code_by claim_bytes ClaimHasPorts claim_fields_bytes ClaimFieldsFit claim_fields claim_fields_code
+    (λ claim. refl) claim_fits (λ x y same. ap claim_with same)
 
 -- a log line's fields
 abbrev pub LineFields : Type 0
@@ -207,7 +215,9 @@ abbrev pub LineFieldsFit : LineFields → Type 0
 LineFieldsFit = BothFit (ListFits IsLiteral) (ListFits IsNumber)
 
 line_fields_code : IsPrefixCode line_fields_bytes LineFieldsFit
-line_fields_code = both_code (list_bytes literal_bytes) (ListFits IsLiteral) (list_bytes (number_bytes 8)) (ListFits IsNumber) (list_code literal_bytes IsLiteral literal_code) (list_code (number_bytes 8) IsNumber (number_code 8))
+line_fields_code =
+    both_code (list_bytes literal_bytes) (ListFits IsLiteral) (list_bytes (number_bytes 8)) (ListFits IsNumber)
+    (list_code literal_bytes IsLiteral literal_code) (list_code (number_bytes 8) IsNumber (number_code 8))
 
 pub line_fits : (line : LogLine) → LineFits line → LineFieldsFit (line_fields line)
 line_fits line fits = (fits.clause, fits.hints)
@@ -240,7 +250,8 @@ PortsAndReferencesFit = BothFit (ListFits IsPort) (ListFits IsReference)
 cover_code : IsPrefixCode (both_bytes (list_bytes port_bytes) ports_and_references) (BothFit (ListFits IsPort) PortsAndReferencesFit)
 cover_code =
     both_code (list_bytes port_bytes) (ListFits IsPort) ports_and_references PortsAndReferencesFit ports_code
-    (both_code (list_bytes port_bytes) (ListFits IsPort) (list_bytes reference_bytes) (ListFits IsReference) ports_code (list_code reference_bytes IsReference reference_code))
+    (both_code (list_bytes port_bytes) (ListFits IsPort) (list_bytes reference_bytes) (ListFits IsReference)
+    ports_code (list_code reference_bytes IsReference reference_code))
 
 -- tags of tallies and of covers
 pub tally_tags : (kind : Tallied) → (2 ≤ tally_tag kind) × (tally_tag kind ≤ 3)
@@ -275,7 +286,8 @@ tally_with kind fields = Tally kind fields.0 fields.1
 abbrev cover_with : PortKind → List ℕ × (List ℕ × List (Option ℕ)) → Step
 cover_with kind fields = Cover kind fields.0 fields.1.0 fields.1.1
 
-same_step : (x y : Step) (after other : List ℕ) → StepFits x → StepFits y → step_tag x ≡ step_tag y → step_fields x ++ after ≡ step_fields y ++ other → x ≡ y
+same_step : (x y : Step) (after other : List ℕ) → StepFits x → StepFits y → step_tag x ≡ step_tag y
+    → step_fields x ++ after ≡ step_fields y ++ other → x ≡ y
 same_step (Vector output tris) (Vector put bits) after other fits fit tags same =
     ap vector_with (vector_code.one (output, tris) (put, bits) after other fits fit same)
 same_step (Mismatch fails holds) (Mismatch fail hold) after other fits fit tags same =

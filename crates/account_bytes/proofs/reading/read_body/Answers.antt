@@ -1,5 +1,5 @@
 -- A body is an entry's where its fields end with it.
-use Rattle.std.proofs.Common.{List, ℕ, Ok, sym, subst, ◌∙◌}
+use Rattle.std.proofs.Common.{List, ℕ, sym, subst, ◌∙◌}
 use Rattle.byte_form.specs.Codes.{BeginsWith}
 use Rattle.account_bytes.specs.Entries.{BodyFits, entry_body, entry_tag}
 use Rattle.account_bytes.specs.Reading.{OfTag, Reads}
