@@ -4,6 +4,8 @@
 #[cfg(test)]
 mod bits;
 #[cfg(test)]
+mod byte_forms;
+#[cfg(test)]
 mod failing_shelves;
 #[cfg(test)]
 mod file_faults;
