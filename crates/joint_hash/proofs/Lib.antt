@@ -4,6 +4,7 @@ pub mod GateLemmas
 pub mod HintLemmas
 pub mod LeadLemmas
 pub mod LineLemmas
+pub mod MadeLemmas
 pub mod LiteralLemmas
 pub mod MergeLemmas
 pub mod SharedLemmas
@@ -11,3 +12,4 @@ pub mod TreeLemmas
 pub mod VisitLemmas
 pub mod ListedLemmas
 pub mod JoiningLemmas
+pub mod ClosingLemmas

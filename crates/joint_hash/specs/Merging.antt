@@ -1,11 +1,11 @@
 -- Lemmas by which gates of one structure are one (structural hashing, as for and-inverter graphs: Kuehlmann and others, IEEE
 -- TCAD 2002).
-use Rattle.std.specs.Prelude.{◌≡◌, ◌⊎◌, ℕ, ◌+◌, ◌<◌, ◌≤◌, false, List, [], ◌∷◌, length, All}
+use Rattle.std.specs.Prelude.{◌≡◌, ◌⊎◌, ℕ, ◌+◌, ◌<◌, ◌≤◌, false, List, [], ◌∷◌, length, All, Contains, None}
 use Rattle.std.specs.List.{list_any}
 use Rattle.cnf_core.specs.declared.literal.SatLit.{SatLit}
 use Rattle.cnf_core.specs.declared.log.LogLine.{LogLine}
 use Rattle.cnf_core.specs.Clauses.{Formula, clause_at, opposite}
-use Rattle.cnf_core.specs.Derivations.{AreDerived, clauses_of, is_empty}
+use Rattle.cnf_core.specs.Derivations.{AreDerived, clauses_of, is_empty, line_fault}
 use Rattle.joint_hash.specs.declared.gates.ConeGate.{ConeGate}
 use Rattle.joint_hash.specs.Chains.{AreListed}
 
@@ -43,3 +43,13 @@ pub record AreLemmas (formula : Formula) (lines : List LogLine) : Type 0 where
   pub filled : list_any is_empty (clauses_of lines) ≡ false
   pub short : All (λ clause. length clause ≤ 3) (clauses_of lines)
   pub implications : All (IsImplication formula) lines
+
+-- each clause of some lines is one of others
+abbrev pub AreKept : List LogLine → List LogLine → Type 0
+AreKept old new = (clause : List SatLit) → Contains (clauses_of old) clause → Contains (clauses_of new) clause
+
+-- Lemmas, and an empty line that is derived by them.
+pub record AreClosedBy (formula : Formula) (lemmas : List LogLine) (last : LogLine) : Type 0 where
+  pub are : AreLemmas formula lemmas
+  pub empty : last.clause ≡ []
+  pub derived : line_fault formula (clauses_of lemmas) last ≡ None

@@ -1,6 +1,6 @@
 //! The gates of a query's cones, read from its clauses.
 
-ghost use Rattle.std.specs.Prelude.{◌≡◌, ◌≢◌, ◌+◌, ◌%◌, ◌<◌, ◌^◌, IfSome, length};
+ghost use Rattle.std.specs.Prelude.{◌≡◌, ◌≢◌, ◌+◌, ◌%◌, ◌<◌, ◌^◌, Contains, IfSome, length};
 ghost use Rattle.claim_core.specs.ConeClauses.{IsConeId};
 ghost use Rattle.claim_core.specs.Formulas.{query_clauses};
 ghost use Rattle.joint_hash.specs.Classes.{is_last};
@@ -65,4 +65,25 @@ pub(crate) fn gate_at(cones: &ConeClauses<'_>, place: usize) -> Option<ConeGate>
         return None;
     }
     Some(gate_of(cones, id))
+}
+
+/// The number that stands so many before the last one among those of the cones' clauses.
+pub(crate) fn id_before_last(cones: &ConeClauses<'_>, before_last: usize) -> Option<u64>
+    ensures { IfSome result (Contains cones.now.ids) }
+{
+    let ids = cones.ids();
+    let place = ids.len().saturating_sub(before_last).saturating_sub(1);
+    if ids.len() <= place {
+        return None;
+    }
+    Some(ids[place])
+}
+
+/// The literal that the clause of this number says.
+pub(crate) fn unit_at(cones: &ConeClauses<'_>, before_last: usize) -> Option<SatLit> {
+    let Some(id) = id_before_last(cones, before_last) else {
+        return None;
+    };
+    let clause = cones.clause(id);
+    Some(clause.lits[0])
 }

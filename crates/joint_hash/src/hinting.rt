@@ -6,7 +6,8 @@ ghost use Rattle.cnf_core.specs.Derivations.{clauses_of, effect_of, hint_fault};
 ghost use Rattle.claim_core.specs.Formulas.{query_clauses};
 ghost use Rattle.joint_hash.specs.Chains.{AreListed, LeadOn};
 
-use cnf_core::{Effect, LogLine, SatLit, ShortAssignment, effect_of};
+use crate::made::Made;
+use cnf_core::{Effect, LogLine, SatLit, effect_of};
 use items::Items;
 use query_core::ConeClauses;
 use std::alloc::{AllocError, Global};
@@ -29,7 +30,7 @@ pub(crate) fn hints_among(
         (map opposite clause.now) ids.now
         → IfOk result (λ found. found ≢ None) }
 {
-    let mut made = ShortAssignment::against(alloc, clause)?;
+    let mut made = Made::against(alloc, clause)?;
     let mut hints = Items::new(alloc);
     for id in ids.iter() {
         if !is_there(cones, lines, *id) {
@@ -41,7 +42,7 @@ pub(crate) fn hints_among(
                 return Ok(Some(hints));
             }
             Effect::Makes(literal) => {
-                made.make(literal)?;
+                made.make(alloc, literal)?;
                 hints.push(*id)?;
             }
             Effect::Neither => {}
@@ -58,7 +59,7 @@ fn is_there(cones: &ConeClauses<'_>, lines: &[LogLine], id: u64) -> bool
 }
 
 // What the clause of a number does under an assignment.
-fn effect_at(cones: &ConeClauses<'_>, lines: &[LogLine], made: &ShortAssignment, id: u64) -> Effect
+fn effect_at(cones: &ConeClauses<'_>, lines: &[LogLine], made: &Made, id: u64) -> Effect
     requires there { id < length (query_clauses cones.now.graphs cones.now.query ++ clauses_of lines.now) }
     requires listed { id < length (query_clauses cones.now.graphs cones.now.query) → Contains cones.now.ids id }
     ensures { result ≡ effect_of made.now

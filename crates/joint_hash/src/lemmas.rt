@@ -4,10 +4,11 @@ ghost use Rattle.std.specs.Prelude.{◌≡◌, ◌≢◌, ◌<◌, ◌∷◌, �
 ghost use Rattle.cnf_core.specs.Clauses.{opposite, variable_of};
 ghost use Rattle.cnf_core.specs.Derivations.{clauses_of};
 ghost use Rattle.claim_core.specs.Formulas.{formula_of, query_clauses};
-ghost use Rattle.joint_hash.specs.Chains.{AreListed, LeadOn, clauses_with};
-ghost use Rattle.joint_hash.specs.Merging.{AreLemmas, IsImplication};
-ghost use Rattle.joint_hash.specs.Trees.{AreJoining};
+ghost use Rattle.joint_hash.specs.Chains.{AddsLines, AreListed, LeadOn, clauses_with};
+ghost use Rattle.joint_hash.specs.Merging.{AreBetween, AreKept, AreLemmas, IsImplication};
+ghost use Rattle.joint_hash.specs.Trees.{IsGateOf};
 
+use crate::gates::ConeGate;
 use crate::hinting::hints_among;
 use cnf_core::{LogLine, SatLit};
 use items::Items;
@@ -43,32 +44,46 @@ pub(crate) fn add_lemma(
     Ok(())
 }
 
-/// Adds the lemma that one of two literals is true, where the clauses of these numbers derive it. Answers whether so.
-pub(crate) fn add_derived(
+/// Adds the lemma that a gate implies another one, where the clauses of these numbers derive it. Answers whether so.
+pub(crate) fn add_implied(
     alloc: Global,
     cones: &ConeClauses<'_>,
-    one: SatLit,
-    other: SatLit,
+    gate: &ConeGate,
+    other: &ConeGate,
     ids: &[u64],
     lines: &mut Vec<LogLine>,
 ) -> Result<bool, AllocError>
-    requires one { variable_of one < (formula_of cones.now.graphs cones.now.query).variables }
-    requires other { variable_of other < (formula_of cones.now.graphs cones.now.query).variables }
-    requires joining { AreJoining cones.now.graphs cones.now.query lines.old.items }
-    requires listed { AreListed (length (query_clauses cones.now.graphs cones.now.query)) cones.now.ids ids.now }
-    requires implies { IsImplication (formula_of cones.now.graphs cones.now.query)
-        (record { clause = one ∷ other ∷ []; hints = ids.now }) }
-    ensures { OnOk result (AreJoining cones.now.graphs cones.now.query lines.new.items) }
+    requires gate { IsGateOf cones.now.graphs cones.now.query gate.now }
+    requires other { IsGateOf cones.now.graphs cones.now.query other.now }
+    requires between { AreBetween (length (query_clauses cones.now.graphs cones.now.query)) gate.now other.now ids.now }
+    requires lemmas { AreLemmas (formula_of cones.now.graphs cones.now.query) lines.old.items }
+    ensures lemmas { OnOk result (AreLemmas (formula_of cones.now.graphs cones.now.query) lines.new.items) }
+    ensures kept { OnOk result (AreKept lines.old.items lines.new.items) }
 {
-    if one.variable() == other.variable() {
+    let _graphs = cones.graphs();
+    let _ids = cones.ids();
+    if gate.output.variable() == other.output.variable() {
         return Ok(false);
     }
-    let clause = pair(alloc, one, other)?;
+    let clause = pair(alloc, gate.output.opposite(), other.output)?;
     let Some(hints) = hints_among(alloc, cones, lines, &clause, ids)? else {
         return Ok(false);
     };
     lines.push(LogLine { clause, hints })?;
     Ok(true)
+}
+
+/// Adds the number of the line at a place.
+pub(crate) fn push_line(
+    cones: &ConeClauses<'_>,
+    place: usize,
+    ids: &mut Vec<u64>,
+) -> Result<(), AllocError>
+    ensures { OnOk result
+        (AddsLines (length (query_clauses cones.now.graphs cones.now.query)) ids.old.items ids.new.items) }
+{
+    ids.push(cones.count().saturating_add(place as u64))?;
+    Ok(())
 }
 
 // The clause of two literals.

@@ -7,8 +7,8 @@ ghost use Rattle.joint_hash.specs.Classes.{AreLate, twin_of};
 ghost use Rattle.joint_hash.specs.Merging.{AreBetween};
 ghost use Rattle.joint_hash.specs.Trees.{AreJoining, IsGateOf};
 
-use crate::gates::{ConeGate, gate_at};
-use crate::lemmas::add_derived;
+use crate::gates::{ConeGate, gate_at, unit_at};
+use crate::lemmas::{add_implied, push_line};
 use crate::twins::{Twin, push_lemma, representative};
 use cnf_core::{LogLine, SatLit};
 use indexmap::IndexMap;
@@ -140,17 +140,6 @@ fn right_at(cones: &ConeClauses<'_>, place: usize) -> Option<ConeGate>
     left_at(cones, place.saturating_add(gates_in(cones)))
 }
 
-// The literal that the clause says whose number is that many before the last one.
-fn unit_at(cones: &ConeClauses<'_>, before_last: usize) -> Option<SatLit> {
-    let ids = cones.ids();
-    let place = ids.len().saturating_sub(before_last).saturating_sub(1);
-    if ids.len() <= place {
-        return None;
-    }
-    let clause = cones.clause(ids[place]);
-    Some(clause.lits[0])
-}
-
 // Wants the implications by which the outputs can't have the values that are asked for. Answers among how many of the
 // cone's gates, from the first one on, lemmas are needed to show it. None is needed above the topmost gate two operands
 // of which are to imply those of its copy: where a gate and its copy differ, propagation goes on to a single operand.
@@ -280,22 +269,13 @@ fn add_implication(
     if !implications.has(gate.output.variable()) {
         return Ok(());
     }
-    // the query fits the graphs, and the numbers are those of the cones' clauses
-    let _graphs = cones.graphs();
-    let _ids = cones.ids();
     let place = lines.len();
     let steps = steps(cones, twins, implications, gate, copy)?;
-    if !add_derived(
-        implications.alloc,
-        cones,
-        gate.output.opposite(),
-        copy.output,
-        &steps,
-        lines,
-    )? {
+    if !add_implied(implications.alloc, cones, gate, copy, &steps, lines)? {
         return Ok(());
     }
-    implications.put(gate, place)
+    implications.put(gate, place)?;
+    Ok(())
 }
 
 // The numbers of the clauses by which a gate implies its copy: it implies its operands, these those of the copy, and
@@ -363,15 +343,6 @@ fn push_constant(cones: &ConeClauses<'_>, ids: &mut Vec<u64>) -> Result<(), Allo
         (AddsLines (length (query_clauses cones.now.graphs cones.now.query)) ids.old.items ids.new.items) }
 {
     ids.push(0)?;
-    Ok(())
-}
-
-// Adds the number of the line at a place.
-fn push_line(cones: &ConeClauses<'_>, place: usize, ids: &mut Vec<u64>) -> Result<(), AllocError>
-    ensures { OnOk result
-        (AddsLines (length (query_clauses cones.now.graphs cones.now.query)) ids.old.items ids.new.items) }
-{
-    ids.push(cones.count().saturating_add(place as u64))?;
     Ok(())
 }
 

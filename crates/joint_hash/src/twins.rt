@@ -71,8 +71,8 @@ fn signed_as(other: SatLit, literal: SatLit) -> SatLit
     }
 }
 
-// Two literals, the one of the lesser number first.
-fn in_order(one: SatLit, other: SatLit) -> (SatLit, SatLit)
+/// Two literals, the one of the lesser number first.
+pub(crate) fn in_order(one: SatLit, other: SatLit) -> (SatLit, SatLit)
     ensures { result ≡ in_order one other }
 {
     if other.0 < one.0 {

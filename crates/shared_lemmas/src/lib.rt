@@ -11,6 +11,7 @@ mod marking;
 mod numbering;
 mod shared;
 mod stock;
+mod structural;
 mod taking;
 mod trimming;
 

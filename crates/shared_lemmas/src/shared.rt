@@ -13,9 +13,11 @@ use crate::guiding::{QuestionPairs, Reporter};
 use crate::keeping::keep;
 use crate::lemmas::{Lemmas, lemmas_for};
 use crate::stock::Stock;
+use crate::structural::answer_by;
 use crate::trim;
 use ask_core::{Answer, Question, ask_guided, ask_watched};
 use cnf_core::Stop;
+use joint_hash::refute;
 use learn_solver::QuestionGuide;
 use net_core::Graphs;
 use query_core::{ConeClauses, Ledger, Query, QueryBase};
@@ -142,8 +144,34 @@ fn are_small(cones: &ConeClauses<'_>) -> bool {
     (count >= LARGE) & (cones.ids().len() as u64 <= count / PART)
 }
 
-// Answers a query by a stock that holds under its feeds, and adds to it.
+// Answers a query by structure, or by a stock that holds under its feeds, and adds to it.
 fn ask_cones<W: Watch>(
+    alloc: Global,
+    question: &Question<'_>,
+    stock: &mut Stock,
+    ledger: &mut Ledger,
+    watch: &W,
+) -> Result<Answer, Stop>
+    requires question { IsQuestion question.now }
+    requires hold { HoldUnder question.now.graphs.now question.now.query.now stock.old.lines.items }
+    requires not_spent { ledger.old.spent ≡ false }
+    ensures held { stock.new.held ≡ stock.old.held }
+    ensures hold { HoldUnder question.now.graphs.now question.now.query.now stock.new.lines.items }
+    ensures asks { Asks (IsAskedBy (λ asked.
+        All (IsPaid question.now.graphs.now question.now.query.now asked) stock.old.lines.items))
+        question.now.graphs.now question.now.query.now ledger.old ledger.new result }
+    ensures paid { All (IsPaid question.now.graphs.now question.now.query.now ledger.old.asked) stock.old.lines.items
+        → OnOk result
+        (All (IsPaid question.now.graphs.now question.now.query.now ledger.new.asked) stock.new.lines.items) }
+{
+    match refute(alloc, question.cones)? {
+        Some(refutation) => answer_by(alloc, question, refutation, ledger),
+        None => ask_by_stock(alloc, question, stock, ledger, watch),
+    }
+}
+
+// Answers a query by a stock that holds under its feeds, and adds to it.
+fn ask_by_stock<W: Watch>(
     alloc: Global,
     question: &Question<'_>,
     stock: &mut Stock,

@@ -5,7 +5,7 @@ ghost use Rattle.claim_core.specs.Queries.{IsQuery};
 use crate::answers::{exceeds, falls, is_query};
 use crate::queries::{are_literals, match_query};
 use cnf_core::LogLine;
-use joint_hash::merge;
+use joint_hash::{merge, refute};
 use net_core::{Graphs, Matching};
 use query_core::{ConeClauses, Query};
 use samples::{GraphPair, matching};
@@ -177,5 +177,79 @@ fn merges_what_a_match_asks(rt: HostRuntime) -> Result<(), Fail> {
     let both = GraphPair::new(rt.alloc(), 2, (&[(2, 4)], 6), (&[(4, 2)], 6))?;
     let identity = matching(rt.alloc(), &[(0, false), (1, false)], &[(0, false)])?;
     assert!(rt; has_match_lemmas(rt.alloc(), &both.graphs(), &identity, BOTH_WAYS)?);
+    Ok(())
+}
+
+/// How many lemmas a refutation by structure needs, if there is one.
+fn needed_for(
+    alloc: Global,
+    graphs: &Graphs<'_>,
+    query: &Query,
+) -> Result<Option<usize>, AllocError>
+    requires { IsQuery graphs.now query.now }
+{
+    let cones = ConeClauses::new(alloc, graphs, query)?;
+    let Some(refutation) = refute(alloc, &cones)? else {
+        return Ok(None);
+    };
+    Ok(Some(refutation.lemmas.len()))
+}
+
+/// Whether the query of a match for its one output, where it is true, is refuted by structure with so many lemmas.
+fn needs_lemmas(
+    alloc: Global,
+    both: &GraphPair,
+    matching: &Matching,
+    wanted: Option<usize>,
+) -> Result<bool, AllocError> {
+    let graphs = both.graphs();
+    let Some(query) = match_query(alloc, &graphs, matching, true)? else {
+        return Ok(false);
+    };
+    let found = needed_for(alloc, &graphs, &query)?;
+    Ok(found == wanted)
+}
+
+/// Gates of two circuits of two inputs, with their outputs, and how many lemmas their comparison needs.
+struct Compared<'a> {
+    first: (&'a [(u32, u32)], u32),
+    second: (&'a [(u32, u32)], u32),
+    lemmas: Option<usize>,
+}
+
+static COMPARED: [Compared<'static>; 4] = [
+    // propagation goes through one pair of gates
+    Compared {
+        first: (&[(2, 4)], 6),
+        second: (&[(4, 2)], 6),
+        lemmas: Some(0),
+    },
+    // an exclusive or: of the two pairs below the topmost one goes by a lemma
+    Compared {
+        first: (&[(2, 5), (3, 4), (7, 9)], 11),
+        second: (&[(4, 3), (2, 5), (7, 9)], 11),
+        lemmas: Some(1),
+    },
+    // another tree
+    Compared {
+        first: (&[(2, 4)], 6),
+        second: (&[(2, 5)], 6),
+        lemmas: None,
+    },
+    // an output that is an input
+    Compared {
+        first: (&[], 2),
+        second: (&[(2, 4)], 2),
+        lemmas: Some(0),
+    },
+];
+
+#[test]
+fn refutes_by_structure(rt: HostRuntime) -> Result<(), Fail> {
+    let identity = matching(rt.alloc(), &[(0, false), (1, false)], &[(0, false)])?;
+    for row in COMPARED.iter() {
+        let both = GraphPair::new(rt.alloc(), 2, row.first, row.second)?;
+        assert!(rt; needs_lemmas(rt.alloc(), &both, &identity, row.lemmas)?);
+    }
     Ok(())
 }
