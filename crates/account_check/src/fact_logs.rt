@@ -6,8 +6,8 @@ ghost use Rattle.account_check.specs.Logs.{unshown};
 ghost use Rattle.account_check.specs.Proofs.{IsLastOf};
 
 use crate::fact_log::FactLog;
+use claim_core::Claim;
 use net_core::{Graphs, Side};
-use query_core::Claim;
 use std::alloc::{AllocError, Global};
 use std::marker::Model;
 

@@ -6,8 +6,8 @@ ghost use Rattle.account_check.specs.Facts.{AreInputs, ArePortsThere, FactTests,
 use crate::reject::Reject;
 use ban_check::{Evaluator, breaks, have_as_many};
 use bit_list::Bits;
+use claim_core::{Claim, Shape};
 use net_core::Graphs;
-use query_core::{Claim, Shape};
 use std::alloc::{AllocError, Global};
 
 /// What is wrong with the line of a claim that fails: what would be wrong with it where it holds; or that its vector

@@ -8,9 +8,9 @@ ghost use Rattle.account_check.specs.declared.reject.Reject.{Reject as AnyReject
 
 use crate::open_log::OpenLog;
 use crate::reject::RecordStop;
+use claim_core::of_match;
 use cnf_core::LogLine;
 use net_core::{Graphs, Matching};
-use query_core::of_match;
 use std::alloc::{AllocError, Global};
 use std::marker::Model;
 

@@ -9,9 +9,10 @@ ghost use Rattle.account_check.specs.declared.reject.RecordStop.TheVariants as s
 ghost use Rattle.account_check.specs.declared.reject.Reject.{Reject as AnyReject};
 
 use crate::reject::RecordStop;
+use claim_core::Query;
 use cnf_core::LogLine;
 use net_core::{Graphs, Matching};
-use query_core::{Query, QueryBase};
+use query_core::QueryBase;
 use refute_check::Refuter;
 use std::alloc::{AllocError, Global};
 use std::marker::Model;

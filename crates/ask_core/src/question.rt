@@ -9,11 +9,12 @@ ghost use Rattle.ask_core.specs.Answers.{Asks, IsAskedIn, IsPaidFor, IsQuestion,
 
 use crate::vector::vector_of;
 use crate::{DenseVerdict, Tab, solve_dense};
+use claim_core::Query;
 use cnf_core::{Log, LogLine, Stop};
 use items::Items;
 use joint_hash::merge;
 use net_core::Graphs;
-use query_core::{ConeClauses, Ledger, Query};
+use query_core::{ConeClauses, Ledger};
 use std::alloc::Global;
 use watch_core::{Silent, Watch};
 

@@ -7,9 +7,9 @@ ghost use Rattle.claim_core.specs.ConeClauses.{MeetsCones};
 ghost use Rattle.ask_core.specs.Answers.{IsVector};
 
 use bit_list::Marks;
+use claim_core::Query;
 use items::Items;
 use net_core::Graphs;
-use query_core::Query;
 use std::alloc::{AllocError, Global};
 
 /// The bits of the input variables, where the values meet the clauses of a query's cones.

@@ -9,13 +9,13 @@ ghost use Rattle.class_refine.specs.Rows.{AreAllRows, AreRowsOf};
 use crate::swap_index::swaps_of;
 use account_core::PairableGraphs;
 use ban_book::InputClaims;
+use claim_core::Claim;
 use cnf_core::Stop;
 use fact_bans::{Asker, claims_of};
 use indexmap::IndexMap;
 use items::Items;
 use net_core::Side;
 use oracle_core::Oracle;
-use query_core::Claim;
 
 /// What is told of each output of both circuits: a row with its claims of one input, in the order of the outputs.
 pub(crate) struct Rows {

@@ -9,8 +9,8 @@ ghost use Rattle.class_refine.specs.Swaps.{IsIndexOfFirst, IsSwapIndex, number_i
 
 use crate::swaps::claim_at;
 use account_core::Fact;
+use claim_core::{Claim, Shape};
 use indexmap::IndexMap;
-use query_core::{Claim, Shape};
 use std::alloc::{AllocError, Global};
 
 /// The numbers of the facts of claims of two inputs, by claim.

@@ -16,9 +16,9 @@ use crate::swap_index::number_of;
 use account_core::{Ban, Evidence, Fact};
 use ban_book::{DecidedClaim, mismatch_ban, moved_value, two_inputs, unlike_of};
 use circuits::{Pair, PortKind};
+use claim_core::{Claim, Shape, pair_of};
 use indexmap::IndexMap;
 use net_core::Side;
-use query_core::{Claim, Shape, pair_of};
 use std::alloc::{AllocError, Global};
 
 /// The pairs of the output and of both inputs of a claim of the first circuit, with the inputs' values.

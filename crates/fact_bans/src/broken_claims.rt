@@ -1,8 +1,8 @@
 use crate::sampling::{Flips, sampled};
 use crate::swaps::{Swaps, blocks_for_swaps, swaps_seen};
 use account_core::{PairableGraphs, Tallied};
+use claim_core::{Claim, Shape};
 use net_core::Side;
-use query_core::{Claim, Shape};
 use std::alloc::{AllocError, Global};
 
 /// No number was noted.

@@ -14,10 +14,10 @@ use crate::mismatched::hold_by;
 use account_core::PairableGraphs;
 use ban_book::{BanBook, Carried, moved_value, two_inputs};
 use circuits::Pair;
+use claim_core::{Claim, Shape};
 use cnf_core::Stop;
 use net_core::Side;
 use oracle_core::Oracle;
-use query_core::{Claim, Shape};
 
 /// The pairs of two inputs and of an output.
 #[derive(Clone, Copy, Debug, Drop)]

@@ -11,11 +11,11 @@ ghost use Rattle.fact_bans.specs.Wanted.{ListsWanted, MayList};
 use crate::asker::Asker;
 use crate::told::add_fact;
 use ban_book::one_input;
+use claim_core::Claim;
 use cnf_core::Stop;
 use items::Items;
 use net_core::Side;
 use oracle_core::Oracle;
-use query_core::Claim;
 
 /// An output of a circuit, and which facts of it are wanted: that claims hold, or that they fail; and of each input
 /// that is asked about both claims, or one.

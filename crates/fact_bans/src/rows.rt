@@ -11,11 +11,11 @@ use crate::asker::Asker;
 use crate::told::decide;
 use account_core::PairableGraphs;
 use ban_book::InputClaims;
+use claim_core::{Claim, Shape};
 use cnf_core::Stop;
 use items::Items;
 use net_core::Side;
 use oracle_core::Oracle;
-use query_core::{Claim, Shape};
 
 /// Has both claims of each input of an output decided: that it never falls where the input goes up, and that it never
 /// falls where the input goes down. Answers what is told of them, in the order of the inputs. A claim whose number is

@@ -1,9 +1,9 @@
 //! Claims of two inputs that vectors break.
 
 use crate::sampling::put_block;
+use claim_core::Shape;
 use net_core::Graph;
 use port_cells::{Draws, FlipSim, Lanes, blocks_of_all, ones_in};
-use query_core::Shape;
 use std::alloc::{AllocError, Global};
 
 /// How many words of gates may be computed of a circuit: about half a second. Nothing is seen of a circuit for which

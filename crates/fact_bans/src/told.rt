@@ -11,10 +11,10 @@ use crate::asker::Asker;
 use crate::broken_claims::BrokenClaims;
 use account_core::Fact;
 use ban_book::DecidedClaim;
+use claim_core::Claim;
 use cnf_core::Stop;
 use items::Items;
 use oracle_core::Oracle;
-use query_core::Claim;
 
 /// Has a claim decided. Where it fails, that is noted as seen.
 pub(crate) fn decide<O: Oracle>(

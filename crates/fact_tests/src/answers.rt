@@ -3,9 +3,9 @@
 ghost use Rattle.std.specs.Prelude.{◌≡◌, ◌≢◌, ◌++◌, ◌∷◌, [], All, Contains, IfOk, IfSome, IfNone, OnOk, OnErr};
 
 use ask_core::Answer;
+use claim_core::Query;
 use indexmap::IndexMap;
 use items::Items;
-use query_core::Query;
 use std::alloc::{AllocError, Global};
 use std::marker::Model;
 

@@ -10,10 +10,11 @@ ghost use Rattle.fact_tests.specs.Supports.{IsOutside};
 
 use account_core::Evidence;
 use ask_core::{Answer, ask_watched};
+use claim_core::{Claim, Query, of_claim};
 use cnf_core::{Log, LogLine, Stop};
 use items::Items;
 use net_core::Graphs;
-use query_core::{Claim, Ledger, Query, count_of, of_claim};
+use query_core::{Ledger, count_of};
 use shared_lemmas::{SharedLemmas, trim};
 use std::alloc::{AllocError, Global};
 use watch_core::Watch;

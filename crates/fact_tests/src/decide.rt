@@ -10,9 +10,10 @@ ghost use Rattle.fact_tests.specs.Asking.{Decides, DecidesClaim};
 
 use account_core::Evidence;
 use ask_core::Answer;
+use claim_core::{Claim, Query};
 use cnf_core::Stop;
 use net_core::Graphs;
-use query_core::{Claim, Ledger, Query};
+use query_core::Ledger;
 use std::alloc::Global;
 use watch_core::Stage;
 

@@ -4,9 +4,9 @@ ghost use Rattle.std.specs.Prelude.{◌≡◌, ◌≢◌, ◌∷◌, [], ◌++�
 ghost use Rattle.oracle_core.specs.Oracles.{IsNumberOf};
 
 use account_core::Fact;
+use claim_core::Claim;
 use indexmap::IndexSet;
 use items::Items;
-use query_core::Claim;
 use std::alloc::{AllocError, Global};
 use std::marker::Model;
 

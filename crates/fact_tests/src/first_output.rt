@@ -8,10 +8,11 @@ ghost use Rattle.fact_tests.specs.Outputs.{MayAsk};
 ghost use Rattle.sim_signature.specs.Supports.{output_reaches};
 
 use crate::readers::Readers;
+use claim_core::{Claim, Shape};
 use cnf_core::Stop;
 use net_core::{Graphs, Side};
 use oracle_core::Oracle;
-use query_core::{Claim, Ledger, Shape};
+use query_core::Ledger;
 use sim_signature::Supports;
 use std::alloc::Global;
 

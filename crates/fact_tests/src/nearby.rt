@@ -7,9 +7,9 @@ ghost use Rattle.fact_tests.specs.Hunting.{IsOf};
 
 use crate::sightings::group_with;
 use bit_list::Bits;
+use claim_core::Shape;
 use items::Items;
 use net_core::Graph;
-use query_core::Shape;
 use sim_signature::Signatures;
 use std::alloc::{AllocError, Global};
 use std::marker::Model;

@@ -5,8 +5,8 @@ ghost use Rattle.claim_core.specs.Claims.{BreaksShape, IsPlaced};
 ghost use Rattle.fact_tests.specs.Hunting.{IsGroup};
 
 use bit_list::Bits;
+use claim_core::Shape;
 use net_core::Graph;
-use query_core::Shape;
 use sim_signature::Signatures;
 use std::alloc::{AllocError, Global};
 use std::marker::Model;

@@ -9,10 +9,10 @@ ghost use Rattle.claim_core.specs.Rows.{IsEntry};
 
 use crate::first_output::FirstOutput;
 use crate::local_exchange::shows_exchange;
-use claim_core::Unate;
+use claim_core::{Shape, Unate};
 use cnf_core::Stop;
 use oracle_core::Oracle;
-use query_core::{Ledger, Shape};
+use query_core::Ledger;
 
 /// An exchange of two inputs of an output, the lesser one first, with how the output depends on them: as they are, or
 /// each inverted.

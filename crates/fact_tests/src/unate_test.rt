@@ -5,10 +5,10 @@ ghost use Rattle.oracle_core.specs.Oracles.{Serves};
 ghost use Rattle.fact_tests.specs.Outputs.{IsDependence, IsOutput, MayAsk, arity, dependence, function};
 
 use crate::first_output::FirstOutput;
-use claim_core::Unate;
+use claim_core::{Shape, Unate};
 use cnf_core::Stop;
 use oracle_core::Oracle;
-use query_core::{Ledger, Shape};
+use query_core::Ledger;
 
 /// How the output depends on an input: None where the input is outside the support, which is asked only where the
 /// output reaches the input.

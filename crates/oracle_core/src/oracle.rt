@@ -8,9 +8,10 @@ ghost use Rattle.oracle_core.specs.Oracles.{Claims, Compares, Known, Suits};
 
 use account_core::Fact;
 use bit_list::Bits;
+use claim_core::Claim;
 use cnf_core::{Log, Stop};
 use net_core::Matching;
-use query_core::{Claim, Ledger};
+use query_core::Ledger;
 use std::alloc::Global;
 use watch_core::Stage;
 

@@ -18,7 +18,7 @@ pub use asked_query::AskedQuery;
 pub use base::QueryBase;
 pub use charged::ChargedLines;
 pub use claim_base::ClaimBase;
-pub use claim_core::{Claim, Cone, Feed, Feeds, Query, Shape, image, of_claim, of_match, pair_of};
+pub use claim_core::{Claim, Cone, Feed, Query, Shape, image, of_claim, of_match};
 pub use clauses::count_of;
 pub use cone_clauses::ConeClauses;
 pub use ledger::{Asked, Ledger};

@@ -5,11 +5,12 @@ ghost use Rattle.claim_core.specs.Claims.{IsClaim, IsPlaced};
 
 use crate::sample_circuits::{AND, AND_OF_THREE, Sample, WIRE, are_small, drawn_pair, pair};
 use account_core::{Evidence, Fact, PairableGraphs};
+use claim_core::{Claim, Shape};
 use cnf_core::Stop;
 use fact_tests::FactBook;
 use net_core::{Graph, Graphs, Side};
 use oracle_core::Oracle;
-use query_core::{Claim, Ledger, Shape};
+use query_core::Ledger;
 use samples::output_on;
 use std::alloc::{AllocError, Global};
 use std::test::Fail;

@@ -3,7 +3,7 @@
 ghost use Rattle.std.specs.Prelude.{IsTrue};
 ghost use Rattle.shared_lemmas.specs.Shared.{HaveSameFeeds};
 
-use query_core::Query;
+use claim_core::Query;
 
 /// Whether two queries are of the same circuits, whose inputs get the same bits in both. Only `true` is promised to
 /// be right.

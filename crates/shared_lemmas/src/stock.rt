@@ -2,9 +2,9 @@
 
 ghost use Rattle.std.specs.Prelude.{◌≡◌, []};
 
+use claim_core::Query;
 use cnf_core::{LogLine, SatLit};
 use indexmap::IndexMap;
-use query_core::Query;
 use std::alloc::{AllocError, Global};
 
 /// The places of lines of two literals. They are found by these: the lemmas by which two gates are one come anew with

@@ -4,10 +4,11 @@ ghost use Rattle.claim_core.specs.Queries.{IsQuery};
 
 use crate::answers::{exceeds, falls, is_query};
 use crate::queries::{are_literals, match_query};
+use claim_core::Query;
 use cnf_core::LogLine;
 use joint_hash::{merge, refute};
 use net_core::{Graphs, Matching};
-use query_core::{ConeClauses, Query};
+use query_core::ConeClauses;
 use samples::{GraphPair, matching};
 use std::alloc::{AllocError, Global};
 use std::test::Fail;

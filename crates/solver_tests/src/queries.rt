@@ -3,12 +3,11 @@
 ghost use Rattle.std.specs.Prelude.{IfOk, IfSome};
 ghost use Rattle.claim_core.specs.Queries.{IsQuery};
 
+use claim_core::{Claim, Feed, Feeds, Query, Shape, image, of_claim, of_match};
 use cnf_core::{Base, SatLit};
 use items::Items;
 use net_core::{Graphs, Matching, Pair, PortKind, Side};
-use query_core::{
-    Claim, ConeClauses, Feed, Feeds, Query, QueryBase, Shape, image, of_claim, of_match,
-};
+use query_core::{ConeClauses, QueryBase};
 use samples::{GraphPair, graph, matching};
 use std::alloc::{AllocError, Global};
 use std::collections::HashMap;

@@ -2,8 +2,8 @@
 
 use crate::truth_tables::{is_on, outputs};
 use bit_list::Bits;
+use claim_core::Shape;
 use net_core::Graph;
-use query_core::Shape;
 use rand_pcg::Pcg32;
 use samples::{drawn, graph};
 use sim_signature::{Sighting, hunt};

@@ -4,10 +4,11 @@ ghost use Rattle.std.specs.Prelude.{◌≡◌, ◌%◌, ◌<◌, ◌∷◌, [], 
 ghost use Rattle.query_core.specs.Ledgers.{charging_of};
 
 use crate::refutation::{count_taken, is_refutation};
+use claim_core::{Cone, Feeds, Query};
 use cnf_core::{Base, Clause3, SatLit, Stop};
 use learn_solver::{Solver, Verdict, solve};
 use net_core::Side;
-use query_core::{Cone, Feeds, Ledger, Query};
+use query_core::Ledger;
 use rand_core::utils::NextWord;
 use rand_pcg::Pcg32;
 use refute_check::Refuter;

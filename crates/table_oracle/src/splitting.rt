@@ -17,10 +17,11 @@ ghost use Rattle.table_oracle.specs.Splits.{IsSplitting, clauses_in, excluding, 
 
 use crate::clauses::has_all;
 use crate::vectors::vector_of;
+use claim_core::Query;
 use cnf_core::{Base, Charge, Effect, Log, LogLine, SatLit, ShortAssignment, Stop, effect_of};
 use items::Items;
 use net_core::Graphs;
-use query_core::{Ledger, Query, QueryBase};
+use query_core::{Ledger, QueryBase};
 use std::alloc::{AllocError, Global};
 
 /// Refutes a query that no vector meets. The vectors are excluded by the bits that they begin with: first all bits,

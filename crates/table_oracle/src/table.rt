@@ -6,11 +6,12 @@ ghost use Rattle.oracle_core.specs.Oracles.{Suits};
 
 use crate::answering::AllVectors;
 use account_core::{Fact, PairableGraphs};
+use claim_core::Claim;
 use cnf_core::Stop;
 use fact_tests::Book;
 use net_core::Matching;
 use oracle_core::{Compared, Oracle};
-use query_core::{Claim, Ledger};
+use query_core::Ledger;
 use std::alloc::{AllocError, Global};
 use std::marker::Model;
 use watch_core::Stage;

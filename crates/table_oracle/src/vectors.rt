@@ -6,9 +6,9 @@ ghost use Rattle.claim_core.specs.Queries.{IsCone, IsQuery, IsUnmet, IsWired, Me
 ghost use Rattle.ask_core.specs.Answers.{IsVector};
 
 use circuits::plain::write_vector;
+use claim_core::{Cone, Feed, Feeds, Query};
 use items::Items;
 use net_core::{Graphs, lit_value};
-use query_core::{Cone, Feed, Feeds, Query};
 use std::alloc::{AllocError, Global};
 
 /// The first vector, by its number, that meets a query, or `None` where none does.

@@ -6,10 +6,11 @@ ghost use Rattle.claim_core.specs.Queries.{IsQuery};
 
 use anyhow::{Result, bail, ensure};
 use ask_core::{Answer, ask};
+use claim_core::{Query, of_match};
 use cnf_core::{Log, Stop};
 use items::Items;
 use net_core::{Graphs, Matching};
-use query_core::{Ledger, Query, QueryBase, of_match};
+use query_core::{Ledger, QueryBase};
 use refute_check::Refuter;
 use std::alloc::{AllocError, AllocFailed, Global};
 

@@ -5,9 +5,10 @@ ghost use Rattle.claim_core.specs.Claims.{IsClaim};
 
 use anyhow::{Result, bail};
 use ask_core::{Answer, ask};
+use claim_core::{Claim, Shape, of_claim};
 use cnf_core::Stop;
 use net_core::{Graph, Graphs, Side};
-use query_core::{Claim, Ledger, Shape, of_claim};
+use query_core::Ledger;
 use sim_signature::Supports;
 use std::alloc::Global;
 

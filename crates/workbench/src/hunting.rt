@@ -3,8 +3,8 @@
 ghost use Rattle.std.specs.Prelude.{◌<◌, length};
 
 use anyhow::Result;
+use claim_core::Shape;
 use net_core::Graph;
-use query_core::Shape;
 use sim_signature::hunt;
 use std::alloc::{AllocError, Global};
 
