@@ -20,7 +20,7 @@ pub enum Entry {
     End,
 }
 
-// By hand: a derived drop is expanded, field by field, wherever a value ends, and makes proofs long.
+// By hand, so that each exit of a function has one call for it (docs/IDIOMS.md).
 impl Drop for Entry {
     fn drop(self) {
         match self {

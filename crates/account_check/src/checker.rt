@@ -81,7 +81,7 @@ impl<'a> Model for Checker<'a> {
     ghost invariant = { λ a. IsChecker a.evaluator a.stage a.facts };
 }
 
-// By hand: a derived drop is expanded, field by field, wherever a value ends, and makes proofs long.
+// By hand, so that each exit of a function has one call for it (docs/IDIOMS.md).
 impl Drop for Checker<'_> {
     fn drop(self) {
         let Checker {

@@ -37,7 +37,7 @@ impl<'a> Model for FactLog<'a> {
     ghost invariant = { λ a. IsFactLog a.claim a.refuter.base };
 }
 
-// By hand: a derived drop is expanded, field by field, wherever a value ends, and makes proofs long.
+// By hand, so that each exit of a function has one call for it (docs/IDIOMS.md).
 impl Drop for FactLog<'_> {
     fn drop(self) {
         let FactLog {

@@ -31,8 +31,7 @@ impl<'a> Model for FactLogs<'a> {
     ghost invariant = { λ a. AreLastLogs a.graphs.now a.first a.second };
 }
 
-// By hand, and so one call wherever a value ends: a derived drop is expanded there, field by field, and makes proofs
-// long.
+// By hand, so that each exit of a function has one call for it (docs/IDIOMS.md).
 impl Drop for FactLogs<'_> {
     fn drop(self) {
         let FactLogs {

@@ -38,7 +38,7 @@ impl<'a> Model for Logs<'a> {
     ghost invariant = { λ a. IsProof a.graphs.now a.matching a.closed a.log };
 }
 
-// By hand: a derived drop is expanded, field by field, wherever a value ends, and makes proofs long.
+// By hand, so that each exit of a function has one call for it (docs/IDIOMS.md).
 impl Drop for Logs<'_> {
     fn drop(self) {
         let Logs {

@@ -36,7 +36,7 @@ impl<'a> Model for OpenLog<'a> {
     ghost invariant = { λ a. IsLogSoFar a.refuter.base.graphs a.refuter.base.query a.refuter.taken };
 }
 
-// By hand: a derived drop is expanded, field by field, wherever a value ends, and makes proofs long.
+// By hand, so that each exit of a function has one call for it (docs/IDIOMS.md).
 impl Drop for OpenLog<'_> {
     fn drop(self) {
         let OpenLog { refuter: _refuter } = self;

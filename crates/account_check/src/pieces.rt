@@ -34,7 +34,7 @@ impl<'a> Model for AccountCheck<'a> {
     ghost view = { λ a. record { reading = a.reader; account = a.checker } };
 }
 
-// By hand: a derived drop is expanded, field by field, wherever a value ends, and makes proofs long.
+// By hand, so that each exit of a function has one call for it (docs/IDIOMS.md).
 impl Drop for AccountCheck<'_> {
     fn drop(self) {
         let AccountCheck {

@@ -16,7 +16,7 @@ pub enum Evidence {
     Holds(Log),
 }
 
-// By hand: a derived drop is expanded, field by field, wherever a value ends, and makes proofs long.
+// By hand, so that each exit of a function has one call for it (docs/IDIOMS.md).
 impl Drop for Evidence {
     fn drop(self) {
         match self {
@@ -33,7 +33,7 @@ pub struct Fact {
     pub evidence: Evidence,
 }
 
-// By hand too.
+// By hand, so that each exit of a function has one call for it (docs/IDIOMS.md).
 impl Drop for Fact {
     fn drop(self) {
         let Fact {

@@ -44,7 +44,7 @@ pub enum Step {
     },
 }
 
-// By hand: a derived drop is expanded, field by field, wherever a value ends, and makes proofs long.
+// By hand, so that each exit of a function has one call for it (docs/IDIOMS.md).
 impl Drop for Step {
     fn drop(self) {
         match self {
@@ -78,7 +78,7 @@ pub struct Ban {
     pub step: Step,
 }
 
-// By hand too.
+// By hand, so that each exit of a function has one call for it (docs/IDIOMS.md).
 impl Drop for Ban {
     fn drop(self) {
         let Ban {

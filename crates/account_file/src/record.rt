@@ -18,7 +18,7 @@ pub enum Record {
     End,
 }
 
-// By hand: a derived drop is expanded, field by field, wherever a value ends, and makes proofs long.
+// By hand, so that each exit of a function has one call for it (docs/IDIOMS.md).
 impl Drop for Record {
     fn drop(self) {
         match self {

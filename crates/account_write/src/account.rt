@@ -27,7 +27,7 @@ pub struct Account {
     back: Items<Record>,
 }
 
-// By hand: a derived drop is expanded, field by field, wherever a value ends, and makes proofs long.
+// By hand, so that each exit of a function has one call for it (docs/IDIOMS.md).
 impl Drop for Account {
     fn drop(self) {
         let Account {

@@ -34,7 +34,7 @@ impl<'a> Model for Evaluator<'a> {
     ghost invariant = { λ a. AreSidesOf a.graphs.now a.first a.second };
 }
 
-// By hand: a derived drop is expanded, field by field, wherever a value ends, and makes proofs long.
+// By hand, so that each exit of a function has one call for it (docs/IDIOMS.md).
 impl Drop for Evaluator<'_> {
     fn drop(self) {
         let Evaluator {
@@ -123,7 +123,7 @@ impl<'a> Model for OutputValues<'a> {
     ghost invariant = { λ a. AreCones a.graph.now a.cones.by_output.entries };
 }
 
-// By hand too.
+// By hand, so that each exit of a function has one call for it (docs/IDIOMS.md).
 impl Drop for OutputValues<'_> {
     fn drop(self) {
         let OutputValues {

@@ -42,7 +42,7 @@ impl Model for Marks {
     ghost invariant = { λ a. AreBelow a.form };
 }
 
-// By hand: a derived drop is expanded, field by field, wherever a value ends, and makes proofs long.
+// By hand, so that each exit of a function has one call for it (docs/IDIOMS.md).
 impl Drop for Marks {
     fn drop(self) {
         let Marks { form: _form } = self;

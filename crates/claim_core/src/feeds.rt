@@ -47,7 +47,7 @@ impl Model for Feeds {
     ghost view = { λ a. feeds_in a.form };
 }
 
-// By hand: a derived drop is expanded, field by field, wherever a value ends, and makes proofs long.
+// By hand, so that each exit of a function has one call for it (docs/IDIOMS.md).
 impl Drop for Feeds {
     fn drop(self) {
         let Feeds { form: _form } = self;

@@ -33,8 +33,7 @@ impl<'a, W: Watch> Model for FactBook<'a, W> {
     ghost view = { λ a. a.book };
 }
 
-// By hand, and not derived: so a function that owns a book has one call at each exit, and not the drops of all that is
-// in it, which would be the most of its proof.
+// By hand, so that each exit of a function has one call for it (docs/IDIOMS.md).
 impl<'a, W: Watch> Drop for FactBook<'a, W> {
     fn drop(self) {
         let FactBook { book: _book } = self;

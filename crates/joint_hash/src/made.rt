@@ -39,7 +39,7 @@ impl Model for Made {
     ghost invariant = { λ a. NumbersTell a.literals.items a.numbers };
 }
 
-// By hand, and so one call wherever a value ends: a derived drop is expanded there, field by field, and makes proofs long.
+// By hand, so that each exit of a function has one call for it (docs/IDIOMS.md).
 impl Drop for Made {
     fn drop(self) {
         let Made {

@@ -19,7 +19,7 @@ impl Model for AskedQuery {
     ghost view = { λ a. a.inside.value };
 }
 
-// By hand: a derived drop is expanded, field by field, wherever a value ends, and makes proofs long.
+// By hand, so that each exit of a function has one call for it (docs/IDIOMS.md).
 impl Drop for AskedQuery {
     fn drop(self) {
         let AskedQuery { inside: _inside } = self;

@@ -32,7 +32,7 @@ impl<'a> Model for QueryBase<'a> {
     ghost invariant = { λ a. IsAsking a.graphs.now a.query a.left a.right };
 }
 
-// By hand: a derived drop is expanded, field by field, wherever a value ends, and makes proofs long.
+// By hand, so that each exit of a function has one call for it (docs/IDIOMS.md).
 impl Drop for QueryBase<'_> {
     fn drop(self) {
         let QueryBase {

@@ -43,8 +43,7 @@ impl<'a> Model for ClaimBase<'a> {
     ghost invariant = { λ a. IsTelling a.graphs.now a.query a.left a.right a.cone.gates.items a.cone.marked a.whole };
 }
 
-// By hand, and so one call wherever a value ends: a derived drop is expanded there, field by field, and makes proofs
-// long.
+// By hand, so that each exit of a function has one call for it (docs/IDIOMS.md).
 impl Drop for ClaimBase<'_> {
     fn drop(self) {
         let ClaimBase {

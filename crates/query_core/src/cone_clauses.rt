@@ -37,7 +37,7 @@ impl<'a> Model for ConeClauses<'a> {
     ghost invariant = { λ a. IsConing a.graphs.now a.query a.left a.right a.ids.items };
 }
 
-// By hand: a derived drop is expanded, field by field, wherever a value ends, and makes proofs long.
+// By hand, so that each exit of a function has one call for it (docs/IDIOMS.md).
 impl Drop for ConeClauses<'_> {
     fn drop(self) {
         let ConeClauses {

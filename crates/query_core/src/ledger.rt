@@ -54,7 +54,7 @@ impl Model for Ledger {
         IsLedger (record { budget = a.budget; asked = a.asked.items; spent = a.spent }) a.learned a.arena.items };
 }
 
-// By hand: a derived drop is expanded, field by field, wherever a value ends, and makes proofs long.
+// By hand, so that each exit of a function has one call for it (docs/IDIOMS.md).
 impl Drop for Ledger {
     fn drop(self) {
         let Ledger {

@@ -21,7 +21,7 @@ impl Model for Lines {
     ghost view = { λ a. map (λ line. line.value) a.inside.items };
 }
 
-// By hand: a derived drop is expanded, field by field, wherever a value ends, and makes proofs long.
+// By hand, so that each exit of a function has one call for it (docs/IDIOMS.md).
 impl Drop for Lines {
     fn drop(self) {
         let Lines { inside: _inside } = self;

@@ -59,7 +59,7 @@ enum Room {
     Unbounded,
 }
 
-// By hand: a derived drop is expanded, field by field, wherever a value ends, and makes proofs long.
+// By hand, so that each exit of a function has one call for it (docs/IDIOMS.md).
 impl<F: Drop, A: Allocator> Drop for Opened<F, A> {
     fn drop(self) {
         match self {
