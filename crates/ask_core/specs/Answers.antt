@@ -48,8 +48,8 @@ pub record IsLearnedLine (graphs : Graphs) (query : Query) (earlier : List LogLi
   pub fresh : AllOfCones graphs query (λ clause. has_all line.clause clause ≡ false)
   pub unlike_earlier : All (λ clause. has_all line.clause clause ≡ false) (clauses_of earlier)
 
--- A query was asked by these lemmas: it stands last in the ledger, with them and then with lines that were learned for it. The
--- entries before stay.
+-- A query was asked by these lemmas: it stands last in the ledger, with them and then with lines that were learned for
+-- it. The entries before stay.
 pub record IsAskedWith (lemmas : List LogLine) (graphs : Graphs) (query : Query) (old new : Ledgered) : Type 0 where
   pub lines : List LogLine
   pub begin : take (length lemmas) lines ≡ lemmas
@@ -61,8 +61,8 @@ pub record IsAskedWith (lemmas : List LogLine) (graphs : Graphs) (query : Query)
   pub budget : new.budget ≡ old.budget
   pub asked : new.asked ≡ with_lines lines (opened query lemmas old.asked)
 
--- A query was asked by lemmas that joint hashing finds: by each a gate implies another one, from the clauses of the two gates
--- and from lemmas before it. So no lemma is a line that was learned.
+-- A query was asked by lemmas that joint hashing finds: by each a gate implies another one, from the clauses of the two
+-- gates and from lemmas before it. So no lemma is a line that was learned.
 pub record IsAskedIn (graphs : Graphs) (query : Query) (old new : Ledgered) : Type 0 where
   pub lemmas : List LogLine
   pub are : AreLemmas (formula_of graphs query) lemmas
@@ -81,8 +81,8 @@ abbrev pub IsStoppedAfter : Type 0 → Ledgered → Ledgered → Stop → Type 0
 IsStoppedAfter P old new (Spent learned) = IsSpentAfter P old new learned
 IsStoppedAfter P old new Memory = Unit {0}
 
--- at most 3^n lines were learned for the last entry, a refused one counted, over the n variables of a query's formula: as
--- many as there are clauses in which each of them stands plain, stands negated or doesn't stand
+-- at most 3^n lines were learned for the last entry, a refused one counted, over the n variables of a query's formula:
+-- as many as there are clauses in which each of them stands plain, stands negated or doesn't stand
 abbrev pub IsBounded : Graphs → Query → Ledgered → Type 0
 IsBounded graphs query ledger = charged_in (last_asked ledger.asked) ≤ 3 ^ (formula_of graphs query).variables
 

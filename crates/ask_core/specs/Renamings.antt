@@ -107,8 +107,8 @@ pub record IsDense (names : List ℕ) (clauses : List Clause3) : Type 0 where
 abbrev pub numbers_of : List ℕ → ℕ → ℕ → List ℕ
 numbers_of ids count lemmas = ids ++ map (λ j. count + j) (range_with_len 0 lemmas)
 
--- Clauses over variables of their own are clauses of a formula and of lemmas after it, over that one's variables: clause k is
--- the one of the number that is listed for it.
+-- Clauses over variables of their own are clauses of a formula and of lemmas after it, over that one's variables:
+-- clause k is the one of the number that is listed for it.
 pub record IsRenaming (small : Formula) (names numbers : List ℕ) (full : Formula) (lemmas : List LogLine) : Type 0 where
   pub names_are : AreNames full.variables names
   pub variables : small.variables ≡ length names

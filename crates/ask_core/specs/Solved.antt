@@ -57,8 +57,8 @@ abbrev pub AreRefused : {O : Type 0} → Charging O → List LogLine → Chargin
 AreRefused {O} old lines new (Spent learned) = AreOverdrawn old lines new learned
 AreRefused {O} old lines new Memory = Unit {0}
 
--- an answer over names and the one over the formula's variables: each variable has the bit of its name, or the log has the
--- lemmas and then the lines
+-- an answer over names and the one over the formula's variables: each variable has the bit of its name, or the log has
+-- the lemmas and then the lines
 abbrev pub IsTold : List ℕ → ℕ → List LogLine → Finding → DenseVerdict → Type 0
 IsTold names variables lines (Model values) (Full full) = IsSpread names values variables full
 IsTold names variables lines Refuted (Logged whole) = whole.lines ≡ lines

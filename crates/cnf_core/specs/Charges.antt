@@ -4,8 +4,8 @@ use Rattle.cnf_core.specs.declared.log.LogLine.{LogLine}
 use Rattle.cnf_core.specs.declared.stop.Stop.{Stop}
 use Rattle.cnf_core.specs.declared.stop.Stop.TheVariants.{Spent, Memory}
 
--- How many lines may be learned, and how many were made, a refused one counted; whether an entry is open, and its lines;
--- whether the last of them was refused; and what else there is, which no charge changes.
+-- How many lines may be learned, and how many were made, a refused one counted; whether an entry is open, and its
+-- lines; whether the last of them was refused; and what else there is, which no charge changes.
 pub record Charging (Others : Type 0) : Type 0 where
   pub budget : ℕ
   pub made : ℕ

@@ -1,5 +1,5 @@
--- Literals, clauses and formulas of propositional logic in conjunctive normal form, and what meets them (as in textbooks of
--- satisfiability; the numbers of literals are those of the AIGER format, over variables).
+-- Literals, clauses and formulas of propositional logic in conjunctive normal form, and what meets them (as in
+-- textbooks of satisfiability; the numbers of literals are those of the AIGER format, over variables).
 use Rattle.std.specs.Prelude.{◌≡◌, ℕ, ◌<◌, ◌+◌, ◌*◌, Bool, true, List, [], take, All, slice_index_or, if◌then◌else◌}
 use Rattle.std.specs.List.{list_any}
 use Rattle.circuits.specs.declared.netlist.Lit.{Lit}

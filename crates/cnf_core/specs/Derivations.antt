@@ -1,5 +1,5 @@
--- Derivation of clauses by hinted unit propagation (reverse unit propagation, Goldberg and Novikov, DATE 2003; with hints as
--- in LRAT, Cruz-Filipe and others, CADE 2017; the kinds of fault and their order are this project's).
+-- Derivation of clauses by hinted unit propagation (reverse unit propagation, Goldberg and Novikov, DATE 2003; with
+-- hints as in LRAT, Cruz-Filipe and others, CADE 2017; the kinds of fault and their order are this project's).
 use Rattle.std.specs.Prelude.{◌≡◌, ℕ, ◌==◌, ◌&&◌, ◌||◌, not, Bool, true, false, List, [], ◌∷◌, ◌++◌, length, map, filter, take, Option, None, Some, nat_lt}
 use Rattle.std.specs.Prelude.{if◌then◌else◌}
 use Rattle.std.specs.List.{list_any, list_all}

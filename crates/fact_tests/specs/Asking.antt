@@ -33,7 +33,8 @@ IsHalted graphs query before after = IsStoppedAfter (IsAsked graphs query before
 abbrev pub IsDecided : Graphs → Query → Ledgered → Ledgered → Type 0
 IsDecided graphs query before after = (after ≡ before) ⊎ IsAsked graphs query before after
 
--- What deciding a query comes to: an answer that is right, and the query decided in a ledger that isn't spent; or no answer.
+-- What deciding a query comes to: an answer that is right, and the query decided in a ledger that isn't spent; or no
+-- answer.
 pub record Decides {X : Type 0} (IsRight : X → Type 0) (graphs : Graphs) (query : Query) (before after : Ledgered) (result : Result X Stop) : Type 0 where
   pub answer : IfOk result IsRight
   pub decided : IfOk result (λ _. IsDecided graphs query before after)

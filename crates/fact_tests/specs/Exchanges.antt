@@ -1,5 +1,6 @@
--- Classes of inputs of which any two may be exchanged. That is so of any two of a class, since what may be exchanged with one and
--- the same input may be exchanged with each other (symmetric variables of switching functions: Shannon, 1938; McCluskey, 1956).
+-- Classes of inputs of which any two may be exchanged. That is so of any two of a class, since what may be exchanged
+-- with one and the same input may be exchanged with each other (symmetric variables of switching functions: Shannon,
+-- 1938; McCluskey, 1956).
 use Rattle.std.specs.Prelude.{◌≡◌, ◌≢◌, ◌⊎◌, ℕ, ◌+◌, ◌<◌, Bool, true, false, not, List, [], ◌∷◌, ◌++◌, length, All, AllPairs, Option, None, Some}
 use Rattle.std.specs.Prelude.{slice_index_or, slice_set}
 use Rattle.std.specs.Bool.{Decides}

@@ -1,5 +1,6 @@
--- What an exchange of two inputs changes near them: the signals that may differ where the two inputs have a pair of bits and where they
--- have the opposite one, as words over all ways of a few other signals (truth tables over a cut, as in textbooks of logic synthesis).
+-- What an exchange of two inputs changes near them: the signals that may differ where the two inputs have a pair of
+-- bits and where they have the opposite one, as words over all ways of a few other signals (truth tables over a cut, as
+-- in textbooks of logic synthesis).
 use Rattle.std.specs.Prelude.{◌≡◌, ◌≢◌, ◌⊎◌, ℕ, ◌+◌, ◌*◌, ◌/◌, ◌%◌, ◌^◌, ◌==◌, ◌<◌, ◌≤◌, Bool, true, false, not, List, [], ◌∷◌, ◌++◌, length, All, Any, Option}
 use Rattle.std.specs.Prelude.{None, Some, slice_index_or}
 use Rattle.circuits.specs.declared.netlist.Lit.{Lit}
@@ -56,7 +57,8 @@ IsChanged v w leaves entry = HasSides v w leaves (bit v entry.signal) (bit w ent
 abbrev pub IsUnchanged : List Changed → ℕ → Type 0
 IsUnchanged changed signal = All (λ entry. entry.signal ≢ signal) changed
 
--- Of the signals below `end` those that aren't listed have the same bit under both valuations, and of those that are it is known.
+-- Of the signals below `end` those that aren't listed have the same bit under both valuations, and of those that are it
+-- is known.
 pub record Tracks (v w : List Bool) (end : ℕ) (near : Near) : Type 0 where
   pub few : length near.leaves ≤ 6
   pub leaves : All (λ leaf. bit v leaf ≡ bit w leaf) near.leaves
@@ -88,7 +90,8 @@ abbrev pub IsListed : List Changed → ℕ → Option SideWords → Type 0
 IsListed changed signal None = IsUnchanged changed signal
 IsListed changed signal (Some sides) = Any (λ entry. (entry.signal ≡ signal) × (entry.sides ≡ sides)) changed
 
--- A literal's bits are found, whatever the valuations are: the leaves are as many or more, and what was known is known still.
+-- A literal's bits are found, whatever the valuations are: the leaves are as many or more, and what was known is known
+-- still.
 pub record Tells (literal : Lit) (old new : Near) (sides : SideWords) : Type 0 where
   pub same : new.changed ≡ old.changed
   pub more : (v : List Bool) (m : ℕ) → IsLane v new.leaves m → IsLane v old.leaves m

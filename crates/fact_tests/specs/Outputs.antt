@@ -58,13 +58,14 @@ abbrev pub IsAlike : ℕ → (List Bool → Bool) → ℕ → ℕ → Bool → T
 IsAlike n f i j false = IsSymmetric n f i j
 IsAlike n f i j true = IsSkew n f i j
 
--- One of the two swaps by which inputs may be exchanged, as they are or each inverted: that in which input i has this value.
+-- One of the two swaps by which inputs may be exchanged, as they are or each inverted: that in which input i has this
+-- value.
 abbrev pub half_swap : ℕ → ℕ → Bool → Bool → Shape
 half_swap i j inverted false = Swap i j false (not inverted)
 half_swap i j inverted true = Swap i j true inverted
 
--- Whether inputs in which a function is unate in these ways may be alike: as they are, where it is unate in both in one way; and
--- each inverted, where it is unate in opposite ways. Inputs in which it is binate may be alike either way.
+-- Whether inputs in which a function is unate in these ways may be alike: as they are, where it is unate in both in one
+-- way; and each inverted, where it is unate in opposite ways. Inputs in which it is binate may be alike either way.
 abbrev pub may_be_alike : Unate → Unate → Bool → Bool
 may_be_alike Positive Positive inverted = not inverted
 may_be_alike Positive Negative inverted = inverted

@@ -14,8 +14,8 @@ clauses_with formula lines = formula.clauses ++ clauses_of lines
 abbrev pub LeavesOnly : List SatLit → List SatLit → SatLit → Type 0
 LeavesOnly made clause literal = AllByRecursion (λ l. (l ≡ literal) ⊎ (is_false made l ≡ true)) clause
 
--- The clauses of these numbers, in their order, lead from literals that were made true to a conflict: each leaves one literal,
--- which is true from then on, or none.
+-- The clauses of these numbers, in their order, lead from literals that were made true to a conflict: each leaves one
+-- literal, which is true from then on, or none.
 abbrev pub LeadOn : List (List SatLit) → List SatLit → List ℕ → Type 0
 LeadOn clauses made [] = ⊥
 LeadOn clauses made (id ∷ ids) =

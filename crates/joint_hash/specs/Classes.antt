@@ -71,15 +71,15 @@ AreTwins count clauses twins = (variable : ℕ) (twin : Twin) → twins variable
 abbrev pub AreLate : ℕ → (ℕ → Option Twin) → Type 0
 AreLate count twins = (variable : ℕ) (twin : Twin) → twins variable ≡ Some twin → (count ≤ twin.to_variable) × (count ≤ twin.from_variable)
 
--- the lemma that a literal implies its representative, or the one that this one implies the literal; none where it stands for
--- itself
+-- the lemma that a literal implies its representative, or the one that this one implies the literal; none where it
+-- stands for itself
 abbrev pub lemma_ids : Option Twin → SatLit → Bool → List ℕ
 lemma_ids None literal onto = []
 lemma_ids (Some twin) literal onto =
     (if beq (is_negated literal) onto then twin.to_variable else twin.from_variable) ∷ []
 
--- The clauses by which one gate implies another of its class: it implies its operands, these their representatives, those the
--- operands of the other, and these that gate.
+-- The clauses by which one gate implies another of its class: it implies its operands, these their representatives,
+-- those the operands of the other, and these that gate.
 abbrev pub chain_ids : (ℕ → Option Twin) → ConeGate → ConeGate → List ℕ
 chain_ids twins start end =
     (start.id ∷ (start.id + 1) ∷ [])
@@ -89,8 +89,8 @@ chain_ids twins start end =
     ++ lemma_ids (twins (variable_of end.second)) end.second false
     ++ (end.id + 2) ∷ []
 
--- Lines and twins after two gates were made one: the lemmas that the first gate implies the other and that this one implies it
--- were added, and the first one stands for the variable of the other.
+-- Lines and twins after two gates were made one: the lemmas that the first gate implies the other and that this one
+-- implies it were added, and the first one stands for the variable of the other.
 pub record AreEquated (formula : Formula) (first gate : ConeGate) (old new : List LogLine)
     (old_twins new_twins : ℕ → Option Twin) : Type 0 where
   pub lemmas : AreLemmas formula new

@@ -16,8 +16,8 @@ use Rattle.claim_core.specs.ConeClauses.{left_gates}
 use Rattle.joint_hash.specs.declared.gates.ConeGate.{ConeGate}
 use Rattle.joint_hash.specs.Merging.{AreLemmas}
 
--- A gate that output k of a circuit reaches, where the clauses of the circuit's gates are from number `from` on, and these
--- literals stand for its signals.
+-- A gate that output k of a circuit reaches, where the clauses of the circuit's gates are from number `from` on, and
+-- these literals stand for its signals.
 pub record IsReachedGate (net : Net) (literals : List SatLit) (k from : ℕ) (gate : ConeGate) : Type 0 where
   pub place : ℕ
   pub there : place < length net.gates
@@ -33,8 +33,8 @@ IsGateOf graphs query gate =
     IsReachedGate (circuit_of graphs query.left) (left_literals graphs query) query.left.output 1 gate
     ⊎ IsReachedGate (circuit_of graphs query.right) (right_literals graphs query) query.right.output (1 + 3 * left_gates graphs query) gate
 
--- An equivalence of literals that keeps signs, and by which gates are the same where their operands are, in either order (a
--- congruence).
+-- An equivalence of literals that keeps signs, and by which gates are the same where their operands are, in either
+-- order (a congruence).
 pub record IsCongruence (IsGate : ConeGate → Type 0) (same : SatLit → SatLit → Bool) : Type 0 where
   pub reflexive : (l : SatLit) → same l l ≡ true
   pub symmetric : (l m : SatLit) → same l m ≡ true → same m l ≡ true
@@ -66,7 +66,8 @@ pub record AreEqualBy (lines : List LogLine) (one other : SatLit) : Type 0 where
   pub to : Contains (clauses_of lines) (opposite one ∷ other ∷ [])
   pub back : Contains (clauses_of lines) (one ∷ opposite other ∷ [])
 
--- A gate unfolds to one tree with the first of its class, whose variable it has, or to which lines say that it is equal.
+-- A gate unfolds to one tree with the first of its class, whose variable it has, or to which lines say that it is
+-- equal.
 pub record IsJoined (IsGate : ConeGate → Type 0) (lines : List LogLine) (gate : ConeGate) : Type 0 where
   pub first : ConeGate
   pub is_gate : IsGate first
@@ -74,8 +75,8 @@ pub record IsJoined (IsGate : ConeGate → Type 0) (lines : List LogLine) (gate 
   pub one_tree : AreOneTree IsGate first.output gate.output
   pub joined : (gate.output ≡ first.output) ⊎ AreEqualBy lines first.output gate.output
 
--- For each gate of a query's cones, the lines have both implications between it and the first gate that unfolds to the same
--- tree. There are none where the two have one variable.
+-- For each gate of a query's cones, the lines have both implications between it and the first gate that unfolds to the
+-- same tree. There are none where the two have one variable.
 abbrev pub AreJoined : Graphs → Query → List LogLine → Type 0
 AreJoined graphs query lines = (gate : ConeGate) → IsGateOf graphs query gate → IsJoined (IsGateOf graphs query) lines gate
 

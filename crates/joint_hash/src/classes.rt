@@ -118,8 +118,7 @@ impl Classes {
         self.first_of(one) == self.first_of(other)
     }
 
-    /// The operands of a gate of one class with another: the one that is of one class with the first operand of that
-    /// gate, and then the other one.
+    /// The operands of `copy`, in the order in which they are of one class with those of `gate`.
     pub(crate) fn partners(&self, gate: &ConeGate, copy: &ConeGate) -> (SatLit, SatLit) {
         if self.are_one(gate.first, copy.first) & self.are_one(gate.second, copy.second) {
             (copy.first, copy.second)

@@ -26,8 +26,8 @@ pub struct Refutation {
 
 /// A refutation of a query whose two outputs unfold to the same tree, and are to differ. It has the lemmas that its
 /// empty line needs: from the outputs down, that a gate implies one of the other cone of the same tree, in one
-/// direction, unless propagation shows it. There is none where the outputs unfold to other trees, nor where more gates
-/// are compared than the cones have.
+/// direction, unless propagation shows it. There is none where the outputs unfold to other trees, nor where that takes
+/// more steps than the cones have clauses.
 ///
 /// # Errors
 ///
@@ -121,7 +121,7 @@ impl Needed {
     }
 
     // Begins with the outputs, whose literals the last two clauses say. Answers whether these can't both be true by
-    // structure.
+    // structure, and the path down from them ends.
     fn begin(&mut self, cones: &ConeClauses<'_>) -> Result<bool, AllocError> {
         let (Some(left), Some(right)) = (unit_at(cones, 1), unit_at(cones, 0)) else {
             return Ok(false);

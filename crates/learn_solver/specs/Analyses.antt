@@ -23,8 +23,8 @@ pub record IsFalseAt (trail : Trailing) (clause : List SatLit) (level : ℕ) : T
   pub level_there : (entry_at trail.entries place).level ≡ level
   pub there : is_true clause (opposite (entry_at trail.entries place).literal) ≡ true
 
--- A clause has a literal that became false at the present level, which is above the level to go back to, and, where that
--- isn't 0, one that became false there.
+-- A clause has a literal that became false at the present level, which is above the level to go back to, and, where
+-- that isn't 0, one that became false there.
 pub record IsAsserting (trail : Trailing) (clause : List SatLit) (level : ℕ) : Type 0 where
   pub last : 0 < trail.level → IsFalseAt trail clause trail.level
   pub lower : 0 < trail.level → level < trail.level
@@ -139,9 +139,9 @@ abbrev pub IsAnalysis : List (List SatLit) → Trailing → List Bool → Analys
 IsAnalysis clauses trail marked analysis =
     IsAnalysed clauses trail marked analysis.below analysis.here analysis.steps.items
 
--- How far a clause is minimized, from its last literal down to a place: wherever its literals are false, and none beside
--- them but such as stand before the place, the steps lead to the conflict. As few literals of the present level are left as
--- there can be.
+-- How far a clause is minimized, from its last literal down to a place: wherever its literals are false, and none
+-- beside them but such as stand before the place, the steps lead to the conflict. As few literals of the present level
+-- are left as there can be.
 pub record IsReduced (clauses : List (List SatLit)) (trail : Trailing) (marked : List Bool) (below here : ℕ) (steps : List ℕ)
     (place : ℕ) : Type 0 where
   pub size : length marked ≡ trail.variables

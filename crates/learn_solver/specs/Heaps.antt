@@ -1,4 +1,5 @@
--- A priority queue of numbers in a heap (Williams, 1964): in which order they stand, where each stands, and which are in the queue.
+-- A priority queue of numbers in a heap (Williams, 1964): in which order they stand, where each stands, and which are
+-- in the queue.
 use Rattle.std.specs.Prelude.{◌≡◌, ℕ, ◌<◌, ◌≤◌, ◌==◌, Bool, List, length, map, All, nat_lt, slice_index_or, if◌then◌else◌}
 
 -- All numbers below n, in some order, and the place of each.

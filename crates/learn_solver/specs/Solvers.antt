@@ -103,8 +103,8 @@ abbrev pub IsStopped : {Others : Type 0} → Solving → Solving → Charging Ot
 IsStopped {Others} old new before after (Spent learned) = IsSpentAt old new before after learned
 IsStopped {Others} old new before after Memory = Unit {0}
 
--- At most 3^n lines were made over n variables, a refused one counted: as many as there are clauses in which each variable
--- stands plain, stands negated or doesn't stand.
+-- At most 3^n lines were made over n variables, a refused one counted: as many as there are clauses in which each
+-- variable stands plain, stands negated or doesn't stand.
 abbrev pub IsBounded : {Others : Type 0} → ℕ → Charging Others → Charging Others → Type 0
 IsBounded {Others} variables before after = after.made ≤ before.made + 3 ^ variables
 

@@ -20,7 +20,8 @@ use Rattle.oracle_core.specs.declared.oracle.Compared.TheVariants.{Same, Differs
 use Rattle.oracle_core.specs.Enough.{enough}
 use Rattle.oracle_core.specs.Work.{IsCharged, IsWorkOfClaimsAndMatches}
 
--- What an oracle knows: its two circuits, the facts of the claims that it decided, in order, and the queries that it answered.
+-- What an oracle knows: its two circuits, the facts of the claims that it decided, in order, and the queries that it
+-- answered.
 pub record Known : Type 0 where
   pub graphs : Graphs
   pub facts : List Fact
@@ -35,7 +36,8 @@ pub record IsNumberOf (facts : List Fact) (claim : Claim) (number : ℕ) : Type 
 abbrev pub IsAnswered : Known → Query → Type 0
 IsAnswered known query = Any (λ other. other ≡ query) known.answered
 
--- A ledger that an oracle can go on with: it is work on the oracle's circuits, no line was refused, and each query for which lines were learned was answered.
+-- A ledger that an oracle can go on with: it is work on the oracle's circuits, no line was refused, and each query for
+-- which lines were learned was answered.
 pub record Suits (known : Known) (ledger : Ledgered) : Type 0 where
   pub work : IsWorkOfClaimsAndMatches known.graphs ledger
   pub unspent : ledger.spent ≡ false
@@ -57,7 +59,8 @@ entry_at asked k = slice_index_or asked k nothing_asked
 abbrev pub IsAsBefore : List Asked → List Asked → ℕ → Type 0
 IsAsBefore before after k = (k < length before) × (k < length after) × (entry_at after k ≡ entry_at before k)
 
--- The budget is the same, and so is each entry for which lines were learned. Each new entry is of a query that was not answered before.
+-- The budget is the same, and so is each entry for which lines were learned. Each new entry is of a query that was not
+-- answered before.
 pub record Keeps (old : Known) (before after : Ledgered) : Type 0 where
   pub budget : after.budget ≡ before.budget
   pub charged : (k : ℕ) → k < length before.asked
@@ -66,8 +69,8 @@ pub record Keeps (old : Known) (before after : Ledgered) : Type 0 where
   pub opened : (k : ℕ) → k < length after.asked
       → IsAsBefore before.asked after.asked k ⊎ (IsAnswered old (entry_at after.asked k).query → ⊥)
 
--- The budget was spent by work, and the last line was refused: the entries have as many learned lines as the budget, and that one.
--- It wasn't enough for all that can be asked of two circuits with as many ports.
+-- The budget was spent by work, and the last line was refused: the entries have as many learned lines as the budget,
+-- and that one. It wasn't enough for all that can be asked of two circuits with as many ports.
 pub record IsSpentWork (old : Known) (before after : Ledgered) (learned : ℕ) : Type 0 where
   pub learned_is : learned ≡ before.budget
   pub used : learned_in after ≡ before.budget

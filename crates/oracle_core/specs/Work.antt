@@ -1,5 +1,5 @@
--- What the entries of a ledger are worth: lines that were derived for queries of two circuits, each query asked once, and no
--- line that says less than what was known (this project's; derivations are those of hinted unit propagation).
+-- What the entries of a ledger are worth: lines that were derived for queries of two circuits, each query asked once,
+-- and no line that says less than what was known (this project's; derivations are those of hinted unit propagation).
 use Rattle.std.specs.Prelude.{◌≡◌, ◌≢◌, ◌⊎◌, ℕ, ◌<◌, ◌≤◌, Bool, false, List, None, length, take, All, AllPairs}
 use Rattle.circuits.specs.Literals.{EachAt}
 use Rattle.circuits.specs.Matches.{HavePorts}

@@ -39,8 +39,8 @@ pub trait Oracle {
     /// # Errors
     ///
     /// `Spent` where a line had to be learned and the budget was spent: the ledger has it as the refused line. Of two
-    /// circuits with as many ports it comes only where the budget is less than enough for all that can be asked of them.
-    /// `Memory` when out of memory: then nothing is promised of the ledger.
+    /// circuits with as many ports it comes only where the budget is less than enough for all that can be asked of
+    /// them. `Memory` when out of memory: then nothing is promised of the ledger.
     fn claim(&mut self, alloc: Global, claim: Claim, ledger: &mut Ledger) -> Result<u64, Stop>
         requires placed { IsClaim (known self.old).graphs claim }
         requires suits { Suits (known self.old) ledger.old }

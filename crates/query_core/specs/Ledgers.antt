@@ -72,8 +72,8 @@ charged_front asked =
 abbrev pub opened : Query → List LogLine → List Asked → List Asked
 opened query lemmas asked = charged_front asked ++ entry_of query lemmas ∷ []
 
--- a ledger as what lines are charged to: the last entry is the one that is open, and no charge changes the entries but for
--- its lines
+-- a ledger as what lines are charged to: the last entry is the one that is open, and no charge changes the entries but
+-- for its lines
 abbrev pub charging_of : Ledgered → Charging (List Asked)
 charging_of ledger = record {
   budget = ledger.budget;
@@ -97,7 +97,8 @@ abbrev pub IsRefused : Ledgered → LogLine → Ledgered → Stop → Type 0
 IsRefused old line new (Spent learned) = IsSpent old line new learned
 IsRefused old line new Memory = new ≡ old
 
--- What each ledger keeps: how many lines were learned, which is within the budget, and the bytes of those that were charged.
+-- What each ledger keeps: how many lines were learned, which is within the budget, and the bytes of those that were
+-- charged.
 pub record IsLedger (ledger : Ledgered) (learned : ℕ) (bytes : List ℕ) : Type 0 where
   pub counted : learned + one_if ledger.spent ≡ sum_by charged_in ledger.asked
   pub within : learned ≤ ledger.budget

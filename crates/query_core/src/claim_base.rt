@@ -119,7 +119,8 @@ impl<'a> ClaimBase<'a> {
         cone: MarkedCone,
     ) -> Result<ClaimBase<'a>, AllocError>
         requires claim { IsClaim graphs.now claim.now }
-        requires cone { IsMarkedCone (graph_of graphs.now claim.now.side) claim.now.output cone.gates.items cone.marked }
+        requires cone { IsMarkedCone (graph_of graphs.now claim.now.side) claim.now.output
+            cone.gates.items cone.marked }
         ensures graphs { IfOk result (λ base. base.graphs ≡ graphs.now) }
         ensures query { IfOk result (λ base. base.query ≡ claim_query graphs.now claim.now) }
         ensures marked { IfOk result (λ base. base.marked ≡ cone.marked) }

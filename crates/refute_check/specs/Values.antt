@@ -28,7 +28,8 @@ pub record IsOfMade (bits : List (Option Bool)) (made : List SatLit) : Type 0 wh
   pub known : AreKnown (length bits) made
   pub none : (v : ℕ) → v < length bits → list_any (is_of v) made ≡ false → bit_at bits v ≡ None
 
--- each variable has the bit that makes one of these literals true, if there is one; and there is room for all that can be made
+-- each variable has the bit that makes one of these literals true, if there is one; and there is room for all that can
+-- be made
 pub record IsMade (bits : List (Option Bool)) (made : Vec SatLit Global) : Type 0 where
   pub told : (v : ℕ) (b : Bool) → v < length bits → tells (bit_at bits v) b ≡ is_true made.items (literal_of v b)
   pub known : AreKnown (length bits) made.items

@@ -41,7 +41,8 @@ pub record IsChargedUnder (query : Query) (clause : List SatLit) (entry : Asked)
   pub same : HaveSameFeeds entry.query query
   pub learned : Contains (clauses_of (drop entry.lemmas entry.lines)) clause
 
--- a line that need not be paid for: an entry paid for its clause, or it is by joint hashing that a gate implies another one
+-- a line that need not be paid for: an entry paid for its clause, or it is by joint hashing that a gate implies another
+-- one
 abbrev pub IsPaid : Graphs → Query → List Asked → LogLine → Type 0
 IsPaid graphs query asked line = IsImplication (formula_of graphs query) line ⊎ Any (IsChargedUnder query line.clause) asked
 

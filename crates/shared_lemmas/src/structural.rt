@@ -12,7 +12,8 @@ use joint_hash::Refutation;
 use query_core::Ledger;
 use std::alloc::{AllocError, Global};
 
-/// Answers a query by a refutation: its lemmas are those of the query's entry in the ledger, and the empty line is charged.
+/// Answers a query by a refutation: its lemmas are those of the query's entry in the ledger, and the empty line is
+/// charged.
 pub(crate) fn answer_by(
     alloc: Global,
     question: &Question<'_>,

@@ -1,5 +1,5 @@
--- Refutation by splitting on one input after the other (Davis, Logemann and Loveland, 1962): vectors are excluded by the bits
--- that they begin with, the longest beginnings first.
+-- Refutation by splitting on one input after the other (Davis, Logemann and Loveland, 1962): vectors are excluded by
+-- the bits that they begin with, the longest beginnings first.
 use Rattle.std.specs.Prelude.{◌≡◌, ℕ, ◌+◌, ◌<◌, ◌≤◌, Bool, true, false, not, List, [], ◌∷◌, ◌++◌, length, map, All}
 use Rattle.std.specs.List.{list_any, range_with_len}
 use Rattle.circuits.specs.Literals.{bit}
