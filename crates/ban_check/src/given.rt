@@ -106,6 +106,7 @@ impl Given {
         ensures facts { self.new.facts ≡ take (length self.old.facts - 1) self.old.facts }
         ensures bans { self.new.bans ≡ self.old.bans }
     {
+        // the fact that is taken back is dropped
         let _last = self.facts.pop();
     }
 

@@ -60,6 +60,7 @@ pub(crate) fn add_implied(
     ensures lemmas { OnOk result (AreLemmas (formula_of cones.now.graphs cones.now.query) lines.new.items) }
     ensures kept { OnOk result (AreKept lines.old.items lines.new.items) }
 {
+    // they bring in that the query fits the graphs, and which numbers those of the cones' clauses are
     let _graphs = cones.graphs();
     let _ids = cones.ids();
     if gate.output.variable() == other.output.variable() {

@@ -21,6 +21,7 @@ pub(crate) fn next_decision(trail: &Trail, occurring: &[u64]) -> Option<SatLit>
     ensures free { IfSome result (IsFree trail.now) }
     ensures none { IfNone result (All (IsAssigned trail.now) occurring.now) }
 {
+    // a trail has fewer than 2^63 variables
     let _len = trail.len();
     for variable in occurring.iter() {
         let literal = SatLit::of(*variable, false);
@@ -91,6 +92,7 @@ pub(crate) fn values(
     requires { variables ≡ trail.now.variables }
     ensures { IfOk result (AreValues trail.now) }
 {
+    // a trail has fewer than 2^63 variables
     let _len = trail.len();
     let mut values = Items::new(alloc);
     for variable in 0..variables {

@@ -118,6 +118,7 @@ impl Order {
         ensures order { IsOrder trail.now.variables self.new }
         ensures free { IfSome result (IsFree trail.now) }
     {
+        // a trail has fewer than 2^63 variables
         let _len = trail.len();
         while let Some(variable) = self.heap.pop() {
             let literal = SatLit::of(variable as u64, self.phases[variable]);

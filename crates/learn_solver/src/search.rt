@@ -80,6 +80,7 @@ pub(crate) fn begun<B: Base>(
         search.trail search.watches search.tools) }
 {
     let trail = Trail::with_variables(alloc, base.variables())?;
+    // a trail has fewer than 2^63 variables
     let _len = trail.len();
     let mut watches = Watches::new(alloc, base.variables())?;
     put_wanted(base, ids, &mut watches)?;
@@ -179,6 +180,7 @@ impl Search {
         ensures some { IfSome result (IsConflict self.new.watches.clauses (literals self.new.trail.entries)) }
     {
         let conflict = self.watches.propagate(&mut self.trail);
+        // it brings in that this is a trail still
         let _walked = self.trail.walked();
         conflict
     }
@@ -272,6 +274,7 @@ impl Search {
         ensures order { IsOrder self.old.trail.variables self.new.tools.order }
     {
         let id = self.watches.add(clause)?;
+        // it brings in that this is a trail
         let _walked = self.trail.walked();
         self.leave(level);
         let None = self.watches.attach(id, &mut self.trail) else {

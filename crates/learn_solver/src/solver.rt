@@ -192,6 +192,7 @@ impl<'a, B: Base> Solver<'a, B> {
         requires { list_any is_empty (clauses_of self.now.lines) ≡ true }
         ensures { IsFinding self.now result }
     {
+        // it brings in the solver's invariant: its lines are derived
         let _count = self.lines.len();
         Finding::Refuted
     }

@@ -28,6 +28,7 @@ pub fn restored(alloc: Global, second: &Graph, matching: &Matching) -> Result<Gr
     ensures size { IfOk result (λ graph. length graph.gates ≡ length second.now.gates) }
     ensures sound { IfOk result IsGraph }
 {
+    // it brings in that the graph is sound
     let _outputs = second.outputs();
     let back = inverse(alloc, matching)?;
     let graph = moved_graph(alloc, second, &back)?;

@@ -192,6 +192,7 @@ impl<'a> Base for ClaimBase<'a> {
     }
 
     fn clause(&self, id: u64) -> Clause3 {
+        // they bring in that both graphs are sound
         let _first = self.graphs.first();
         let _second = self.graphs.second();
         let gates = self.graphs.side(self.query.left.side).gates().len() as u64;

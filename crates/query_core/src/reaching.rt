@@ -27,8 +27,8 @@ pub(crate) fn reaches(alloc: Global, query: &Query, gates: &[Gate]) -> Result<Ve
     Ok(signals)
 }
 
-/// Whether each of these gates, which the right output reaches, reaches an input whose two feeds differ. What is said
-/// of the other gates is nothing.
+/// Whether each of these gates, which the right output reaches, reaches an input whose two feeds differ. Nothing is said
+/// of the other gates.
 pub(crate) fn reaches_in_cone(
     alloc: Global,
     query: &Query,
@@ -49,7 +49,7 @@ pub(crate) fn reaches_in_cone(
 }
 
 /// Whether each of these gates, which a claim's output reaches, reaches an input of the claim's shape: these get one
-/// value on the left and the other one on the right. What is said of the other gates is nothing.
+/// value on the left and the other one on the right. Nothing is said of the other gates.
 pub(crate) fn reaches_of_claim(
     alloc: Global,
     claim: &Claim,

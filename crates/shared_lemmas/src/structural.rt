@@ -26,6 +26,7 @@ pub(crate) fn answer_by(
     requires not_spent { ledger.old.spent ≡ false }
     ensures { Asks IsAskedIn question.now.graphs.now question.now.query.now ledger.old ledger.new result }
 {
+    // it brings in which numbers those of the cones' clauses are
     let _ids = question.cones.ids();
     let Refutation { lemmas, last } = refutation;
     ledger.open(alloc, question.query, &lemmas)?;

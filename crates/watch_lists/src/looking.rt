@@ -146,6 +146,7 @@ pub(crate) fn find_foot(trail: &mut Trail, clause: &[SatLit], id: u64) -> Foot
     ensures foot { IsFoot trail.old trail.new clause.now result }
     ensures settled { IsSettled trail.old trail.new clause.now id }
 {
+    // it brings in that this is a trail, of fewer than 2^63 variables
     let _len = trail.len();
     let Some(first) = open(trail, clause) else {
         return Foot::Conflict;
@@ -171,6 +172,7 @@ fn alone(trail: &mut Trail, clause: &[SatLit], first: SatLit, id: u64) -> Option
     ensures settled { IsSettled trail.old trail.new clause.now id }
 {
     make(trail, first, id);
+    // it brings in that this is a trail still
     let _len = trail.len();
     fallen(trail, clause, first)
 }

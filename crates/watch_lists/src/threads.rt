@@ -177,6 +177,7 @@ impl Threads {
         let watch = ThreadedWatch { literal, next: 0 };
         self.watches.push_reserved(watch);
         self.watches.push_reserved(watch);
+        // they are fewer than 2^64
         let _len = self.watches.len();
     }
 }

@@ -130,6 +130,7 @@ impl Watches {
         ensures same { IfSome result (λ _. trail.new ≡ trail.old) }
         ensures stays { IfSome result (λ _. self.new ≡ self.old) }
     {
+        // no more literals are walked than there are
         let _walked = trail.walked();
         match find_foot(trail, self.clauses.get(id), id) {
             Foot::Two(first, second) => {
@@ -157,8 +158,10 @@ impl Watches {
         ensures conflict { IfSome result (IsConflict self.new.clauses (literals trail.new.entries)) }
         ensures attached { IfSome result (λ found. IsAttached self.new.watches (2 * found)) }
     {
+        // it brings in that this is a trail
         let _walked = trail.walked();
         let conflict = walk_all(&self.clauses, &mut self.threads, trail);
+        // and that it is one still
         let _walked = trail.walked();
         conflict
     }
@@ -203,6 +206,7 @@ fn visit(
     let Some(moved) = target(trail, clauses, id, other, literal) else {
         return Some(id);
     };
+    // it brings in that this is a trail
     let _walked = trail.walked();
     threads.step(rest, moved);
     None
