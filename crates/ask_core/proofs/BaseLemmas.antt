@@ -48,22 +48,22 @@ pub record AreListing (variables : ℕ) (names : List ℕ) (marked : List Bool) 
   pub named : (k : ℕ) (d : Clause3) → k < count → IsNamed names (literals_of (slice_index_or clauses k d))
 
 -- one clause more
-pub over_more : (n : ℕ) (clauses : List (List SatLit)) (told : List Clause3) (c : Clause3) → AreOver n clauses told → IsOver n c → AreOver n (clauses ++ literals_of c ∷ []) (told ++ c ∷ [])
-over_more n clauses told c is own = record {
-  are = map-append literals_of told (c ∷ []) ∙ ap (λ cs. cs ++ literals_of c ∷ []) is.are;
-  over = All-push (IsOver n) told c is.over own;
+pub over_more : (n : ℕ) (clauses : List (List SatLit)) (listed : List Clause3) (c : Clause3) → AreOver n clauses listed → IsOver n c → AreOver n (clauses ++ literals_of c ∷ []) (listed ++ c ∷ [])
+over_more n clauses listed c is own = record {
+  are = map-append literals_of listed (c ∷ []) ∙ ap (λ cs. cs ++ literals_of c ∷ []) is.are;
+  over = All-push (IsOver n) listed c is.over own;
 }
 
-pub told_more : (n : ℕ) (clauses : List (List SatLit)) (ids : List ℕ) (i id : ℕ) (told new : List Clause3) (c : Clause3) → AreOver n (map (clause_at clauses) (take i ids)) told → i < length ids → id ≡ slice_index_or ids i id → literals_of c ≡ clause_at clauses id → IsOver n c → new ≡ told ++ c ∷ [] → AreOver n (map (clause_at clauses) (take (i + 1) ids)) new
-told_more n clauses ids i id told new c is within id_is c_is own new_is =
+pub cone_over_more : (n : ℕ) (clauses : List (List SatLit)) (ids : List ℕ) (i id : ℕ) (listed new : List Clause3) (c : Clause3) → AreOver n (map (clause_at clauses) (take i ids)) listed → i < length ids → id ≡ slice_index_or ids i id → literals_of c ≡ clause_at clauses id → IsOver n c → new ≡ listed ++ c ∷ [] → AreOver n (map (clause_at clauses) (take (i + 1) ids)) new
+cone_over_more n clauses ids i id listed new c is within id_is c_is own new_is =
     let last = ap (λ x. map (clause_at clauses) (take i ids) ++ x ∷ []) (c_is ∙ ap (clause_at clauses) id_is) ∙ sym (ap (map (clause_at clauses)) (take_more ids i id within) ∙ map-append (clause_at clauses) (take i ids) (slice_index_or ids i id ∷ [])) in
-    subst (AreOver n (map (clause_at clauses) (take (i + 1) ids))) (sym new_is) (subst (λ cs. AreOver n cs (told ++ c ∷ [])) last (over_more n (map (clause_at clauses) (take i ids)) told c is own))
+    subst (AreOver n (map (clause_at clauses) (take (i + 1) ids))) (sym new_is) (subst (λ cs. AreOver n cs (listed ++ c ∷ [])) last (over_more n (map (clause_at clauses) (take i ids)) listed c is own))
 
-pub lemma_over_more : (n : ℕ) (front : List (List SatLit)) (lemmas : List LogLine) (i : ℕ) (line : LogLine) (told new : List Clause3) (c : Clause3) → AreOver n (front ++ clauses_of (take i lemmas)) told → i < length lemmas → line ≡ slice_index_or lemmas i line → literals_of c ≡ line.clause → IsOver n c → new ≡ told ++ c ∷ [] → AreOver n (front ++ clauses_of (take (i + 1) lemmas)) new
-lemma_over_more n front lemmas i line told new c is within line_is c_is own new_is =
+pub lemma_over_more : (n : ℕ) (front : List (List SatLit)) (lemmas : List LogLine) (i : ℕ) (line : LogLine) (listed new : List Clause3) (c : Clause3) → AreOver n (front ++ clauses_of (take i lemmas)) listed → i < length lemmas → line ≡ slice_index_or lemmas i line → literals_of c ≡ line.clause → IsOver n c → new ≡ listed ++ c ∷ [] → AreOver n (front ++ clauses_of (take (i + 1) lemmas)) new
+lemma_over_more n front lemmas i line listed new c is within line_is c_is own new_is =
     let last = ap (λ x. clauses_of (take i lemmas) ++ x ∷ []) (c_is ∙ ap (λ (l : LogLine). l.clause) line_is) ∙ sym (ap clauses_of (take_more lemmas i line within) ∙ map-append (λ (l : LogLine). l.clause) (take i lemmas) (slice_index_or lemmas i line ∷ [])) in
     let whole : (front ++ clauses_of (take i lemmas)) ++ literals_of c ∷ [] ≡ front ++ clauses_of (take (i + 1) lemmas) = append_assoc front (clauses_of (take i lemmas)) (literals_of c ∷ []) ∙ ap (λ (cs : List (List SatLit)). front ++ cs) last in
-    subst (AreOver n (front ++ clauses_of (take (i + 1) lemmas))) (sym new_is) (subst (λ cs. AreOver n cs (told ++ c ∷ [])) whole (over_more n (front ++ clauses_of (take i lemmas)) told c is own))
+    subst (AreOver n (front ++ clauses_of (take (i + 1) lemmas))) (sym new_is) (subst (λ cs. AreOver n cs (listed ++ c ∷ [])) whole (over_more n (front ++ clauses_of (take i lemmas)) listed c is own))
 
 -- the place of a name is that of it
 pub place_at : (variables : ℕ) (names places : List ℕ) (v : ℕ) → ArePlaces variables names places → Contains names v → (slice_index_or places v 0 < length names) × (slice_index_or names (slice_index_or places v 0) 0 ≡ v)
@@ -174,12 +174,12 @@ numbers_more ids numbers new count i is new_is =
     new_is ∙ (ap (λ ns. ns ++ (count + i) ∷ []) is ∙ (append_assoc ids rest ((count + i) ∷ []) ∙ ap (λ ns. ids ++ ns) (sym (map-range_with_len_more (λ j. count + j) 0 i i (omega arith)))))
 
 -- what was collected is over the names
-pub renaming_made : (full : Formula) (ids names numbers : List ℕ) (lemmas : List LogLine) (told dense : List Clause3) → All (λ id. id < length full.clauses) ids → AreOver full.variables (map (clause_at full.clauses) ids ++ clauses_of lemmas) told → AreNames full.variables names → AreTurned names told dense (length told) → numbers ≡ numbers_of ids (length full.clauses) (length lemmas) → IsRenaming (record { variables = length names; clauses = map literals_of dense }) names numbers full lemmas
-renaming_made full ids names numbers lemmas told dense low over are turned numbers_are = subst (λ ns. IsRenaming (record { variables = length names; clauses = map literals_of dense }) names ns full lemmas) (sym numbers_are) (record {
+pub renaming_made : (full : Formula) (ids names numbers : List ℕ) (lemmas : List LogLine) (listed dense : List Clause3) → All (λ id. id < length full.clauses) ids → AreOver full.variables (map (clause_at full.clauses) ids ++ clauses_of lemmas) listed → AreNames full.variables names → AreTurned names listed dense (length listed) → numbers ≡ numbers_of ids (length full.clauses) (length lemmas) → IsRenaming (record { variables = length names; clauses = map literals_of dense }) names numbers full lemmas
+renaming_made full ids names numbers lemmas listed dense low over are turned numbers_are = subst (λ ns. IsRenaming (record { variables = length names; clauses = map literals_of dense }) names ns full lemmas) (sym numbers_are) (record {
   names_are = are;
   variables = refl;
   known = All-map (AreKnown (length names)) literals_of dense (λ k d below. (turned.over k d below).known);
-  count = omega (arith, sizes, told_size, length-map dense literals_of, turned.size);
+  count = omega (arith, sizes, listed_size, length-map dense literals_of, turned.size);
   there = λ k d below. elim (cases_lt k (length ids)) [
     | inl early ↦ omega (arith, get_or_append_left ids after d k early, low k d early)
     | inr late ↦
@@ -188,10 +188,10 @@ renaming_made full ids names numbers lemmas told dense low over are turned numbe
         omega (arith, at, late, below, sizes)
   ];
   each = λ k below.
-      let low_k : k < length told = omega (arith, below, sizes, told_size) in
+      let low_k : k < length listed = omega (arith, below, sizes, listed_size) in
       let none : Clause3 = record { lits = []; len = 0 } in
       let own : map (renamed names) (clause_at (map literals_of dense) k) ≡ clause_at (front ++ clauses_of lemmas) k =
-      ap (map (renamed names)) (get_or-map literals_of dense k none [] (omega (arith, low_k, turned.size))) ∙ (turned.back k none none low_k ∙ (sym (get_or-map literals_of told k none [] low_k) ∙ ap (λ cs. clause_at cs k) over.are)) in
+      ap (map (renamed names)) (get_or-map literals_of dense k none [] (omega (arith, low_k, turned.size))) ∙ (turned.back k none none low_k ∙ (sym (get_or-map literals_of listed k none [] low_k) ∙ ap (λ cs. clause_at cs k) over.are)) in
       sym (own ∙ sym (same_clause k (omega (arith, below, sizes))));
 })
   where
@@ -204,8 +204,8 @@ renaming_made full ids names numbers lemmas told dense low over are turned numbe
     sizes : length (ids ++ after) ≡ length ids + length lemmas
     sizes = omega (arith, length-append ids after, length-map-range_with_len (λ j. length full.clauses + j) 0 (length lemmas))
 
-    told_size : length told ≡ length ids + length lemmas
-    told_size = omega (arith, length-map told literals_of, ap length over.are, length-append front (clauses_of lemmas), length-map ids (clause_at full.clauses), length-map lemmas (λ (l : LogLine). l.clause))
+    listed_size : length listed ≡ length ids + length lemmas
+    listed_size = omega (arith, length-map listed literals_of, ap length over.are, length-append front (clauses_of lemmas), length-map ids (clause_at full.clauses), length-map lemmas (λ (l : LogLine). l.clause))
 
     same_clause : (k : ℕ) → k < length ids + length lemmas → clause_at (full.clauses ++ clauses_of lemmas) (slice_index_or (ids ++ after) k 0) ≡ clause_at (front ++ clauses_of lemmas) k
     same_clause k below =
@@ -229,17 +229,17 @@ same_lists : (a b : List (List SatLit)) → length a ≡ length b → ((k : ℕ)
 same_lists a b size each = fill_by_all (clause_at b) a (length a) [] refl each ∙ sym (fill_by_all (clause_at b) b (length a) [] (sym size) (λ k below. refl))
 
 -- the clauses over names are all that were collected
-pub whole_made : (n : ℕ) (wanted : List (List SatLit)) (names : List ℕ) (told dense : List Clause3) → AreOver n wanted told → AreTurned names told dense (length told) → wanted ≡ map (map (renamed names)) (map literals_of dense)
-whole_made n wanted names told dense over turned =
+pub whole_made : (n : ℕ) (wanted : List (List SatLit)) (names : List ℕ) (listed dense : List Clause3) → AreOver n wanted listed → AreTurned names listed dense (length listed) → wanted ≡ map (map (renamed names)) (map literals_of dense)
+whole_made n wanted names listed dense over turned =
     let none : Clause3 = record { lits = []; len = 0 } in
-    let size = length-map told literals_of in
+    let size = length-map listed literals_of in
     let dense_size = length-map dense literals_of in
     let all_size = length-map (map literals_of dense) (map (renamed names)) in
-    sym over.are ∙ same_lists (map literals_of told) (map (map (renamed names)) (map literals_of dense)) (omega (arith, size, dense_size, all_size, turned.size)) (λ k below.
-    let low : k < length told = omega (arith, below, size) in
+    sym over.are ∙ same_lists (map literals_of listed) (map (map (renamed names)) (map literals_of dense)) (omega (arith, size, dense_size, all_size, turned.size)) (λ k below.
+    let low : k < length listed = omega (arith, below, size) in
     sym (get_or-map (map (renamed names)) (map literals_of dense) k [] [] (omega (arith, low, turned.size, dense_size))
     ∙ (ap (map (renamed names)) (get_or-map literals_of dense k none [] (omega (arith, low, turned.size)))
-    ∙ (turned.back k none none low ∙ sym (get_or-map literals_of told k none [] low)))))
+    ∙ (turned.back k none none low ∙ sym (get_or-map literals_of listed k none [] low)))))
 
 -- one bit more
 pub spreading_more : (variables : ℕ) (names : List ℕ) (values full new : List Bool) (i v : ℕ) (b : Bool) → AreNames variables names → IsSpreading variables names values full i → i < length names → v ≡ slice_index_or names i v → b ≡ bit values i → new ≡ (if b then slice_set full v true else full) → IsSpreading variables names values new (i + 1)

@@ -1,4 +1,4 @@
--- What was learned over names, told in terms of the formula.
+-- What was learned over names, in terms of the formula.
 use Rattle.std.proofs.Common.{◌≡◌, ℕ, zero, suc, ◌+◌, ◌-◌, ◌<◌, ◌≤◌, ◌^◌, ◌||◌, not, Bool, true, false, List, [], ◌∷◌, ◌++◌, length, map, take, All, Result, Ok, Err, IfOk, IfErr, slice_index_or, refl, sym, ◌∙◌, ap, subst, arith}
 use Rattle.std.specs.List.{list_any}
 use Rattle.std.proofs.lemmas.List.{append_assoc, get_or-append_right, get_or-map, get_or-take, length-append, length-map, length-take-le, map-append, take-map, take-take, take_at}
@@ -20,7 +20,7 @@ use Rattle.learn_solver.specs.declared.verdict.Finding.TheVariants.{Model, Refut
 use Rattle.learn_solver.proofs.AdvanceLemmas.{derived_after}
 use Rattle.learn_solver.proofs.SolverLemmas.{line_known, line_says, lines_known, steps_there}
 use Rattle.ask_core.specs.Renamings.{AreShort, IsRenaming, IsSpread, renamed, translated}
-use Rattle.ask_core.specs.Solved.{AreCharged, AreLearned, AreRefused, IsDenseVerdict, IsFound, IsSettled, IsTold, IsUnsettled, start_of, with_lines_of}
+use Rattle.ask_core.specs.Solved.{AreCharged, AreLearned, AreRefused, IsDenseVerdict, IsFound, IsSettled, IsTranslated, IsUnsettled, start_of, with_lines_of}
 use Rattle.ask_core.proofs.RenameLemmas.{has_all_renamed, met_renamed}
 use Rattle.cnf_core.proofs.LiteralLemmas.{variable_of-literal}
 use Rattle.ask_core.proofs.LineLemmas.{clauses_after, empties_renamed, is_negated-literal, line_translated, names_rename}
@@ -145,32 +145,32 @@ module _ (small : Formula) (names numbers : List ℕ) (full : Formula) (ids : Li
       ∙ (ap (λ b. differ b (is_negated (renamed names l))) (spread.each (variable_of l) below)
       ∙ ap (differ (bit values (variable_of l))) (is_negated-literal v s ∙ not-not (is_negated l)))
 
-  verdict_of : {O : Type 0} (lines : List LogLine) (before after : Charging O) (own : Finding) (answer : DenseVerdict) → AreLearned small lines → before.lines ≡ lemmas → AreCharged before (map t lines) after → IsFound small lines own → IsTold names full.variables (lemmas ++ map t lines) own answer → IsDenseVerdict (with_lines_of (start_of full ids lemmas) after) answer
-  verdict_of {O} lines before after (Model values) (Full bits) learned first charged found told =
+  verdict_of : {O : Type 0} (lines : List LogLine) (before after : Charging O) (own : Finding) (answer : DenseVerdict) → AreLearned small lines → before.lines ≡ lemmas → AreCharged before (map t lines) after → IsFound small lines own → IsTranslated names full.variables (lemmas ++ map t lines) own answer → IsDenseVerdict (with_lines_of (start_of full ids lemmas) after) answer
+  verdict_of {O} lines before after (Model values) (Full bits) learned first charged found verdict =
       let r = renamed names in
-      let all : All (λ c. is_met bits c ≡ true) (map (map r) small.clauses) = All-map (λ c. is_met bits c ≡ true) (map r) small.clauses (λ k d below. met_renamed (length names) r values bits (bit_spread values bits told) (slice_index_or small.clauses k d) (is.renaming.known k d below) ∙ found.1 k d below) in
+      let all : All (λ c. is_met bits c ≡ true) (map (map r) small.clauses) = All-map (λ c. is_met bits c ≡ true) (map r) small.clauses (λ k d below. met_renamed (length names) r values bits (bit_spread values bits verdict) (slice_index_or small.clauses k d) (is.renaming.known k d below) ∙ found.1 k d below) in
       let both : All (λ c. is_met bits c ≡ true) (map (clause_at full.clauses) ids ++ clauses_of lemmas) = subst (All (λ c. is_met bits c ≡ true)) (sym is.whole) all in
-      record { variables = told.size; meets = All-front (λ c. is_met bits c ≡ true) (map (clause_at full.clauses) ids) (clauses_of lemmas) both }
-  verdict_of {O} lines before after Refuted (Logged whole) learned first charged found told =
+      record { variables = verdict.size; meets = All-front (λ c. is_met bits c ≡ true) (map (clause_at full.clauses) ids) (clauses_of lemmas) both }
+  verdict_of {O} lines before after Refuted (Logged whole) learned first charged found verdict =
       let extended = charged_extended lines before after learned first charged in
       let ls : after.lines ≡ lemmas ++ map t lines = ap (λ (x : Charging O). x.lines) charged.charged ∙ ap (λ xs. xs ++ map t lines) first in
       let closed : list_any is_empty (clauses_of (lemmas ++ map t lines)) ≡ true =
       ap (list_any is_empty) (clauses_after names numbers (length full.clauses + length lemmas) lemmas lines)
       ∙ (list_any-append is_empty (clauses_of lemmas) (map (map (renamed names)) (clauses_of lines))
       ∙ (ap (λ b. b || list_any is_empty (map (map (renamed names)) (clauses_of lines))) is.filled ∙ (empties_renamed (renamed names) (clauses_of lines) ∙ found))) in
-      let same : whole.lines ≡ after.lines = told ∙ sym ls in
+      let same : whole.lines ≡ after.lines = verdict ∙ sym ls in
       record {
         lines_are = same;
         refutes = record {
           derived = subst (AreDerived full) (sym same) (derived_after (start_of full ids lemmas) (with_lines_of (start_of full ids lemmas) after) before after is.derived extended);
-          closed = ap (λ xs. list_any is_empty (clauses_of xs)) told ∙ closed;
+          closed = ap (λ xs. list_any is_empty (clauses_of xs)) verdict ∙ closed;
         };
       }
-  verdict_of {O} lines before after (Model values) (Logged whole) learned first charged found told = absurd told
-  verdict_of {O} lines before after Refuted (Full bits) learned first charged found told = absurd told
+  verdict_of {O} lines before after (Model values) (Logged whole) learned first charged found verdict = absurd verdict
+  verdict_of {O} lines before after Refuted (Full bits) learned first charged found verdict = absurd verdict
 
   pub dense_verdict : {O : Type 0} (before after : Charging O) (r : Result DenseVerdict Stop) → before.lines ≡ lemmas → IfOk r (IsSettled small names numbers full lemmas before after) → IfOk r (IsDenseVerdict (with_lines_of (start_of full ids lemmas) after))
-  dense_verdict {O} before after (Ok answer) first s = verdict_of s.lines before after s.own answer s.learned first s.charged s.found s.told
+  dense_verdict {O} before after (Ok answer) first s = verdict_of s.lines before after s.own answer s.learned first s.charged s.found s.verdict
   dense_verdict {O} before after (Err stop) first s = tt
 
   pub dense_extended : {O : Type 0} (before after : Charging O) (r : Result DenseVerdict Stop) → before.lines ≡ lemmas → IfOk r (IsSettled small names numbers full lemmas before after) → IfOk r (λ _. IsExtended (start_of full ids lemmas) (with_lines_of (start_of full ids lemmas) after) before after)

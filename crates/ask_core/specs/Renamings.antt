@@ -43,9 +43,9 @@ pub record IsOver (variables : ℕ) (clause : Clause3) : Type 0 where
   pub known : AreKnown variables (literals_of clause)
 
 -- These are short clauses over n variables.
-pub record AreOver (variables : ℕ) (clauses : List (List SatLit)) (told : List Clause3) : Type 0 where
-  pub are : map literals_of told ≡ clauses
-  pub over : All (IsOver variables) told
+pub record AreOver (variables : ℕ) (clauses : List (List SatLit)) (listed : List Clause3) : Type 0 where
+  pub are : map literals_of listed ≡ clauses
+  pub over : All (IsOver variables) listed
 
 -- a clause's variables are among these
 abbrev pub IsNamed : List ℕ → List SatLit → Type 0

@@ -59,11 +59,11 @@ AreRefused {O} old lines new Memory = Unit {0}
 
 -- an answer over names and the one over the formula's variables: each variable has the bit of its name, or the log has
 -- the lemmas and then the lines
-abbrev pub IsTold : List ℕ → ℕ → List LogLine → Finding → DenseVerdict → Type 0
-IsTold names variables lines (Model values) (Full full) = IsSpread names values variables full
-IsTold names variables lines Refuted (Logged whole) = whole.lines ≡ lines
-IsTold names variables lines (Model values) (Logged whole) = ⊥
-IsTold names variables lines Refuted (Full full) = ⊥
+abbrev pub IsTranslated : List ℕ → ℕ → List LogLine → Finding → DenseVerdict → Type 0
+IsTranslated names variables lines (Model values) (Full full) = IsSpread names values variables full
+IsTranslated names variables lines Refuted (Logged whole) = whole.lines ≡ lines
+IsTranslated names variables lines (Model values) (Logged whole) = ⊥
+IsTranslated names variables lines Refuted (Full full) = ⊥
 
 -- what an answer says of a solver's clauses: its model has a value for each variable of the formula
 abbrev pub IsDenseVerdict : Solving → DenseVerdict → Type 0
@@ -83,7 +83,7 @@ pub record IsSettled {O : Type 0} (small : Formula) (names numbers : List ℕ) (
   pub learned : AreLearned small lines
   pub found : IsFound small lines own
   pub charged : AreCharged old (map (translated names numbers (length full.clauses + length lemmas)) lines) new
-  pub told : IsTold names full.variables (lemmas ++ map (translated names numbers (length full.clauses + length lemmas)) lines) own answer
+  pub verdict : IsTranslated names full.variables (lemmas ++ map (translated names numbers (length full.clauses + length lemmas)) lines) own answer
 
 -- A search over names whose lines were charged up to one that was refused.
 pub record IsCutOff {O : Type 0} (small : Formula) (names numbers : List ℕ) (full : Formula) (lemmas : List LogLine)

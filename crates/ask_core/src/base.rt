@@ -6,7 +6,7 @@ ghost use Rattle.cnf_core.specs.Derivations.{clauses_of};
 ghost use Rattle.claim_core.specs.Formulas.{formula_of, query_clauses};
 ghost use Rattle.ask_core.specs.Renamings.{AreShort, IsRenaming, numbers_of, renamed, small_formula};
 
-use crate::clauses::{over_names, wanted};
+use crate::clauses::{all_clauses, over_names};
 use crate::names::names_of;
 use cnf_core::{Base, Clause3, LogLine, SatLit};
 use query_core::ConeClauses;
@@ -57,7 +57,7 @@ impl DenseBase {
             ≡ map (map (renamed dense.names)) dense.clauses) }
     {
         let variables = cones.variables();
-        let clauses = wanted(alloc, cones, lemmas)?;
+        let clauses = all_clauses(alloc, cones, lemmas)?;
         let names = names_of(alloc, &clauses, variables)?;
         let clauses = over_names(alloc, &clauses, &names, variables)?;
         if clauses.len() as u64 >= 1 << 62 {

@@ -14,7 +14,7 @@ use query_core::ConeClauses;
 use std::alloc::{AllocError, Global};
 
 /// The clauses of a query's cones, and those of lemmas.
-pub(crate) fn wanted(
+pub(crate) fn all_clauses(
     alloc: Global,
     cones: &ConeClauses<'_>,
     lemmas: &[LogLine],
@@ -25,7 +25,7 @@ pub(crate) fn wanted(
         (map (clause_at (query_clauses cones.now.graphs cones.now.query)) cones.now.ids
         ++ clauses_of lemmas.now) clauses.items) }
 {
-    let mut clauses = told(alloc, cones)?;
+    let mut clauses = clauses_of_cones(alloc, cones)?;
     for line in lemmas.iter() {
         clauses.push(short(&line.clause))?;
     }
@@ -33,7 +33,7 @@ pub(crate) fn wanted(
 }
 
 // The clauses of a query's cones.
-fn told(alloc: Global, cones: &ConeClauses<'_>) -> Result<Vec<Clause3>, AllocError>
+fn clauses_of_cones(alloc: Global, cones: &ConeClauses<'_>) -> Result<Vec<Clause3>, AllocError>
     ensures { IfOk result (λ clauses. AreOver (formula_of cones.now.graphs cones.now.query).variables
         (map (clause_at (query_clauses cones.now.graphs cones.now.query)) cones.now.ids) clauses.items) }
 {

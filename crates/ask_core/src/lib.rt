@@ -17,7 +17,7 @@ mod question;
 mod small;
 mod solving;
 mod tab;
-mod telling;
+mod translation;
 mod vector;
 mod verdict;
 

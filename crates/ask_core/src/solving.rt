@@ -1,4 +1,4 @@
-//! The search over names, told in terms of the formula.
+//! The search over names, in terms of the formula.
 
 ghost use Rattle.std.specs.Prelude.{◌≡◌, ◌<◌, ◌^◌, All, IfOk, IfErr, true, false, length};
 ghost use Rattle.cnf_core.specs.Derivations.{AreDerived, clauses_of};
@@ -10,7 +10,7 @@ ghost use Rattle.ask_core.specs.Solved.{IsDenseVerdict, IsOf, IsSettled, IsUnset
 use crate::base::DenseBase;
 use crate::small::{solve_small, solver_of};
 use crate::tab::Tab;
-use crate::telling::{charge_told, told};
+use crate::translation::{charge_translated, verdict_of};
 use crate::verdict::DenseVerdict;
 use cnf_core::{Base, Charge, LogLine, Stop};
 use query_core::ConeClauses;
@@ -89,14 +89,14 @@ fn search_dense<L: Charge, W: Watch>(
     match solve_small(alloc, dense, cones.ids().len(), &mut solver, tab) {
         Ok(own) => {
             let found = solver.into_log();
-            let lines = charge_told(alloc, dense, next, &found.lines, ledger)?;
-            let verdict = told(alloc, dense, cones.variables(), lemmas, lines, own)?;
+            let lines = charge_translated(alloc, dense, next, &found.lines, ledger)?;
+            let verdict = verdict_of(alloc, dense, cones.variables(), lemmas, lines, own)?;
             Ok(verdict)
         }
         Err(Stop::Spent(_)) => {
             let found = solver.into_log();
             // the solver's lines are one more than the budget has left, so that charging them stops before their end
-            let _lines = charge_told(alloc, dense, next, &found.lines, ledger)?;
+            let _lines = charge_translated(alloc, dense, next, &found.lines, ledger)?;
             unreachable!()
         }
         Err(Stop::Memory) => Err(Stop::Memory),

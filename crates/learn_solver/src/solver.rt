@@ -198,7 +198,7 @@ impl<'a, B: Base> Solver<'a, B> {
     }
 
     // What was found, with the lines as a log.
-    fn told(&self, alloc: Global, found: Finding) -> Result<Verdict, AllocError>
+    fn verdict_of(&self, alloc: Global, found: Finding) -> Result<Verdict, AllocError>
         requires { IsFinding self.now found }
         ensures { IfOk result (IsVerdict self.now) }
     {
@@ -313,7 +313,7 @@ pub fn solve<B: Base, L: Charge>(
         (IsBoundedStop solver.old.formula.variables (L.charging ledger.old) (L.charging ledger.new)) }
 {
     let found = solve_guided(alloc, solver, &mut Unguided, ledger)?;
-    let verdict = solver.told(alloc, found)?;
+    let verdict = solver.verdict_of(alloc, found)?;
     Ok(verdict)
 }
 

@@ -9,31 +9,31 @@ use Rattle.ask_core.proofs.FullLemmas.{learned_few, learned_known}
 use Rattle.ask_core.proofs.solving.search_dense.Goals as goal
 use Rattle.cnf_core.specs.Clauses.{AreKnown}
 
-pub charge_told-requires-clause-known : goal.charge_told-requires-clause-known
-charge_told-requires-clause-known g c =
+pub charge_translated-requires-clause-known : goal.charge_translated-requires-clause-known
+charge_translated-requires-clause-known g c =
     let small = small_formula c.args.dense.now in
     let n = length c.args.dense.now.names in
     let same = c.deref.ensures.value ∙ c.into_log-found.ensures in
     subst (λ (ls : List LogLine). All (AreKnown n) (clauses_of ls)) (sym same) (learned_known small n c.solve_small.new.solver.lines c.in-Ok.ensures.learned c.requires.renaming.variables)
 
-pub charge_told-requires-clause-few : goal.charge_told-requires-clause-few
-charge_told-requires-clause-few g c =
+pub charge_translated-requires-clause-few : goal.charge_translated-requires-clause-few
+charge_translated-requires-clause-few g c =
     let small = small_formula c.args.dense.now in
     let lines = c.deref.result.now in
     let next = c.count.result + length c.args.lemmas.now in
     let learned = subst (AreLearned small) (sym (c.deref.ensures.value ∙ c.into_log-found.ensures)) c.in-Ok.ensures.learned in
     learned_few small lines next learned (omega (arith, c.count.ensures.few, c.requires.few)) (omega (arith, c.count-count.ensures.value, c.count-count.ensures.few)) (omega (arith, c.deref.type_inv.1))
 
-pub charge_told-requires-in-Err-Spent-clause-known : goal.charge_told-requires-in-Err-Spent-clause-known
-charge_told-requires-in-Err-Spent-clause-known g c =
+pub charge_translated-requires-in-Err-Spent-clause-known : goal.charge_translated-requires-in-Err-Spent-clause-known
+charge_translated-requires-in-Err-Spent-clause-known g c =
     let small = small_formula c.args.dense.now in
     let n = length c.args.dense.now.names in
     let same = c.deref-in-Err-Spent.ensures.value ∙ c.into_log-found-in-Err-Spent.ensures in
     let spent = subst (IsHalted small c.solve_small.new.solver.lines c.args.tab.now) c.in-Err-Spent.field-0-is c.in-Err-Spent.ensures.stop in
     subst (λ (ls : List LogLine). All (AreKnown n) (clauses_of ls)) (sym same) (learned_known small n c.solve_small.new.solver.lines spent.0 c.requires.renaming.variables)
 
-pub charge_told-requires-in-Err-Spent-clause-few : goal.charge_told-requires-in-Err-Spent-clause-few
-charge_told-requires-in-Err-Spent-clause-few g c =
+pub charge_translated-requires-in-Err-Spent-clause-few : goal.charge_translated-requires-in-Err-Spent-clause-few
+charge_translated-requires-in-Err-Spent-clause-few g c =
     let small = small_formula c.args.dense.now in
     let lines = c.deref-in-Err-Spent.result.now in
     let next = c.count.result + length c.args.lemmas.now in

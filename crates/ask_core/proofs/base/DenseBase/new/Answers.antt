@@ -19,13 +19,13 @@ returns c =
     let full = formula_of c.args.cones.now.graphs c.args.cones.now.query in
     let names = c.in_ok-names.names.items in
     let low = c.ids.ensures.are.there in
-    let told = c.in_ok-clauses.clauses.items in
+    let listed = c.in_ok-clauses.clauses.items in
     let dense = c.in_ok-clauses-2.clauses.items in
     let are = subst (λ (n : ℕ). AreNames n names) c.variables-variables.ensures c.in_ok-names.ensures.names in
-    let turned_told = subst (λ (cs : List Clause3). AreTurned c.deref-3.result.now cs dense (length cs)) c.deref-2.ensures.value c.in_ok-clauses-2.ensures in
-    let turned = subst (λ (ns : List ℕ). AreTurned ns told dense (length told)) c.deref-3.ensures.value turned_told in
+    let turned_listed = subst (λ (cs : List Clause3). AreTurned c.deref-3.result.now cs dense (length cs)) c.deref-2.ensures.value c.in_ok-clauses-2.ensures in
+    let turned = subst (λ (ns : List ℕ). AreTurned ns listed dense (length listed)) c.deref-3.ensures.value turned_listed in
     let numbers_are = c.in_ok-numbers.ensures ∙ (ap (λ (xs : List ℕ). numbers_of xs c.count.result (length c.args.lemmas.now)) c.ids.ensures.value ∙ ap (λ (n : ℕ). numbers_of c.args.cones.now.ids n (length c.args.lemmas.now)) c.count.ensures.value) in
     record {
-      renaming = renaming_made full c.args.cones.now.ids names c.in_ok-numbers.numbers.items c.args.lemmas.now told dense low c.in_ok-clauses.ensures are turned numbers_are;
-      whole = whole_made full.variables (map (clause_at full.clauses) c.args.cones.now.ids ++ clauses_of c.args.lemmas.now) names told dense c.in_ok-clauses.ensures turned;
+      renaming = renaming_made full c.args.cones.now.ids names c.in_ok-numbers.numbers.items c.args.lemmas.now listed dense low c.in_ok-clauses.ensures are turned numbers_are;
+      whole = whole_made full.variables (map (clause_at full.clauses) c.args.cones.now.ids ++ clauses_of c.args.lemmas.now) names listed dense c.in_ok-clauses.ensures turned;
     }

@@ -1,7 +1,7 @@
 -- A line is over the names.
 use Rattle.std.proofs.Common.{length}
 use Rattle.learn_solver.proofs.StartLemmas.{line_clause}
-use Rattle.ask_core.proofs.telling.translated_all.Goals as goal
+use Rattle.ask_core.proofs.translation.translated_all.Goals as goal
 use Rattle.cnf_core.specs.Clauses.{AreKnown}
 
 pub translated-requires-clause-known : goal.translated-requires-clause-known

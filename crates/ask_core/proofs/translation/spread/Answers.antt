@@ -3,7 +3,7 @@ use Rattle.std.proofs.Common.{◌<◌, length, slice_index_or, refl, arith}
 use Rattle.std.proofs.lemmas.List.{get_or_default}
 use Rattle.circuits.specs.Literals.{bit}
 use Rattle.ask_core.proofs.BaseLemmas.{spreading_more}
-use Rattle.ask_core.proofs.telling.spread.Goals as goal
+use Rattle.ask_core.proofs.translation.spread.Goals as goal
 
 pub loop-place-preserved : goal.loop-place-preserved
 loop-place-preserved c =

@@ -5,7 +5,7 @@ use Rattle.cnf_core.specs.Clauses.{clause_at, AreKnown}
 use Rattle.learn_solver.proofs.StartLemmas.{line_clause}
 use Rattle.claim_core.specs.Formulas.{formula_of}
 use Rattle.ask_core.proofs.BaseLemmas.{lemma_over_more}
-use Rattle.ask_core.proofs.clauses.wanted.Goals as goal
+use Rattle.ask_core.proofs.clauses.all_clauses.Goals as goal
 
 pub short-requires-clause-some : goal.short-requires-clause-some
 short-requires-clause-some c =

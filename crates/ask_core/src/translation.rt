@@ -1,10 +1,10 @@
-//! What was found over names, told in terms of the formula.
+//! What was found over names, translated into terms of the formula.
 
 ghost use Rattle.std.specs.Prelude.{◌≡◌, ◌+◌, ◌<◌, ◌^◌, ◌++◌, All, IfOk, IfErr, OnOk, true, false, length, map};
 ghost use Rattle.cnf_core.specs.Derivations.{clauses_of};
 ghost use Rattle.cnf_core.specs.Clauses.{AreKnown};
 ghost use Rattle.ask_core.specs.Renamings.{AreNames, IsSpread, translated};
-ghost use Rattle.ask_core.specs.Solved.{AreCharged, AreRefused, HaveNamed, IsTold};
+ghost use Rattle.ask_core.specs.Solved.{AreCharged, AreRefused, HaveNamed, IsTranslated};
 
 use crate::base::DenseBase;
 use crate::charging::charge_all;
@@ -17,7 +17,7 @@ use learn_solver::Finding;
 use std::alloc::{AllocError, Global};
 
 /// Charges lines over names as lines of the formula, and answers these.
-pub(crate) fn charge_told<L: Charge>(
+pub(crate) fn charge_translated<L: Charge>(
     alloc: Global,
     dense: &DenseBase,
     next: u64,
@@ -29,15 +29,15 @@ pub(crate) fn charge_told<L: Charge>(
     requires opened { (L.charging ledger.old).opened ≡ true }
     requires not_spent { (L.charging ledger.old).spent ≡ false }
     ensures lines { IfOk result
-        (λ told. told.items ≡ map (translated dense.now.names dense.now.numbers next) lines.now) }
+        (λ copies. copies.items ≡ map (translated dense.now.names dense.now.numbers next) lines.now) }
     ensures charged { OnOk result (AreCharged (L.charging ledger.old)
         (map (translated dense.now.names dense.now.numbers next) lines.now) (L.charging ledger.new)) }
     ensures refused { IfErr result (AreRefused (L.charging ledger.old)
         (map (translated dense.now.names dense.now.numbers next) lines.now) (L.charging ledger.new)) }
 {
-    let told = translated_all(alloc, dense, next, lines)?;
-    charge_all(&told, ledger)?;
-    Ok(told)
+    let copies = translated_all(alloc, dense, next, lines)?;
+    charge_all(&copies, ledger)?;
+    Ok(copies)
 }
 
 // Lines over names as lines of the formula.
@@ -49,17 +49,17 @@ fn translated_all(
 ) -> Result<Vec<LogLine>, AllocError>
     requires known { All (AreKnown (length dense.now.names)) (clauses_of lines.now) }
     requires few { All (λ line. All (λ hint. next + hint < 2 ^ 64) line.hints) lines.now }
-    ensures { IfOk result (λ told. told.items ≡ map (translated dense.now.names dense.now.numbers next) lines.now) }
+    ensures { IfOk result (λ copies. copies.items ≡ map (translated dense.now.names dense.now.numbers next) lines.now) }
 {
-    let mut told = Vec::new(alloc);
+    let mut copies = Vec::new(alloc);
     for line in lines.iter() {
-        told.push(translated(alloc, dense, next, line)?)?;
+        copies.push(translated(alloc, dense, next, line)?)?;
     }
-    Ok(told)
+    Ok(copies)
 }
 
 /// An answer over names, over n variables of the formula. A log has the lemmas and then the lines.
-pub(crate) fn told(
+pub(crate) fn verdict_of(
     alloc: Global,
     dense: &DenseBase,
     variables: u64,
@@ -69,7 +69,7 @@ pub(crate) fn told(
 ) -> Result<DenseVerdict, AllocError>
     requires names { AreNames variables dense.now.names }
     requires named { HaveNamed (length dense.now.names) own }
-    ensures { IfOk result (IsTold dense.now.names variables (lemmas.now ++ lines.items) own) }
+    ensures { IfOk result (IsTranslated dense.now.names variables (lemmas.now ++ lines.items) own) }
 {
     match own {
         Finding::Model(values) => {

@@ -1,6 +1,6 @@
 -- The lines so far.
 use Rattle.std.proofs.Common.{◌≡◌, ◌++◌}
-use Rattle.ask_core.proofs.telling.joined.Given as goal
+use Rattle.ask_core.proofs.translation.joined.Given as goal
 
 abbrev pub invariant-loop-line : goal.invariant-loop-line
 invariant-loop-line l = l.whole.items ≡ l.lemmas ++ l.yielded
