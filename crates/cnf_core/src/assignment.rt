@@ -91,8 +91,12 @@ fn is_among(literals: &[SatLit], literal: SatLit) -> bool
     literals.iter().any(|other| literal == *other)
 }
 
-// The opposites of a clause's literals.
-fn opposites(alloc: Global, clause: &[SatLit]) -> Result<Vec<SatLit>, AllocError>
+/// The opposites of a clause's literals.
+///
+/// # Errors
+///
+/// Only when out of memory.
+pub fn opposites(alloc: Global, clause: &[SatLit]) -> Result<Vec<SatLit>, AllocError>
     ensures { IfOk result (λ literals. literals.items ≡ map opposite clause.now) }
 {
     clause

@@ -13,7 +13,7 @@ mod literal;
 mod log;
 mod stop;
 
-pub use assignment::{Assignment, ShortAssignment};
+pub use assignment::{Assignment, ShortAssignment, opposites};
 pub use base::Base;
 pub use charge::Charge;
 pub use clause::Clause3;

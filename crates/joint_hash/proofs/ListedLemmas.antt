@@ -13,7 +13,7 @@ use Rattle.claim_core.specs.ConeClauses.{AreConeIds}
 use Rattle.joint_hash.specs.declared.gates.ConeGate.{ConeGate}
 use Rattle.joint_hash.specs.declared.twins.Twin.{Twin}
 use Rattle.joint_hash.specs.Trees.{IsGateOf}
-use Rattle.joint_hash.specs.Chains.{AreListed}
+use Rattle.joint_hash.specs.Chains.{AddsLines, AreListed}
 use Rattle.joint_hash.specs.Merging.{AreBetween}
 use Rattle.joint_hash.specs.Classes.{AreLate, AreTwins, chain_ids, lemma_ids}
 
@@ -114,6 +114,18 @@ chain_listed graphs query ids count clauses twins start end are twins_are of_sta
 
 pub listed_more : (count : ℕ) (listed ids : List ℕ) (id : ℕ) → AreListed count listed ids → (id < count → Contains listed id) → AreListed count listed (ids ++ id ∷ [])
 listed_more count listed ids id are here = All-push (λ k. k < count → Contains listed k) ids id are here
+
+-- the numbers of a gate's clauses, those of lines after each, and then the last one of another gate
+pub steps_between : (count : ℕ) (start end : ConeGate) (none one linked two both whole : List ℕ) → none ≡ [] → one ≡ none ++ start.id ∷ [] → AddsLines count one linked → two ≡ linked ++ (start.id + 1) ∷ [] → AddsLines count two both → whole ≡ both ++ (end.id + 2) ∷ [] → AreBetween count start end whole
+steps_between count start end none one linked two both whole none_is one_is adds two_is adds_too whole_is =
+    let ids = 0 ∷ start.id ∷ (start.id + 1) ∷ (end.id + 2) ∷ [] in
+    let P : List ℕ → Type 0 = AreBetween count start end in
+    let empty = subst P (sym none_is) (none_listed count ids) in
+    let first = subst P (sym one_is) (listed_more count ids none start.id empty (λ early. start_between start end)) in
+    let after_first = adds ids (constant_between start end) first in
+    let second = subst P (sym two_is) (listed_more count ids linked (start.id + 1) after_first (λ early. second_between start end)) in
+    let after_second = adds_too ids (constant_between start end) second in
+    subst P (sym whole_is) (listed_more count ids both (end.id + 2) after_second (λ early. end_between start end))
 
 pub listed_lemma : (count : ℕ) (twins : ℕ → Option Twin) (listed ids : List ℕ) (l : SatLit) (onto : Bool) → AreLate count twins → AreListed count listed ids → AreListed count listed (ids ++ lemma_ids (twins (variable_of l)) l onto)
 listed_lemma count twins listed ids l onto late are =

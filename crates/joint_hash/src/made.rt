@@ -5,7 +5,7 @@ ghost use Rattle.cnf_core.specs.Clauses.{opposite};
 ghost use Rattle.cnf_core.specs.Derivations.{is_true};
 ghost use Rattle.joint_hash.specs.Made.{AreNumbersOf, AreTold};
 
-use cnf_core::{Assignment, SatLit};
+use cnf_core::{Assignment, SatLit, opposites};
 use indexmap::IndexSet;
 use std::alloc::{AllocError, Global};
 use std::marker::Model;
@@ -96,16 +96,6 @@ fn is_among(literals: &[SatLit], numbers: &Numbers, literal: SatLit) -> bool
         Numbers::Few => literals.iter().any(|other| literal == *other),
         Numbers::Many(numbers) => numbers.contains(&literal.0),
     }
-}
-
-// The opposites of a clause's literals.
-fn opposites(alloc: Global, clause: &[SatLit]) -> Result<Vec<SatLit>, AllocError>
-    ensures { IfOk result (λ literals. literals.items ≡ map opposite clause.now) }
-{
-    clause
-        .iter()
-        .map(|literal| literal.opposite())
-        .collect(alloc)
 }
 
 // The numbers of literals with one more.
