@@ -27,8 +27,8 @@ pub(crate) fn reaches(alloc: Global, query: &Query, gates: &[Gate]) -> Result<Ve
     Ok(signals)
 }
 
-/// Whether each of these gates, which the right output reaches, reaches an input whose two feeds differ. Nothing is said
-/// of the other gates.
+/// Whether each of these gates, which the right output reaches, reaches an input whose two feeds differ. Nothing is
+/// said of the other gates.
 pub(crate) fn reaches_in_cone(
     alloc: Global,
     query: &Query,

@@ -1,6 +1,6 @@
 //! Clauses and logs, put and read back.
 
-use cnf_core::{Clause3, ClauseStore, Log, LogLine, SatLit};
+use cnf_core::{Clause3, ClauseStore, Log, LogLine, SatLit, opposites};
 use items::Items;
 use std::alloc::{AllocError, Global};
 use std::test::Fail;
@@ -23,6 +23,21 @@ fn log_of_two_lines(alloc: Global) -> Result<Log, AllocError> {
 fn copies_logs(rt: HostRuntime) -> Result<(), Fail> {
     let log = log_of_two_lines(rt.alloc())?;
     assert!(rt; log.copy(rt.alloc())? == log);
+    Ok(())
+}
+
+fn has_opposites(
+    alloc: Global,
+    clause: &[SatLit],
+    expected: &[SatLit],
+) -> Result<bool, AllocError> {
+    let literals = opposites(alloc, clause)?;
+    Ok(literals.as_slice() == expected)
+}
+
+#[test]
+fn negates_literals(rt: HostRuntime) -> Result<(), Fail> {
+    assert!(rt; has_opposites(rt.alloc(), &[SatLit(2), SatLit(5)], &[SatLit(3), SatLit(4)])?);
     Ok(())
 }
 

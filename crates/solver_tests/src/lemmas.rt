@@ -20,26 +20,26 @@ fn lemmas_of(alloc: Global, graphs: &Graphs<'_>, query: &Query) -> Result<Vec<Lo
     merge(alloc, &cones)
 }
 
-fn are_clauses(lines: &[LogLine], wanted: &[[u64; 2]]) -> bool {
-    for (line, numbers) in lines.iter().zip(wanted.iter()) {
+fn are_clauses(lines: &[LogLine], expected: &[[u64; 2]]) -> bool {
+    for (line, numbers) in lines.iter().zip(expected.iter()) {
         if !are_literals(line.clause.as_slice(), numbers) {
             return false;
         }
     }
-    lines.len() == wanted.len()
+    lines.len() == expected.len()
 }
 
 fn has_lemmas(
     alloc: Global,
     graphs: &Graphs<'_>,
     query: &Query,
-    wanted: &[[u64; 2]],
+    expected: &[[u64; 2]],
 ) -> Result<bool, AllocError> {
     if !is_query(graphs, query) {
         return Ok(false);
     }
     let lines = lemmas_of(alloc, graphs, query)?;
-    Ok(are_clauses(&lines, wanted))
+    Ok(are_clauses(&lines, expected))
 }
 
 /// Gates of two circuits of two inputs, with their outputs, and the lemmas: the literals of each clause.
@@ -164,13 +164,13 @@ fn has_match_lemmas(
     alloc: Global,
     graphs: &Graphs<'_>,
     matching: &Matching,
-    wanted: &[[u64; 2]],
+    expected: &[[u64; 2]],
 ) -> Result<bool, AllocError> {
     let Some(query) = match_query(alloc, graphs, matching, true)? else {
         return Ok(false);
     };
     let lines = lemmas_of(alloc, graphs, &query)?;
-    Ok(are_clauses(&lines, wanted))
+    Ok(are_clauses(&lines, expected))
 }
 
 #[test]
@@ -201,14 +201,14 @@ fn needs_lemmas(
     alloc: Global,
     both: &GraphPair,
     matching: &Matching,
-    wanted: Option<usize>,
+    expected: Option<usize>,
 ) -> Result<bool, AllocError> {
     let graphs = both.graphs();
     let Some(query) = match_query(alloc, &graphs, matching, true)? else {
         return Ok(false);
     };
     let found = needed_for(alloc, &graphs, &query)?;
-    Ok(found == wanted)
+    Ok(found == expected)
 }
 
 /// Gates of two circuits of two inputs, with their outputs, and how many lemmas their comparison needs.

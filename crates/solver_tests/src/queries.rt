@@ -30,11 +30,11 @@ fn is_clause(base: &QueryBase<'_>, id: u64, numbers: &[u64]) -> bool {
     are_literals(base.clause(id).literals(), numbers)
 }
 
-/// The number of the first clause that isn't the wanted one, given by the numbers of its literals.
-fn wrong_clause(base: &QueryBase<'_>, wanted: &[&[u64]]) -> Option<u64> {
-    let count = wanted.len() as u64;
+/// The number of the first clause that isn't the expected one, given by the numbers of its literals.
+fn wrong_clause(base: &QueryBase<'_>, expected: &[&[u64]]) -> Option<u64> {
+    let count = expected.len() as u64;
     for id in 0..count {
-        if !is_clause(base, id, wanted[id as usize]) {
+        if !is_clause(base, id, expected[id as usize]) {
             return Some(id);
         }
     }
@@ -49,12 +49,12 @@ fn wrong_clause_of(
     alloc: Global,
     graphs: &Graphs<'_>,
     query: &Query,
-    wanted: &[&[u64]],
+    expected: &[&[u64]],
 ) -> Result<Option<u64>, AllocError>
     requires { IsQuery graphs.now query.now }
 {
     let base = QueryBase::new(alloc, graphs, query)?;
-    Ok(wrong_clause(&base, wanted))
+    Ok(wrong_clause(&base, expected))
 }
 
 /// The query of a match for its one output, or None where these aren't the circuits' ports.
@@ -85,22 +85,22 @@ fn wrong_match_clause(
     graphs: &Graphs<'_>,
     matching: &Matching,
     value: bool,
-    wanted: &[&[u64]],
+    expected: &[&[u64]],
 ) -> Result<Option<u64>, AllocError> {
     let Some(query) = match_query(alloc, graphs, matching, value)? else {
         return Ok(Some(0));
     };
-    wrong_clause_of(alloc, graphs, &query, wanted)
+    wrong_clause_of(alloc, graphs, &query, expected)
 }
 
 fn wrong_difference_clause(
     alloc: Global,
     value: bool,
-    wanted: &[&[u64]],
+    expected: &[&[u64]],
 ) -> Result<Option<u64>, Fail> {
     let both = GraphPair::new(alloc, 2, (&[(2, 4)], 6), (&[(3, 5)], 7))?;
     let inverting = matching(alloc, &[(0, true), (1, true)], &[(0, true)])?;
-    Ok(wrong_match_clause(alloc, &both.graphs(), &inverting, value, wanted)?)
+    Ok(wrong_match_clause(alloc, &both.graphs(), &inverting, value, expected)?)
 }
 
 /// The clauses of a match that inverts each port of an AND and an OR, where the AND is true. Variables 1 and 2 are the
@@ -162,10 +162,10 @@ fn rise_query(alloc: Global, graphs: &Graphs<'_>) -> Result<Option<Query>, Alloc
 fn wrong_clause_of_rise(
     alloc: Global,
     graphs: &Graphs<'_>,
-    wanted: &[&[u64]],
+    expected: &[&[u64]],
 ) -> Result<Option<u64>, Fail> {
     let query = rise_query(alloc, graphs)?.ok_or("no port")?;
-    Ok(wrong_clause_of(alloc, graphs, &query, wanted)?)
+    Ok(wrong_clause_of(alloc, graphs, &query, expected)?)
 }
 
 fn wrong_rise_clause(
@@ -173,10 +173,10 @@ fn wrong_rise_clause(
     inputs: u32,
     gates: &[(u32, u32)],
     output: u32,
-    wanted: &[&[u64]],
+    expected: &[&[u64]],
 ) -> Result<Option<u64>, Fail> {
     let both = circuits_of(alloc, inputs, gates, output)?;
-    wrong_clause_of_rise(alloc, &both.graphs(), wanted)
+    wrong_clause_of_rise(alloc, &both.graphs(), expected)
 }
 
 /// The clauses of an AND of inputs 0 and 1: it reads input 0, whose feeds differ.
@@ -240,18 +240,18 @@ fn has_cone_ids(
     alloc: Global,
     graphs: &Graphs<'_>,
     query: &Query,
-    wanted: &[u64],
+    expected: &[u64],
 ) -> Result<bool, AllocError>
     requires { IsQuery graphs.now query.now }
 {
     let base = QueryBase::new(alloc, graphs, query)?;
     let cones = ConeClauses::new(alloc, graphs, query)?;
-    Ok(are_those_of(&base, &cones) & (cones.ids() == wanted))
+    Ok(are_those_of(&base, &cones) & (cones.ids() == expected))
 }
 
-fn has_rise_ids(alloc: Global, graphs: &Graphs<'_>, wanted: &[u64]) -> Result<bool, Fail> {
+fn has_rise_ids(alloc: Global, graphs: &Graphs<'_>, expected: &[u64]) -> Result<bool, Fail> {
     let query = rise_query(alloc, graphs)?.ok_or("no port")?;
-    Ok(has_cone_ids(alloc, graphs, &query, wanted)?)
+    Ok(has_cone_ids(alloc, graphs, &query, expected)?)
 }
 
 /// Two gates over two inputs, and the numbers of the clauses of an output's cone, which gate 1 is.
@@ -267,10 +267,10 @@ static CONE_IDS: [(&[(u32, u32)], &[u64]); 2] = [
 
 #[test]
 fn numbers_the_clauses_of_cones(rt: HostRuntime) -> Result<(), Fail> {
-    for (gates, wanted) in CONE_IDS.iter() {
+    for (gates, expected) in CONE_IDS.iter() {
         let both = circuits_of(rt.alloc(), 2, gates, 9)?;
         assert!(rt;
-            has_rise_ids(rt.alloc(), &both.graphs(), wanted)?,
+            has_rise_ids(rt.alloc(), &both.graphs(), expected)?,
             "at {gates:?}"
         );
     }
@@ -314,7 +314,7 @@ fn moves_claims(rt: HostRuntime) -> Result<(), Fail> {
     let low = swap(0, 1, false, false);
     let left_low = swap(0, 1, false, true);
     let right_low = swap(0, 1, true, false);
-    for (output, shape, wanted) in [
+    for (output, shape, expected) in [
         (0, Shape::Up(0), moved(2, Shape::Up(1))),
         (0, Shape::Up(1), moved(2, Shape::Down(0))),
         (0, Shape::Down(1), moved(2, Shape::Up(0))),
@@ -328,7 +328,7 @@ fn moves_claims(rt: HostRuntime) -> Result<(), Fail> {
         (0, swap(1, 2, true, true), None),
     ] {
         let given = image(&claim(Side::First, output, shape), &pairs);
-        assert!(rt; given == wanted, "at {output} {shape:?}");
+        assert!(rt; given == expected, "at {output} {shape:?}");
     }
     Ok(())
 }

@@ -241,8 +241,8 @@ fn answers_small_formulas(rt: HostRuntime) -> Result<(), Fail> {
         (&THREE_PIGEONS[1..], 99, Outcome::Model),
         (&FOUR_PIGEONS[1..], 999, Outcome::Model),
     ];
-    for (clauses, budget, wanted) in rows {
-        assert_eq!(rt; outcome_of(rt.alloc(), clauses, budget)?, wanted);
+    for (clauses, budget, expected) in rows {
+        assert_eq!(rt; outcome_of(rt.alloc(), clauses, budget)?, expected);
     }
     Ok(())
 }
