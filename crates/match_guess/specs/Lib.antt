@@ -1,2 +1,0 @@
-pub mod Trials
-pub use Rattle.account_core.specs.Ports

@@ -2,16 +2,16 @@
 
 ghost use Rattle.std.specs.Prelude.{IfOk, IfSome};
 ghost use Rattle.circuits.specs.Matches.{HavePorts};
-ghost use Rattle.match_guess.specs.Trials.{AreTrials};
+ghost use Rattle.sim_patterns.specs.Trials.{AreTrials};
 
 use crate::effort::Effort;
 use crate::guesser::Guesser;
 use crate::likely::{Likely, copied, in_place, rated};
-use crate::trials::Trials;
 use account_core::PairableGraphs;
 use bit_list::Bits;
 use circuits::PortKind;
 use net_core::Matching;
+use sim_patterns::Trials;
 use std::alloc::{AllocError, Global};
 
 /// What a search for a match goes by. No answer rests on it.

@@ -14,10 +14,7 @@ mod matching;
 mod patience;
 mod refiner;
 mod signs;
-mod trials;
-mod vectors;
 
 pub use effort::Effort;
 pub use guesser::Guesser;
 pub use guesses::{Guesses, Hints};
-pub use trials::{Suspect, Trials};

@@ -2,14 +2,14 @@
 
 ghost use Rattle.std.specs.Prelude.{◌≡◌, ◌<◌, ◌≤◌, ◌^◌, IfOk, length};
 ghost use Rattle.circuits.specs.Netlists.{signals_of};
-ghost use Rattle.match_guess.specs.Trials.{AreTrials, HasColumns};
+ghost use Rattle.sim_patterns.specs.Trials.{AreTrials, HasColumns};
 
-use crate::trials::Trials;
 use account_core::PairableGraphs;
 use circuits::PortKind;
 use items::Items;
 use net_core::{Graph, Matching};
 use port_cells::port_at;
+use sim_patterns::Trials;
 use std::alloc::{AllocError, Global};
 use std::simd::prelude::*;
 use word_sim::{Words, mix, run_gate_blocks, signed_lanes, simulate, word_at};

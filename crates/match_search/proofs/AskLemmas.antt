@@ -17,7 +17,7 @@ use Rattle.account_core.specs.declared.step.Step.TheVariants as step
 use Rattle.ban_book.specs.declared.mismatched.Unlike.{Unlike}
 use Rattle.ban_book.specs.Mismatched.{IsBanBy, mismatch_of}
 use Rattle.oracle_core.specs.Oracles.{Known}
-use Rattle.match_guess.specs.Trials.{AreTrials}
+use Rattle.sim_patterns.specs.Trials.{AreTrials}
 use Rattle.ban_book.specs.Vectors.{AreLastResorts}
 use Rattle.ban_book.proofs.VectorLemmas.{last_resorts_push_other}
 use Rattle.fact_bans.specs.declared.exchanges.SwapPairs.{SwapPairs}

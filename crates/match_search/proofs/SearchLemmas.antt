@@ -15,7 +15,7 @@ use Rattle.oracle_core.specs.Oracles.{IsSpentWork, IsStopped, Known, Serves}
 use Rattle.fact_bans.specs.Serving.{HoldsBans, MayHold}
 use Rattle.fact_bans.proofs.HoldingLemmas.{held_same, holds_no_more}
 use Rattle.fact_bans.proofs.ServeLemmas.{served_one, served_then, serves_err, serves_last, serves_memory, serves_ok, valid_grows}
-use Rattle.match_guess.specs.Trials.{AreTrials}
+use Rattle.sim_patterns.specs.Trials.{AreTrials}
 use Rattle.match_search.specs.declared.found.Found.{Found}
 use Rattle.match_search.specs.Founds.{IsFound}
 use Rattle.match_search.specs.States.{AreSameLoans, AreValid, Explores, HasServed, Lent, MayCompare, MayBegin, MaySearch, Searches, SearchesBy}

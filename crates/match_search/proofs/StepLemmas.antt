@@ -8,8 +8,8 @@ use Rattle.net_core.specs.Sides.{Graphs}
 use Rattle.query_core.specs.Ledgers.{Ledgered}
 use Rattle.account_core.specs.declared.step.Ban.{Ban}
 use Rattle.oracle_core.specs.Oracles.{Known, Serves}
-use Rattle.match_guess.specs.declared.trials.Trials.{Trials}
-use Rattle.match_guess.specs.Trials.{AreTrials}
+use Rattle.sim_patterns.specs.declared.trials.Trials.{Trials}
+use Rattle.sim_patterns.specs.Trials.{AreTrials}
 use Rattle.pair_domains.specs.Trails.{Domained}
 use Rattle.fact_bans.specs.Asking.{AreSame, Loans}
 use Rattle.fact_bans.specs.Serving.{HoldsBans}

@@ -6,7 +6,7 @@ pub use Rattle.pair_search.specs.Progress
 pub use Rattle.pair_search.specs.Conflicts
 pub use Rattle.pair_search.specs.ConflictSets
 pub use Rattle.pair_search.specs.Grounded
-pub use Rattle.match_guess.specs.Trials
+pub use Rattle.sim_patterns.specs.Trials
 pub use Rattle.account_core.specs.Facts
 pub use Rattle.account_core.specs.Shown
 pub use Rattle.oracle_core.specs.Oracles

@@ -15,8 +15,8 @@ use Rattle.pair_domains.specs.Trails.{Domained, held_in}
 use Rattle.fact_bans.specs.declared.exchanges.SwapPairs.{SwapPairs}
 use Rattle.fact_bans.specs.Serving.{HoldsBans, MayHold}
 use Rattle.oracle_core.specs.Oracles.{Known, Serves, Suits}
-use Rattle.match_guess.specs.declared.trials.Trials.{Trials}
-use Rattle.match_guess.specs.Trials.{AreTrials}
+use Rattle.sim_patterns.specs.declared.trials.Trials.{Trials}
+use Rattle.sim_patterns.specs.Trials.{AreTrials}
 use Rattle.pair_search.specs.declared.conflict.Conflict.{Conflict}
 use Rattle.pair_search.specs.Conflicts.{IsConflict}
 use Rattle.pair_search.specs.Progress.{left}

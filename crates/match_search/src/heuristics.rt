@@ -1,11 +1,11 @@
 //! The heuristic state of a search.
 
 ghost use Rattle.std.specs.Prelude.{IfOk};
-ghost use Rattle.match_guess.specs.Trials.{AreTrials};
+ghost use Rattle.sim_patterns.specs.Trials.{AreTrials};
 
 use crate::Guide;
 use account_core::PairableGraphs;
-use match_guess::Trials;
+use sim_patterns::Trials;
 use std::alloc::{AllocError, Global};
 
 /// What guides a search, and vectors that pairs are tried on.

@@ -4,10 +4,11 @@ ghost use Rattle.std.specs.Prelude.{◌≡◌, ◌<◌};
 
 use crate::sample_circuits::{AND, OR, Sample, XOR, moved_pair, pair};
 use account_core::PairableGraphs;
-use match_guess::{Effort, Guesser, Trials};
+use match_guess::{Effort, Guesser};
 use net_core::{Graphs, Matching};
 use port_cells::Draws;
 use samples::output_on;
+use sim_patterns::Trials;
 use std::alloc::{AllocError, Global};
 use std::test::Fail;
 

@@ -1,7 +1,7 @@
 pub mod Differences
 pub mod Resorts
 pub use Rattle.account_core.specs.Held
-pub use Rattle.match_guess.specs.Trials
+pub use Rattle.sim_patterns.specs.Trials
 pub use Rattle.fact_bans.specs.Asking
 pub use Rattle.fact_bans.specs.Serving
 pub use Rattle.oracle_core.specs.Oracles

@@ -5,7 +5,7 @@ ghost use Rattle.circuits.specs.declared.port.PortKind.TheVariants.{Output};
 ghost use Rattle.ban_book.specs.Covering.{Covers};
 ghost use Rattle.account_core.specs.Held.{AreApart, AreHeld, IsPart};
 ghost use Rattle.fact_bans.specs.Asking.{AreSame, HoldsBy, MayHoldBy, loans};
-ghost use Rattle.match_guess.specs.Trials.{AreTrials, IsSuspect};
+ghost use Rattle.sim_patterns.specs.Trials.{AreTrials, IsSuspect};
 ghost use Rattle.ban_book.specs.Rows.{HasOneOutput};
 ghost use Rattle.vector_bans.specs.Differences.{AreShown};
 
@@ -18,8 +18,8 @@ use circuits::Pair;
 use cnf_core::Stop;
 use fact_bans::Asker;
 use items::Items;
-use match_guess::{Suspect, Trials};
 use oracle_core::Oracle;
+use sim_patterns::{Suspect, Trials};
 use std::alloc::{AllocError, Global};
 use word_sim::tri_output;
 

@@ -2,7 +2,7 @@ use Rattle.std.proofs.Common.{List, sym, subst}
 use Rattle.circuits.specs.declared.port.Pair.{Pair}
 use Rattle.circuits.specs.Netlists.{Net}
 use Rattle.claim_core.specs.Images.{Extends}
-use Rattle.match_guess.specs.Trials.{AreTrials}
+use Rattle.sim_patterns.specs.Trials.{AreTrials}
 use Rattle.account_core.specs.Held.{AreHeld, IsWhole}
 use Rattle.pair_search.proofs.PivotLemmas.{held_known}
 use Rattle.match_search.proofs.CompareLemmas.{shown_match}

@@ -1,5 +1,5 @@
 use Rattle.std.proofs.Common.{◌≡◌, length}
-use Rattle.match_guess.proofs.vectors.put_vector.Given as goal
+use Rattle.sim_patterns.proofs.vectors.fill.Given as goal
 
 abbrev pub invariant-loop-input : goal.invariant-loop-input
 invariant-loop-input l = record {

@@ -5,8 +5,8 @@ use Rattle.circuits.specs.declared.port.PortKind.TheVariants.{Output}
 use Rattle.circuits.specs.Netlists.{Net, function_of}
 use Rattle.net_core.specs.Sides.{Graphs}
 use Rattle.word_sim.specs.Columns.{Table, vector_at}
-use Rattle.match_guess.specs.declared.trials.Trials.{Trials}
-use Rattle.match_guess.specs.declared.trials.Suspect.{Suspect}
+use Rattle.sim_patterns.specs.declared.trials.Trials.{Trials}
+use Rattle.sim_patterns.specs.declared.trials.Suspect.{Suspect}
 
 -- A table of at least a block of eight words has n columns.
 pub record HasColumns (columns : ℕ) (table : Table) : Type 0 where

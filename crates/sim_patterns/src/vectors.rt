@@ -1,7 +1,7 @@
 //! The vectors that circuits are tried on, 64 in a word.
 
 ghost use Rattle.std.specs.Prelude.{◌≡◌, ◌<◌, ◌≤◌, IfOk, length};
-ghost use Rattle.match_guess.specs.Trials.{HasColumns};
+ghost use Rattle.sim_patterns.specs.Trials.{HasColumns};
 
 use bit_list::Bits;
 use port_cells::{Draws, word_of_all};

@@ -3,7 +3,7 @@
 ghost use Rattle.std.specs.Prelude.{◌≡◌, ◌+◌, ◌<◌, ◌≤◌, ◌%◌, All, IfOk, IfSome, OnOk, length};
 ghost use Rattle.circuits.specs.declared.port.PortKind.TheVariants.{Input, Output};
 ghost use Rattle.account_core.specs.Ports.{IsKnown};
-ghost use Rattle.match_guess.specs.Trials.{AreComputed, AreTrials, IsSuspect, IsVectorOf};
+ghost use Rattle.sim_patterns.specs.Trials.{AreComputed, AreTrials, IsSuspect, IsVectorOf};
 ghost use Rattle.word_sim.specs.Columns.{vector_at};
 
 use crate::vectors::{first_vectors, put_vector};

@@ -1,5 +1,5 @@
 use Rattle.std.proofs.Common.{◌≡◌, length}
-use Rattle.match_guess.proofs.trials.send_all.Given as goal
+use Rattle.sim_patterns.proofs.trials.send_all.Given as goal
 
 abbrev pub invariant-loop-pair : goal.invariant-loop-pair
 invariant-loop-pair l = length l.sent ≡ length l.fn.sent

@@ -1,5 +1,5 @@
 use Rattle.std.proofs.Common.{◌≡◌, length}
-use Rattle.match_guess.proofs.vectors.vectors.Given as goal
+use Rattle.sim_patterns.proofs.vectors.vectors.Given as goal
 
 abbrev pub invariant-loop-word : goal.invariant-loop-word
 invariant-loop-word l = record {

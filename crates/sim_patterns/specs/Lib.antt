@@ -1,0 +1,2 @@
+pub mod Trials
+pub use Rattle.account_core.specs.Ports
