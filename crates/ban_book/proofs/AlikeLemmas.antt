@@ -52,16 +52,16 @@ module _ (graphs : Graphs) (facts : List Decided) (pairs : List Pair) (output : 
   alike_facts : (a b : ℕ) → a < length facts → b < length facts → IsImage pairs (fact a).claim (fact b).claim → HasOneInput (fact a).claim.shape → (fact a).holds ≡ (fact b).holds
   alike_facts a b below below_other image single =
       let is = carried_by pairs (fact a).claim (fact b).claim image single in
-      let same : is.output ≡ output = All-contains (λ (p : Pair). p.kind ≡ Output → p ≡ output) pairs is.output has.only is.output_held is.output_kind in
+      let same : is.output ≡ output = All-contains (λ (p : Pair). p.kind ≡ Output → p ≡ output) pairs is.output has.only is.output_among is.output_kind in
       let input = is.input in
       let value = is.value in
       let moved = moved_value output.flip input value in
       let claim_is : (fact a).claim ≡ record { side = First; output = output.from; shape = one_input input.from value } = is.claim_is ∙ ap (λ (p : Pair). record { side = First; output = p.from; shape = one_input input.from value }) same in
       let image_is : (fact b).claim ≡ record { side = Second; output = output.to; shape = one_input input.to moved } = is.image_is ∙ ap (λ (p : Pair). record { side = Second; output = p.to; shape = one_input input.to (moved_value p.flip input value) }) same in
-      let known_input = All-contains (IsKnown graphs) pairs input known is.input_held in
+      let known_input = All-contains (IsKnown graphs) pairs input known is.input_among in
       let here = row_tells facts First output.from one input.from value rows.first (omega (arith, first, input_from graphs input is.input_kind known_input)) in
       let there = row_tells facts Second output.to other input.to moved rows.second (omega (arith, second, input_to graphs input is.input_kind known_input)) in
-      let so = All-contains (λ (p : Pair). p.kind ≡ Input → AreAlike output one other p) pairs input alike is.input_held is.input_kind in
+      let so = All-contains (λ (p : Pair). p.kind ≡ Input → AreAlike output one other p) pairs input alike is.input_among is.input_kind in
       same_said graphs facts _ _ _ a are here below claim_is ∙ (so.each value ∙ sym (same_said graphs facts _ _ _ b are there below_other image_is))
 
   pub alike_no_mismatch : (fails holds : ℕ) → HasOneInput (fact_at (given_of facts []) fails).claim.shape → IsShownBy graphs facts pairs (step.Mismatch fails holds) → ⊥

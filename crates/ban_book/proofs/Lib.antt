@@ -18,5 +18,5 @@ pub mod BlockListLemmas
 pub mod OrderLemmas
 pub mod GatherLemmas
 pub mod ClosedLemmas
-pub mod HoldLemmas
+pub mod KeepLemmas
 pub mod BlockLemmas

@@ -152,7 +152,7 @@ module _ (graphs : Graphs) (facts added : List Decided) (are : AreDecided graphs
       → (one < length facts) × (other < length facts)
   both_before pairs one other ends first second image single =
       let is = carried_by pairs (fact_at after one).claim (fact_at after other).claim image single in
-      let pair_ends = ends_of pairs is.output ends is.output_held is.output_kind in
+      let pair_ends = ends_of pairs is.output ends is.output_among is.output_kind in
       (told_before is.output First _ one pair_ends (one_is_one is.input.from is.value) first is.claim_is, told_before is.output Second _ other pair_ends (one_is_one is.input.to (moved_value is.output.flip is.input is.value)) second is.image_is)
 
   mismatch_before : (pairs : List Pair) (fails holds : ℕ)

@@ -8,4 +8,4 @@ pub mod Mismatched
 pub mod Rows
 pub mod Shown
 pub mod Ways
-pub use Rattle.account_core.specs.Held
+pub use Rattle.account_core.specs.Assigned

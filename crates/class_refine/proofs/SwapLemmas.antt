@@ -23,8 +23,8 @@ use Rattle.ban_book.specs.Shown.{IsShownBan}
 use Rattle.ban_book.specs.Told.{IsToldAs}
 use Rattle.ban_book.proofs.MismatchLemmas.{inputs_image, some_pair, three_known, three_ordered}
 use Rattle.ban_book.proofs.MismatchedLemmas.{mismatch_valid}
-use Rattle.account_core.specs.Held.{AreApart}
-use Rattle.ban_book.proofs.OrderLemmas.{held_apart}
+use Rattle.account_core.specs.Assigned.{AreApart}
+use Rattle.ban_book.proofs.OrderLemmas.{assigned_apart}
 use Rattle.class_refine.specs.declared.swaps.Exchange.{Exchange}
 use Rattle.class_refine.specs.Stable.{HaveNoSwapMismatch}
 use Rattle.class_refine.specs.Swaps.{IsExchange, carried_to}
@@ -82,35 +82,35 @@ image_same few more same claim =
     by_output (Some o) = ap (option_map (claim_of_second o.to)) (shape_same few more same o.flip claim.shape)
 
 -- the pair of a port stays where a pair comes once more
-pair_same : (held : List Pair) (pair : Pair) → AllPairs AreApart held → Contains held pair → (kind : PortKind) (port : ℕ) → pair_of (pair ∷ held) kind port ≡ pair_of held kind port
-pair_same held pair apart there kind port =
+pair_same : (assigned : List Pair) (pair : Pair) → AllPairs AreApart assigned → Contains assigned pair → (kind : PortKind) (port : ℕ) → pair_of (pair ∷ assigned) kind port ≡ pair_of assigned kind port
+pair_same assigned pair apart there kind port =
     elim (cases_Bool (is_of kind port pair)) [
-      | inr no' ↦ cond-false (is_of kind port pair) (Some pair) (pair_of held kind port) no'
+      | inr no' ↦ cond-false (is_of kind port pair) (Some pair) (pair_of assigned kind port) no'
       | inl yes' ↦
-          let first = cond-true (is_of kind port pair) (Some pair) (pair_of held kind port) yes' in
-          let found = some_pair held kind port pair there yes' in
-          let here = pair_of-held held kind port found.0 found.1 in
-          let own = pair_of-held (pair ∷ held) kind port pair first in
-          first ∙ (ap (λ (p : Pair). Some p) (sym (one_pair found.0 (held_apart held found.0 pair apart here.0 there) (here.1 ∙ sym own.1) (here.2 ∙ sym own.2))) ∙ sym found.1)
+          let first = cond-true (is_of kind port pair) (Some pair) (pair_of assigned kind port) yes' in
+          let found = some_pair assigned kind port pair there yes' in
+          let here = pair_of-held assigned kind port found.0 found.1 in
+          let own = pair_of-held (pair ∷ assigned) kind port pair first in
+          first ∙ (ap (λ (p : Pair). Some p) (sym (one_pair found.0 (assigned_apart assigned found.0 pair apart here.0 there) (here.1 ∙ sym own.1) (here.2 ∙ sym own.2))) ∙ sym found.1)
     ]
   where
     one_pair : (other : Pair) → (other ≡ pair) ⊎ AreApart other pair → other.kind ≡ pair.kind → other.from ≡ pair.from → other ≡ pair
     one_pair other (inl same) kinds ports = same
     one_pair other (inr apart) kinds ports = absurd (apart.from kinds ports)
 
-pub no_swap_beside : (graphs : Graphs) (facts : List Decided) (held : List Pair) (pair : Pair) → AllPairs AreApart held → Contains held pair → HaveNoSwapMismatch graphs facts held → HaveNoSwapMismatch graphs facts (pair ∷ held)
-no_swap_beside graphs facts held pair apart there none fails holds two shown =
+pub no_swap_beside : (graphs : Graphs) (facts : List Decided) (assigned : List Pair) (pair : Pair) → AllPairs AreApart assigned → Contains assigned pair → HaveNoSwapMismatch graphs facts assigned → HaveNoSwapMismatch graphs facts (pair ∷ assigned)
+no_swap_beside graphs facts assigned pair apart there none fails holds two shown =
     none fails holds two (record {
       names = shown.names;
       rule = record {
         one_fails = shown.rule.one_fails;
         other_holds = shown.rule.other_holds;
         image = elim shown.rule.image [
-          | inl image ↦ inl (image.0, sym (image_same (pair ∷ held) held same (fact_at (given_of facts []) fails).claim) ∙ image.1)
-          | inr image ↦ inr (image.0, sym (image_same (pair ∷ held) held same (fact_at (given_of facts []) holds).claim) ∙ image.1)
+          | inl image ↦ inl (image.0, sym (image_same (pair ∷ assigned) assigned same (fact_at (given_of facts []) fails).claim) ∙ image.1)
+          | inr image ↦ inr (image.0, sym (image_same (pair ∷ assigned) assigned same (fact_at (given_of facts []) holds).claim) ∙ image.1)
         ];
       };
     })
   where
-    same : (kind : PortKind) (port : ℕ) → pair_of (pair ∷ held) kind port ≡ pair_of held kind port
-    same kind port = pair_same held pair apart there kind port
+    same : (kind : PortKind) (port : ℕ) → pair_of (pair ∷ assigned) kind port ≡ pair_of assigned kind port
+    same kind port = pair_same assigned pair apart there kind port

@@ -6,7 +6,7 @@ use Rattle.net_core.specs.Sides.{Graphs}
 use Rattle.query_core.specs.Ledgers.{Ledgered}
 use Rattle.account_core.specs.declared.step.Ban.{Ban}
 use Rattle.oracle_core.specs.Oracles.{Known, Serves}
-use Rattle.fact_bans.specs.Serving.{HoldsBans, MayAsk, MayHold}
+use Rattle.fact_bans.specs.Serving.{MakesBans, MayAsk, MayMakeBans}
 use Rattle.fact_bans.specs.declared.asker.Asker.{Asker}
 
 -- What an asker is lent, as far as facts depend on it, and the names of the loans.
@@ -36,14 +36,14 @@ pub record AreSame (old new : Loans) : Type 0 where
 abbrev pub MayAskBy : Graphs → Loans → Type 0
 MayAskBy graphs lent = MayAsk graphs lent.known lent.ledger
 
--- and bans assigned
-abbrev pub MayHoldBy : Graphs → Loans → List Ban → Type 0
-MayHoldBy graphs lent bans = MayHold graphs lent.known lent.ledger bans
+-- and bans made
+abbrev pub MayMakeBy : Graphs → Loans → List Ban → Type 0
+MayMakeBy graphs lent bans = MayMakeBans graphs lent.known lent.ledger bans
 
 -- what a call does that has claims decided, whatever it answers
 abbrev pub ServesBy : {X : Type 0} → Loans → Loans → Result X Stop → Type 0
 ServesBy old new result = Serves old.known new.known old.ledger new.ledger result
 
 -- and makes bans by their facts
-abbrev pub HoldsBy : {X : Type 0} → Graphs → Loans → Loans → List Ban → List Ban → Result X Stop → Type 0
-HoldsBy graphs old new bans more result = HoldsBans graphs old.known new.known old.ledger new.ledger bans more result
+abbrev pub MakesBy : {X : Type 0} → Graphs → Loans → Loans → List Ban → List Ban → Result X Stop → Type 0
+MakesBy graphs old new bans more result = MakesBans graphs old.known new.known old.ledger new.ledger bans more result

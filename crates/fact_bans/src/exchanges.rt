@@ -6,11 +6,11 @@ ghost use Rattle.ban_book.specs.Covering.{Covers};
 ghost use Rattle.claim_core.specs.declared.claims.Shape.TheVariants as AnyShape;
 ghost use Rattle.claim_core.specs.Images.{moved_value, two_inputs};
 ghost use Rattle.fact_bans.specs.Carrying.{AreSwapPairs, all_of};
-ghost use Rattle.fact_bans.specs.Asking.{AreSame, HoldsBy, MayHoldBy, loans};
+ghost use Rattle.fact_bans.specs.Asking.{AreSame, MakesBy, MayMakeBy, loans};
 
 use crate::asker::Asker;
 use crate::broken_claims::BrokenClaims;
-use crate::mismatched::hold_by;
+use crate::mismatched::keep_carried;
 use account_core::PairableGraphs;
 use ban_book::{BanBook, Carried, moved_value, two_inputs};
 use circuits::Pair;
@@ -42,10 +42,10 @@ pub fn swap_mismatch<O: Oracle>(
     pairs: SwapPairs,
     book: &mut BanBook,
 ) -> Result<Option<u64>, Stop>
-    requires may { MayHoldBy graphs.now (loans O.known asker.old) book.old }
+    requires may { MayMakeBy graphs.now (loans O.known asker.old) book.old }
     requires pairs { AreSwapPairs graphs.now pairs }
     ensures same { AreSame (loans O.known asker.old) (loans O.known asker.new) }
-    ensures holds { HoldsBy graphs.now (loans O.known asker.old) (loans O.known asker.new) book.old book.new result }
+    ensures makes { MakesBy graphs.now (loans O.known asker.old) (loans O.known asker.new) book.old book.new result }
     ensures covers { IfOk result (λ found. IfSome found (Covers book.new (all_of pairs))) }
 {
     let SwapPairs { one, other, output } = pairs;
@@ -70,12 +70,12 @@ fn by_values<O: Oracle>(
     pairs: SwapPairs,
     book: &mut BanBook,
 ) -> Result<Option<u64>, Stop>
-    requires may { MayHoldBy graphs.now (loans O.known asker.old) book.old }
+    requires may { MayMakeBy graphs.now (loans O.known asker.old) book.old }
     requires pairs { AreSwapPairs graphs.now pairs }
     requires before { pairs.one.from < pairs.other.from }
     requires apart { pairs.one.to ≢ pairs.other.to }
     ensures same { AreSame (loans O.known asker.old) (loans O.known asker.new) }
-    ensures holds { HoldsBy graphs.now (loans O.known asker.old) (loans O.known asker.new) book.old book.new result }
+    ensures makes { MakesBy graphs.now (loans O.known asker.old) (loans O.known asker.new) book.old book.new result }
     ensures covers { IfOk result (λ found. IfSome found (Covers book.new (all_of pairs))) }
 {
     asker.seen.look_at_swaps(asker.alloc, graphs)?;
@@ -84,7 +84,7 @@ fn by_values<O: Oracle>(
     };
     let carried = carried(pairs, values);
     let pairs = [pairs.one, pairs.other, pairs.output];
-    hold_by(graphs, asker, &pairs, carried, book)
+    keep_carried(graphs, asker, &pairs, carried, book)
 }
 
 /// All values of two inputs.

@@ -7,7 +7,7 @@ ghost use Rattle.account_core.specs.Tallies.{port_on};
 ghost use Rattle.ban_book.specs.Covering.{Covers};
 ghost use Rattle.ban_book.specs.Listed.{AreLists};
 ghost use Rattle.fact_bans.specs.Carrying.{IsPairOf};
-ghost use Rattle.fact_bans.specs.Asking.{AreSame, HoldsBy, MayAskBy, MayHoldBy, ServesBy, loans};
+ghost use Rattle.fact_bans.specs.Asking.{AreSame, MakesBy, MayAskBy, MayMakeBy, ServesBy, loans};
 
 use crate::asker::Asker;
 use crate::lists::{Wanted, list};
@@ -32,10 +32,10 @@ pub fn tally<O: Oracle>(
     pair: Pair,
     book: &mut BanBook,
 ) -> Result<Option<u64>, Stop>
-    requires may { MayHoldBy graphs.now (loans O.known asker.old) book.old }
+    requires may { MayMakeBy graphs.now (loans O.known asker.old) book.old }
     requires outputs { IsPairOf graphs.now Output pair }
     ensures same { AreSame (loans O.known asker.old) (loans O.known asker.new) }
-    ensures holds { HoldsBy graphs.now (loans O.known asker.old) (loans O.known asker.new) book.old book.new result }
+    ensures makes { MakesBy graphs.now (loans O.known asker.old) (loans O.known asker.new) book.old book.new result }
     ensures covers { IfOk result (λ found. IfSome found (Covers book.new (pair ∷ []))) }
 {
     let inputs = graphs.first().inputs();
@@ -53,10 +53,10 @@ fn tally_by<O: Oracle>(
     plan: &Plan,
     book: &mut BanBook,
 ) -> Result<Option<u64>, Stop>
-    requires may { MayHoldBy graphs.now (loans O.known asker.old) book.old }
+    requires may { MayMakeBy graphs.now (loans O.known asker.old) book.old }
     requires outputs { IsPairOf graphs.now Output pair }
     ensures same { AreSame (loans O.known asker.old) (loans O.known asker.new) }
-    ensures holds { HoldsBy graphs.now (loans O.known asker.old) (loans O.known asker.new) book.old book.new result }
+    ensures makes { MakesBy graphs.now (loans O.known asker.old) (loans O.known asker.new) book.old book.new result }
     ensures covers { IfOk result (λ found. IfSome found (Covers book.new (pair ∷ []))) }
 {
     let holds = plan.holds;

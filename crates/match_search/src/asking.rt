@@ -2,7 +2,7 @@
 
 ghost use Rattle.std.specs.Prelude.{◌<◌, Contains, IfSome};
 ghost use Rattle.account_core.specs.Ports.{IsKnown};
-ghost use Rattle.pair_domains.specs.Trails.{held_in};
+ghost use Rattle.pair_domains.specs.Trails.{assigned_in};
 ghost use Rattle.pair_search.specs.ConflictSets.{FitPorts};
 ghost use Rattle.match_search.specs.States.{GoesOn, MayGoOn, MayStep, Steps, lent, AreOfBothKinds};
 
@@ -50,7 +50,7 @@ pub(crate) fn ask_assigned<O: Oracle>(
     pair: Pair,
 ) -> Result<bool, Stop>
     requires may { MayStep graphs.now (lent O.known session.old) domains.now }
-    requires held { Contains (held_in domains.now.entries) pair }
+    requires assigned { Contains (assigned_in domains.now.entries) pair }
     ensures steps { Steps graphs.now (lent O.known session.old) (lent O.known session.new) domains.now result }
 {
     // assigned pairs are of ports that exist, and share none

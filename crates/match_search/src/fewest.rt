@@ -125,7 +125,7 @@ fn candidate_at(
 ) -> Option<WeighedPort>
     requires { number < ports_of domains.now.inputs domains.now.outputs kind }
 {
-    if let Some(_) = domains.held(side, kind, number) {
+    if let Some(_) = domains.assigned(side, kind, number) {
         return None;
     }
     let ways = (domains.ports(kind) as usize).saturating_mul(2);

@@ -2,7 +2,7 @@
 
 ghost use Rattle.std.specs.Prelude.{◌≤◌, Contains, IfOk, IfSome, OnOk};
 ghost use Rattle.pair_search.specs.Conflicts.{IsConflict};
-ghost use Rattle.pair_domains.specs.Trails.{held_in};
+ghost use Rattle.pair_domains.specs.Trails.{assigned_in};
 ghost use Rattle.pair_search.specs.Progress.{left};
 ghost use Rattle.match_search.specs.States.{Deletes, MayStep, Steps, lent};
 
@@ -171,7 +171,7 @@ fn ask_next_pair<O: Oracle>(
 
 // The assigned pair of a place.
 fn next_assigned(domains: &Domains, place: usize) -> Option<Pair>
-    ensures { IfSome result (Contains (held_in domains.now.entries)) }
+    ensures { IfSome result (Contains (assigned_in domains.now.entries)) }
 {
     domains.pairs().get(place).copied()
 }
@@ -184,7 +184,7 @@ fn delete_beside<O: Oracle>(
     pair: Pair,
 ) -> Result<(), Stop>
     requires may { MayStep graphs.now (lent O.known session.old) domains.old }
-    requires held { Contains (held_in domains.old.entries) pair }
+    requires assigned { Contains (assigned_in domains.old.entries) pair }
     ensures steps { Steps graphs.now (lent O.known session.old) (lent O.known session.new) domains.new result }
     ensures deletes { OnOk result (Deletes pair domains.old domains.new) }
 {

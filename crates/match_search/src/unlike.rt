@@ -5,7 +5,7 @@ ghost use Rattle.account_core.specs.Given.{decided_by};
 ghost use Rattle.account_core.specs.Ports.{IsKnown};
 ghost use Rattle.pair_domains.specs.declared.entry.Fate.TheVariants.{Deleted};
 ghost use Rattle.pair_domains.specs.declared.entry.Reason.TheVariants.{Mismatch};
-ghost use Rattle.pair_domains.specs.Trails.{held_in};
+ghost use Rattle.pair_domains.specs.Trails.{assigned_in};
 ghost use Rattle.pair_search.specs.Grounded.{IsGrounded};
 ghost use Rattle.match_search.specs.States.{Deletes, GoesOn, MayGoOn, MayStep, Steps, lent};
 
@@ -68,7 +68,7 @@ fn free_ports(
     let kind = other_kind(pair.kind);
     let mut ports = Vec::new(alloc);
     for port in 0..domains.ports(kind) {
-        if domains.held(side, kind, port).is_none() {
+        if domains.assigned(side, kind, port).is_none() {
             let broken = broken_beside(seen, pair, side, port);
             ports.push(Beside { port, broken })?;
         }
@@ -150,7 +150,7 @@ pub(crate) fn delete_unlike<O: Oracle>(
     ways: &[Pair],
 ) -> Result<(), Stop>
     requires may { MayStep graphs.now (lent O.known session.old) domains.old }
-    requires held { Contains (held_in domains.old.entries) pair }
+    requires assigned { Contains (assigned_in domains.old.entries) pair }
     ensures steps { Steps graphs.now (lent O.known session.old) (lent O.known session.new) domains.new result }
     ensures deletes { OnOk result (Deletes pair domains.old domains.new) }
 {
@@ -169,7 +169,7 @@ fn delete_way<O: Oracle>(
     way: Pair,
 ) -> Result<(), Stop>
     requires may { MayStep graphs.now (lent O.known session.old) domains.old }
-    requires held { Contains (held_in domains.old.entries) pair }
+    requires assigned { Contains (assigned_in domains.old.entries) pair }
     ensures steps { Steps graphs.now (lent O.known session.old) (lent O.known session.new) domains.new result }
     ensures deletes { OnOk result (Deletes pair domains.old domains.new) }
 {

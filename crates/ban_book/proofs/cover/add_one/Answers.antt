@@ -2,12 +2,12 @@ use Rattle.std.proofs.Common.{◌≡◌, ◌⊎◌, sym, subst, inl, inr, get_or
 use Rattle.std.specs.Prelude.{Contains}
 use Rattle.std.proofs.lemmas.List.Elements.{All-contains}
 use Rattle.circuits.specs.declared.port.Pair.{Pair}
-use Rattle.ban_book.proofs.OrderLemmas.{held_apart}
+use Rattle.ban_book.proofs.OrderLemmas.{assigned_apart}
 use Rattle.ban_book.proofs.cover.add_one.Goals as goal
 
 pub add-requires-clause-apart : goal.add-requires-clause-apart
 add-requires-clause-apart c =
-    λ k d below. held_apart c.args.held.now (get_or c.args.needed.now.items k d) c.args.pair c.requires.apart (c.requires.part.among k d below) c.requires.held
+    λ k d below. assigned_apart c.args.assigned.now (get_or c.args.needed.now.items k d) c.args.pair c.requires.apart (c.requires.part.among k d below) c.requires.assigned
 
 pub returns-clause-adds : goal.returns-clause-adds
 returns-clause-adds c = record {
@@ -18,6 +18,6 @@ returns-clause-adds c = record {
   stays = c.in_ok-add.ensures.stays;
 }
   where
-    by_case : (x : Pair) → Contains c.args.needed.now.items x ⊎ (x ≡ c.args.pair) → Contains c.args.held.now x
-    by_case x (inl old) = All-contains (Contains c.args.held.now) c.args.needed.now.items x c.requires.part.among old
-    by_case x (inr same) = subst (Contains c.args.held.now) (sym same) c.requires.held
+    by_case : (x : Pair) → Contains c.args.needed.now.items x ⊎ (x ≡ c.args.pair) → Contains c.args.assigned.now x
+    by_case x (inl old) = All-contains (Contains c.args.assigned.now) c.args.needed.now.items x c.requires.part.among old
+    by_case x (inr same) = subst (Contains c.args.assigned.now) (sym same) c.requires.assigned

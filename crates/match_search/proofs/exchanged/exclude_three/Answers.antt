@@ -26,7 +26,7 @@ pub returns : goal.returns
 returns g c =
     let three = rw c.in-Some.is at c.inputs_and_output.ensures in
     record {
-      goes_on = goes_by c.swap_mismatch.ensures.same c.swap_mismatch.ensures.holds refl;
+      goes_on = goes_by c.swap_mismatch.ensures.same c.swap_mismatch.ensures.makes refl;
       covers = λ pairs one other third.
           let within = each_of_three (Contains pairs) three one other third in
           all_wider _ _ pairs _ (three_among _ _ _ pairs within.0 within.1 within.2) c.swap_mismatch.ensures.covers;

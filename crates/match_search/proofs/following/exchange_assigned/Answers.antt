@@ -1,6 +1,6 @@
 use Rattle.std.proofs.Common.{sym, subst}
-use Rattle.account_core.specs.Held.{AreHeld}
-use Rattle.pair_search.proofs.PivotLemmas.{held_known}
+use Rattle.account_core.specs.Assigned.{AreAssignable}
+use Rattle.pair_search.proofs.PivotLemmas.{assigned_known}
 use Rattle.match_search.proofs.StepLemmas.{may_go_on, steps_fail, steps_ok, way_bans, way_start}
 use Rattle.match_search.proofs.following.exchange_assigned.Goals as goal
 
@@ -13,7 +13,7 @@ exclude_by_swaps-requires-clause-may g c = (may_go_on c.requires.may.may c.loop-
 pub exclude_by_swaps-requires-clause-known : goal.exclude_by_swaps-requires-clause-known
 exclude_by_swaps-requires-clause-known g c =
     let d = c.args.domains.now in
-    (subst (AreHeld c.args.graphs.now) (sym c.pairs-assigned.ensures.value) (held_known c.args.graphs.now d.inputs d.outputs d.entries c.requires.may.trail.trail.fit c.entries-lawful.ensures.lawful)).known
+    (subst (AreAssignable c.args.graphs.now) (sym c.pairs-assigned.ensures.value) (assigned_known c.args.graphs.now d.inputs d.outputs d.entries c.requires.may.trail.trail.fit c.entries-lawful.ensures.lawful)).known
 
 pub returns-in_err-ban-clause-steps : goal.returns-in_err-ban-clause-steps
 returns-in_err-ban-clause-steps g c = steps_fail c.from_residual.ensures.1 c.loop-place.invariant c.in_err-ban.ensures.goes_on

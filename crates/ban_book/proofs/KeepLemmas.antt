@@ -22,16 +22,16 @@ use Rattle.ban_book.proofs.VectorLemmas.{no_vector_none, no_vector_one}
 use Rattle.ban_book.proofs.ListLemmas.{zip_map}
 use Rattle.ban_book.specs.declared.block.Block.{Block}
 use Rattle.account_core.specs.Tallies.{Ascend, other_side}
-use Rattle.account_core.specs.Held.{AreHeld, IsPart}
-use Rattle.ban_book.specs.Ways.{block_of, ports_tried, ways_in, AreClosed, HoldsMore, IsBlock, IsClosed}
-use Rattle.ban_book.proofs.ClosedLemmas.{held_at}
+use Rattle.account_core.specs.Assigned.{AreAssignable, IsPart}
+use Rattle.ban_book.specs.Ways.{block_of, ports_tried, ways_in, AreClosed, AddsBans, IsBlock, IsClosed}
+use Rattle.ban_book.proofs.ClosedLemmas.{kept_at}
 
-pub holds_none : (graphs : Graphs) (bans : List Ban) → HoldsMore graphs bans bans
-holds_none graphs bans = record { added = []; more = sym (append-nil bans); no_vector = no_vector_none; valid = λ facts valid. valid }
+pub adds_no_bans : (graphs : Graphs) (bans : List Ban) → AddsBans graphs bans bans
+adds_no_bans graphs bans = record { added = []; more = sym (append-nil bans); no_vector = no_vector_none; valid = λ facts valid. valid }
 
 -- one more valid ban is kept, which no vector shows
-pub holds_one : (graphs : Graphs) (bans after : List Ban) (ban : Ban) → after ≡ bans ++ ban ∷ [] → (IsVector ban.step → ⊥) → ((facts : List Decided) → IsValidBan graphs (given_of facts bans) ban) → HoldsMore graphs bans after
-holds_one graphs bans after ban is none valid = record {
+pub adds_one_ban : (graphs : Graphs) (bans after : List Ban) (ban : Ban) → after ≡ bans ++ ban ∷ [] → (IsVector ban.step → ⊥) → ((facts : List Decided) → IsValidBan graphs (given_of facts bans) ban) → AddsBans graphs bans after
+adds_one_ban graphs bans after ban is none valid = record {
   added = ban ∷ [];
   more = is;
   no_vector = no_vector_one ban none;
@@ -84,7 +84,7 @@ cover_valid graphs facts bans pairs listed block refs many known ordered is same
       names = record {
         first_ports = subst (λ n. All (λ port. port < n) block.from) (sym many) is.from_below;
         second_ports = is.to_below;
-        given_bans = λ ban there. omega (arith, held_at bans pairs (ways_in block) refs there.0 ban closed there.1 there.2, length-map bans (λ (b : Ban). b.pairs));
+        given_bans = λ ban there. omega (arith, kept_at bans pairs (ways_in block) refs there.0 ban closed there.1 there.2, length-map bans (λ (b : Ban). b.pairs));
       };
       rule = record {
         from_ascends = is.from_ascends;
@@ -96,5 +96,5 @@ cover_valid graphs facts bans pairs listed block refs many known ordered is same
     })
 
 -- those of the assigned pairs that are known
-pub part_known : (graphs : Graphs) (held pairs : List Pair) → AreHeld graphs held → IsPart held pairs → All (IsKnown graphs) pairs
-part_known graphs held pairs are part k d below = All-contains (IsKnown graphs) held (get_or pairs k d) are.known (part.among k d below)
+pub part_known : (graphs : Graphs) (assigned pairs : List Pair) → AreAssignable graphs assigned → IsPart assigned pairs → All (IsKnown graphs) pairs
+part_known graphs assigned pairs are part k d below = All-contains (IsKnown graphs) assigned (get_or pairs k d) are.known (part.among k d below)

@@ -15,7 +15,7 @@ pub record AreApart (one other : Pair) : Type 0 where
   pub to : one.kind ≡ other.kind → one.to ≢ other.to
 
 -- Pairs of ports that exist, no two of which share a port.
-pub record AreHeld (graphs : Graphs) (pairs : List Pair) : Type 0 where
+pub record AreAssignable (graphs : Graphs) (pairs : List Pair) : Type 0 where
   pub known : All (IsKnown graphs) pairs
   pub apart : AllPairs AreApart pairs
 
@@ -33,13 +33,13 @@ abbrev pub IsWhole : Graphs → List Pair → Type 0
 IsWhole graphs pairs = (kind : PortKind) (port : ℕ) → port < ports_in graphs.first kind → IsTaken First pairs kind port
 
 -- Some of the assigned pairs, in order.
-pub record IsPart (held pairs : List Pair) : Type 0 where
-  pub among : All (Contains held) pairs
+pub record IsPart (assigned pairs : List Pair) : Type 0 where
+  pub among : All (Contains assigned) pairs
   pub ordered : AreOrdered pairs
 
 -- Assigned pairs were added to some of them that were listed: these stay, and the list is in order.
-pub record AddsHeld (held before after : List Pair) : Type 0 where
-  pub part : IsPart held after
+pub record AddsAssigned (assigned before after : List Pair) : Type 0 where
+  pub part : IsPart assigned after
   pub stays : All (Contains after) before
 
 -- a port stands before another: inputs come first, and ports of a kind ascend
