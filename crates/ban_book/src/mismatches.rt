@@ -7,9 +7,9 @@ ghost use Rattle.ban_book.specs.Rows.{AreAlike, IsApart, IsApartAt, IsMismatchBa
 
 use crate::input_claims::{DecidedClaim, InputClaims};
 use crate::mismatched::{Unlike, mismatch_ban, unlike_of};
-use crate::ports::moved_value;
 use account_core::Ban;
 use circuits::{Pair, PortKind};
+use claim_core::moved_value;
 use std::alloc::{AllocError, Global};
 
 /// The pair of an input that no match has beside an output's pair, and the facts that say so.

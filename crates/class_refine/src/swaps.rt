@@ -14,8 +14,9 @@ ghost use Rattle.class_refine.specs.Swaps.{AgreesAt, IsExchange, IsSwapIndex, Sa
 use crate::grounds::Grounds;
 use crate::swap_index::number_of;
 use account_core::{Ban, Evidence, Fact};
-use ban_book::{DecidedClaim, mismatch_ban, moved_value, two_inputs, unlike_of};
+use ban_book::{DecidedClaim, mismatch_ban, two_inputs, unlike_of};
 use circuits::{Pair, PortKind};
+use claim_core::moved_value;
 use indexmap::IndexMap;
 use net_core::Side;
 use query_core::{Claim, Shape, pair_of};

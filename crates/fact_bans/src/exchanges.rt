@@ -12,8 +12,9 @@ use crate::asker::Asker;
 use crate::broken_claims::BrokenClaims;
 use crate::mismatched::keep_carried;
 use account_core::PairableGraphs;
-use ban_book::{BanBook, Carried, moved_value, two_inputs};
+use ban_book::{BanBook, Carried, two_inputs};
 use circuits::Pair;
+use claim_core::moved_value;
 use cnf_core::Stop;
 use net_core::Side;
 use oracle_core::Oracle;
@@ -78,8 +79,8 @@ fn by_values<O: Oracle>(
     ensures makes { MakesBy graphs.now (loans O.known asker.old) (loans O.known asker.new) book.old book.new result }
     ensures covers { IfOk result (λ found. IfSome found (Covers book.new (all_of pairs))) }
 {
-    asker.seen.look_at_swaps(asker.alloc, graphs)?;
-    let Some(values) = values_to_ask(pairs, asker.seen) else {
+    asker.broken.look_at_swaps(asker.alloc, graphs)?;
+    let Some(values) = values_to_ask(pairs, asker.broken) else {
         return Ok(None);
     };
     let carried = carried(pairs, values);
@@ -92,22 +93,22 @@ static VALUES: [(bool, bool); 4] = [(false, true), (true, false), (false, false)
 
 // The values whose claim vectors break for one circuit and not for the other one, for which it isn't unateness that
 // keeps it.
-fn values_to_ask(pairs: SwapPairs, seen: &BrokenClaims) -> Option<(bool, bool)> {
+fn values_to_ask(pairs: SwapPairs, broken: &BrokenClaims) -> Option<(bool, bool)> {
     for values in VALUES.iter() {
-        if is_worth(carried(pairs, *values), seen) {
+        if is_worth(carried(pairs, *values), broken) {
             return Some(*values);
         }
     }
     None
 }
 
-fn is_worth(carried: Carried, seen: &BrokenClaims) -> bool {
+fn is_worth(carried: Carried, broken: &BrokenClaims) -> bool {
     match (
-        seen.is_swap_broken(carried.claim),
-        seen.is_swap_broken(carried.image),
+        broken.is_swap_broken(carried.claim),
+        broken.is_swap_broken(carried.image),
     ) {
-        (Some(true), Some(false)) => !seen.is_by_unateness(carried.image),
-        (Some(false), Some(true)) => !seen.is_by_unateness(carried.claim),
+        (Some(true), Some(false)) => !broken.is_by_unateness(carried.image),
+        (Some(false), Some(true)) => !broken.is_by_unateness(carried.claim),
         _ => false,
     }
 }
