@@ -10,8 +10,8 @@ ghost use Rattle.pair_search.specs.ConflictSets.{FitPorts};
 use crate::fewest::fewest_ways;
 use crate::guide::Guide;
 use circuits::PortKind;
+use class_refine::Domains;
 use net_core::Side;
-use pair_domains::Domains;
 use pair_search::Port;
 use std::alloc::{AllocError, Global};
 

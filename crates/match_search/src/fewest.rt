@@ -7,9 +7,9 @@ use crate::reads::Reads;
 use crate::weights::Weights;
 use account_core::port_on;
 use circuits::{Pair, PortKind};
+use class_refine::Domains;
 use items::Items;
 use net_core::Side;
-use pair_domains::Domains;
 use pair_search::Port;
 use std::alloc::{AllocError, Global};
 

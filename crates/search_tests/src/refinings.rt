@@ -15,13 +15,12 @@ use crate::sample_circuits::{
 use account_core::{Ban, PairableGraphs};
 use ban_book::BanBook;
 use circuits::{Pair, PortKind};
-use class_refine::{Deletion, Mismatches, Refined, deletion_of, refine};
+use class_refine::{Cause, Domains, Refined, refine};
 use cnf_core::Stop;
 use fact_bans::{Asker, BrokenClaims};
 use net_core::{Graphs, Side};
 use oracle_core::Oracle;
-use pair_domains::{Cause, Domains};
-use pair_search::is_open;
+use pair_search::{Deletion, Mismatches, deletion_of, is_open};
 use query_core::Ledger;
 use std::alloc::{AllocError, Global};
 use std::test::Fail;
@@ -137,13 +136,13 @@ fn refined_by<O: Oracle>(
 {
     // the facts of an oracle are of its circuits
     let _facts = oracle.facts();
-    let mut seen = BrokenClaims::new(alloc, graphs, 1)?;
+    let mut broken = BrokenClaims::new(alloc, graphs, 1)?;
     let mut book = BanBook::new(alloc);
     let mut ledger = Ledger::new(alloc, 1_000_000);
     let mut asker = Asker {
         alloc,
         oracle,
-        seen: &mut seen,
+        broken: &mut broken,
         ledger: &mut ledger,
     };
     let answer = refine(graphs, &mut asker, domains, &mut book);
