@@ -14,7 +14,7 @@ pub record Loans : Type 0 where
   pub known : Known
   pub ledger : Ledgered
   pub oracle_name : GName
-  pub seen_name : GName
+  pub broken_name : GName
   pub ledger_name : GName
 
 abbrev pub loans : {O : Type 0} → (O → Known) → Asker O → Loans
@@ -22,14 +22,14 @@ loans known asker = record {
   known = known asker.oracle.now;
   ledger = asker.ledger.now;
   oracle_name = asker.oracle.ghost_name;
-  seen_name = asker.seen.ghost_name;
+  broken_name = asker.broken.ghost_name;
   ledger_name = asker.ledger.ghost_name;
 }
 
 -- They are the same loans.
 pub record AreSame (old new : Loans) : Type 0 where
   pub oracle : new.oracle_name ≡ old.oracle_name
-  pub seen : new.seen_name ≡ old.seen_name
+  pub broken : new.broken_name ≡ old.broken_name
   pub ledger : new.ledger_name ≡ old.ledger_name
 
 -- claims may be asked

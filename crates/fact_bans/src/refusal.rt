@@ -48,7 +48,7 @@ pub fn refuse<O: Oracle>(
 {
     for _try in 0..tries {
         let outputs = graphs.ports(PortKind::Output);
-        let Some(classes) = Classes::new(asker.alloc, outputs, asker.seen)? else {
+        let Some(classes) = Classes::new(asker.alloc, outputs, asker.broken)? else {
             return Ok(None);
         };
         if let Some(number) = refuse_by(graphs, asker, &classes, book)? {

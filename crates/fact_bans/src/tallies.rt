@@ -39,7 +39,7 @@ pub fn tally<O: Oracle>(
     ensures covers { IfOk result (λ found. IfSome found (Covers book.new (pair ∷ []))) }
 {
     let inputs = graphs.first().inputs();
-    let Some(plan) = Plan::new(asker.alloc, pair, inputs, asker.seen)? else {
+    let Some(plan) = Plan::new(asker.alloc, pair, inputs, asker.broken)? else {
         return Ok(None);
     };
     tally_by(graphs, asker, pair, &plan, book)

@@ -31,7 +31,7 @@ pub(crate) fn decide<O: Oracle>(
     let number = number_of(asker, claim)?;
     let fact = &asker.oracle.facts()[number as usize];
     let holds = fact.holds();
-    asker.seen.note(claim, number, holds);
+    asker.broken.note(claim, number, holds);
     Ok(DecidedClaim { number, holds })
 }
 
@@ -43,17 +43,17 @@ fn number_of<O: Oracle>(asker: &mut Asker<'_, O>, claim: Claim) -> Result<u64, S
     ensures serves { ServesBy (loans O.known asker.old) (loans O.known asker.new) result }
     ensures number { IfOk result (IsNumberOf (O.known asker.new.oracle.now).facts claim) }
 {
-    if let Some(number) = noted(asker.oracle.facts(), claim, asker.seen) {
+    if let Some(number) = noted(asker.oracle.facts(), claim, asker.broken) {
         return Ok(number);
     }
     asker.oracle.claim(asker.alloc, claim, asker.ledger)
 }
 
 // The number that was noted of a claim's fact, if the fact is of the claim.
-fn noted(facts: &[Fact], claim: Claim, seen: &BrokenClaims) -> Option<u64>
+fn noted(facts: &[Fact], claim: Claim, broken: &BrokenClaims) -> Option<u64>
     ensures { IfSome result (IsNumberOf facts.now claim) }
 {
-    let number = seen.number(claim)?;
+    let number = broken.number(claim)?;
     if is_of(facts, number, claim) {
         return Some(number);
     }

@@ -19,5 +19,5 @@ mod vectors;
 
 pub use effort::Effort;
 pub use guesser::Guesser;
-pub use guesses::{Guesses, Hints};
+pub use guesses::{Guesses, SearchStart};
 pub use trials::{Suspect, Trials};

@@ -44,12 +44,12 @@ made_asked made serves = made_then _ _ _ _ _ _ _ _ _ _ made (made_kept _ _ _ _ _
 
 -- what is lent may change, and the loans stay the same
 pub same_loans : {s : Lent} {known : Known} {ledger : Ledgered} {bans : List Ban} {vectors : Trials} → AreSameLoans s (record s { known = known; ledger = ledger; bans = bans; vectors = vectors })
-same_loans = record { oracle = refl; seen = refl; heuristics = refl; book = refl; ledger = refl }
+same_loans = record { oracle = refl; broken = refl; heuristics = refl; book = refl; ledger = refl }
 
 pub same_then : {old mid new : Lent} → AreSameLoans old mid → AreSameLoans mid new → AreSameLoans old new
 same_then one other = record {
   oracle = other.oracle ∙ one.oracle;
-  seen = other.seen ∙ one.seen;
+  broken = other.broken ∙ one.broken;
   heuristics = other.heuristics ∙ one.heuristics;
   book = other.book ∙ one.book;
   ledger = other.ledger ∙ one.ledger;
@@ -57,11 +57,11 @@ same_then one other = record {
 
 -- what the asker is lent
 abbrev pub asker_of : Lent → Loans
-asker_of s = record { known = s.known; ledger = s.ledger; oracle_name = s.oracle_name; seen_name = s.seen_name; ledger_name = s.ledger_name }
+asker_of s = record { known = s.known; ledger = s.ledger; oracle_name = s.oracle_name; broken_name = s.broken_name; ledger_name = s.ledger_name }
 
 -- the asker was lent to a call
-pub same_asker : {s : Lent} {known : Known} {ledger : Ledgered} {oracle seen book : GName} {bans : List Ban} {vectors : Trials} → AreSame (asker_of s) (record { known = known; ledger = ledger; oracle_name = oracle; seen_name = seen; ledger_name = book }) → AreSameLoans s (record s { known = known; ledger = ledger; oracle_name = oracle; seen_name = seen; ledger_name = book; bans = bans; vectors = vectors })
-same_asker same = record { oracle = same.oracle; seen = same.seen; heuristics = refl; book = refl; ledger = same.ledger }
+pub same_asker : {s : Lent} {known : Known} {ledger : Ledgered} {oracle broken book : GName} {bans : List Ban} {vectors : Trials} → AreSame (asker_of s) (record { known = known; ledger = ledger; oracle_name = oracle; broken_name = broken; ledger_name = book }) → AreSameLoans s (record s { known = known; ledger = ledger; oracle_name = oracle; broken_name = broken; ledger_name = book; bans = bans; vectors = vectors })
+same_asker same = record { oracle = same.oracle; broken = same.broken; heuristics = refl; book = refl; ledger = same.ledger }
 
 -- all pairs are open
 pub may_anew : {graphs : Graphs} {s : Lent} {d : Domained} → MayGoOn graphs s → AreTrials graphs.first s.vectors → IsTrail graphs s.bans d → d.entries ≡ [] → MayStep graphs s d
@@ -108,7 +108,7 @@ way_bans {X} {graphs} way goes = record {
 }
 
 -- and a vector was kept
-pub way_tried : {X : Type 0} {graphs : Graphs} {old mid : Lent} {d : Domained} {known : Known} {ledger : Ledgered} {oracle seen book : GName} {bans : List Ban} {vectors : Trials} {x : X} → IsUnderWay graphs old mid d → AreSame (asker_of mid) (record { known = known; ledger = ledger; oracle_name = oracle; seen_name = seen; ledger_name = book }) → MakesBans graphs mid.known known mid.ledger ledger mid.bans bans (Ok x) → AreTrials graphs.first vectors → IsUnderWay graphs old (record mid { known = known; ledger = ledger; oracle_name = oracle; seen_name = seen; ledger_name = book; bans = bans; vectors = vectors }) d
+pub way_tried : {X : Type 0} {graphs : Graphs} {old mid : Lent} {d : Domained} {known : Known} {ledger : Ledgered} {oracle broken book : GName} {bans : List Ban} {vectors : Trials} {x : X} → IsUnderWay graphs old mid d → AreSame (asker_of mid) (record { known = known; ledger = ledger; oracle_name = oracle; broken_name = broken; ledger_name = book }) → MakesBans graphs mid.known known mid.ledger ledger mid.bans bans (Ok x) → AreTrials graphs.first vectors → IsUnderWay graphs old (record mid { known = known; ledger = ledger; oracle_name = oracle; broken_name = broken; ledger_name = book; bans = bans; vectors = vectors }) d
 way_tried way same makes trials = record {
   same = same_then way.same (same_asker same);
   made = made_on way.made makes;
@@ -213,7 +213,7 @@ steps_last way steps = record {
 }
 
 -- a call that is lent the asker and the book
-pub goes_by : {X : Type 0} {graphs : Graphs} {old : Lent} {known : Known} {ledger : Ledgered} {oracle seen book : GName} {bans : List Ban} {vectors : Trials} {result : Result X Stop} → AreSame (asker_of old) (record { known = known; ledger = ledger; oracle_name = oracle; seen_name = seen; ledger_name = book }) → MakesBans graphs old.known known old.ledger ledger old.bans bans result → vectors ≡ old.vectors → GoesOn graphs old (record old { known = known; ledger = ledger; oracle_name = oracle; seen_name = seen; ledger_name = book; bans = bans; vectors = vectors }) result
+pub goes_by : {X : Type 0} {graphs : Graphs} {old : Lent} {known : Known} {ledger : Ledgered} {oracle broken book : GName} {bans : List Ban} {vectors : Trials} {result : Result X Stop} → AreSame (asker_of old) (record { known = known; ledger = ledger; oracle_name = oracle; broken_name = broken; ledger_name = book }) → MakesBans graphs old.known known old.ledger ledger old.bans bans result → vectors ≡ old.vectors → GoesOn graphs old (record old { known = known; ledger = ledger; oracle_name = oracle; broken_name = broken; ledger_name = book; bans = bans; vectors = vectors }) result
 goes_by same makes trials = record {
   same = same_asker same;
   makes = makes;
@@ -221,12 +221,12 @@ goes_by same makes trials = record {
 }
 
 -- one that is lent the asker alone
-pub goes_told : {X : Type 0} {graphs : Graphs} {old : Lent} {known : Known} {ledger : Ledgered} {oracle seen book : GName} {result : Result X Stop} → MayGoOn graphs old → AreSame (asker_of old) (record { known = known; ledger = ledger; oracle_name = oracle; seen_name = seen; ledger_name = book }) → Serves old.known known old.ledger ledger result → GoesOn graphs old (record old { known = known; ledger = ledger; oracle_name = oracle; seen_name = seen; ledger_name = book }) result
+pub goes_told : {X : Type 0} {graphs : Graphs} {old : Lent} {known : Known} {ledger : Ledgered} {oracle broken book : GName} {result : Result X Stop} → MayGoOn graphs old → AreSame (asker_of old) (record { known = known; ledger = ledger; oracle_name = oracle; broken_name = broken; ledger_name = book }) → Serves old.known known old.ledger ledger result → GoesOn graphs old (record old { known = known; ledger = ledger; oracle_name = oracle; broken_name = broken; ledger_name = book }) result
 goes_told may same serves = goes_by same (makes_no_more _ _ _ _ _ _ _ may.valid serves) refl
 
 -- and one that is lent the oracle and the ledger
 pub goes_asked : {X : Type 0} {graphs : Graphs} {old : Lent} {known : Known} {ledger : Ledgered} {result : Result X Stop} → MayGoOn graphs old → Serves old.known known old.ledger ledger result → GoesOn graphs old (record old { known = known; ledger = ledger }) result
-goes_asked may serves = goes_told may (record { oracle = refl; seen = refl; ledger = refl }) serves
+goes_asked may serves = goes_told may (record { oracle = refl; broken = refl; ledger = refl }) serves
 
 -- Calls that keep bans and assign no pair, one after the other.
 pub record HasGoneOn (graphs : Graphs) (old now : Lent) : Type 0 where

@@ -38,7 +38,7 @@ pub record Lent : Type 0 where
   pub bans : List Ban
   pub vectors : Trials
   pub oracle_name : GName
-  pub seen_name : GName
+  pub broken_name : GName
   pub heuristics_name : GName
   pub book_name : GName
   pub ledger_name : GName
@@ -50,7 +50,7 @@ lent known s = record {
   bans = s.book.now;
   vectors = s.heuristics.now.trials;
   oracle_name = s.asker.oracle.ghost_name;
-  seen_name = s.asker.seen.ghost_name;
+  broken_name = s.asker.broken.ghost_name;
   heuristics_name = s.heuristics.ghost_name;
   book_name = s.book.ghost_name;
   ledger_name = s.asker.ledger.ghost_name;
@@ -59,7 +59,7 @@ lent known s = record {
 -- They are the same loans.
 pub record AreSameLoans (old new : Lent) : Type 0 where
   pub oracle : new.oracle_name ≡ old.oracle_name
-  pub seen : new.seen_name ≡ old.seen_name
+  pub broken : new.broken_name ≡ old.broken_name
   pub heuristics : new.heuristics_name ≡ old.heuristics_name
   pub book : new.book_name ≡ old.book_name
   pub ledger : new.ledger_name ≡ old.ledger_name

@@ -31,7 +31,7 @@ pub struct Guide {
     /// How many of the assigned pairs were compared with claims of one input.
     pub asked: usize,
     /// How many of the assigned pairs were compared with claims of two inputs.
-    pub exchanged: usize,
+    pub compared_by_swaps: usize,
     compared: ComparedPairs,
     /// The port that was decided last, and the one that comes first as long as it is in no pair.
     decided: Option<Port>,
@@ -59,7 +59,7 @@ impl Guide {
             order,
             tallied: 0,
             asked: 0,
-            exchanged: 0,
+            compared_by_swaps: 0,
             compared,
             decided: None,
             urgent: None,
@@ -75,7 +75,7 @@ impl Guide {
     /// Notes that only this many pairs are assigned now, the earliest ones.
     pub fn go_back_to(&mut self, assigned: usize) {
         self.asked = self.asked.min(assigned);
-        self.exchanged = self.exchanged.min(assigned);
+        self.compared_by_swaps = self.compared_by_swaps.min(assigned);
     }
 
     /// Notes that a round begins, with this many assigned pairs, the earliest ones.

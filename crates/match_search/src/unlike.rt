@@ -41,13 +41,13 @@ struct Beside {
 pub(crate) fn list_unlike(
     alloc: Global,
     domains: &Domains,
-    seen: &BrokenClaims,
+    claims: &BrokenClaims,
     pair: Pair,
     again: bool,
 ) -> Result<Vec<Pair>, AllocError> {
     let mut ways = Vec::new(alloc);
-    let first = free_ports(alloc, domains, seen, pair, Side::First)?;
-    let second = free_ports(alloc, domains, seen, pair, Side::Second)?;
+    let first = free_ports(alloc, domains, claims, pair, Side::First)?;
+    let second = free_ports(alloc, domains, claims, pair, Side::Second)?;
     for one in first.iter() {
         list_port(domains, pair, *one, &second, &mut ways)?;
     }
@@ -61,7 +61,7 @@ pub(crate) fn list_unlike(
 fn free_ports(
     alloc: Global,
     domains: &Domains,
-    seen: &BrokenClaims,
+    claims: &BrokenClaims,
     pair: Pair,
     side: Side,
 ) -> Result<Vec<Beside>, AllocError> {
@@ -69,7 +69,7 @@ fn free_ports(
     let mut ports = Vec::new(alloc);
     for port in 0..domains.ports(kind) {
         if domains.assigned(side, kind, port).is_none() {
-            let broken = broken_beside(seen, pair, side, port);
+            let broken = broken_beside(claims, pair, side, port);
             ports.push(Beside { port, broken })?;
         }
     }
@@ -84,11 +84,11 @@ fn other_kind(kind: PortKind) -> PortKind {
 }
 
 // What vectors break of the claims of a pair's port of a circuit and a port of the other kind.
-fn broken_beside(seen: &BrokenClaims, pair: Pair, side: Side, port: u32) -> u8 {
+fn broken_beside(claims: &BrokenClaims, pair: Pair, side: Side, port: u32) -> u8 {
     let own = port_on(side, pair);
     match pair.kind {
-        PortKind::Output => seen.broken(side, own, port),
-        PortKind::Input => seen.broken(side, port, own),
+        PortKind::Output => claims.broken(side, own, port),
+        PortKind::Input => claims.broken(side, port, own),
     }
 }
 

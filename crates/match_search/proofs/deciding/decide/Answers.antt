@@ -23,10 +23,10 @@ returns-in-Some g c =
     let made = made_asked (made_same _ _ _ _ (may_start c.requires.may c.facts-facts.ensures.lawful)) c.in_ok-matching.ensures.serves in
     record { searches = searches_ok made.served made.valid (rw c.in-Some.is at c.in_ok-matching.ensures.shown) }
 
-pub returns-in_err-seen : goal.returns-in_err-seen
-returns-in_err-seen g c =
+pub returns-in_err-broken : goal.returns-in_err-broken
+returns-in_err-broken g c =
     let made = made_asked (made_same _ _ _ _ (may_start c.requires.may c.facts-facts.ensures.lawful)) c.in_ok-matching.ensures.serves in
-    record { searches = searches_stop c.from_residual-in_err-seen.ensures.1 made.served made.valid }
+    record { searches = searches_stop c.from_residual-in_err-broken.ensures.1 made.served made.valid }
 
 pub returns-in_err-heuristics : goal.returns-in_err-heuristics
 returns-in_err-heuristics g c =

@@ -2,7 +2,7 @@ use Rattle.std.proofs.Common.{sym, subst}
 use Rattle.account_core.specs.Assigned.{AreAssignable}
 use Rattle.pair_search.proofs.PivotLemmas.{assigned_known}
 use Rattle.match_search.proofs.StepLemmas.{may_go_on, steps_fail, steps_ok, way_bans, way_start}
-use Rattle.match_search.proofs.following.exchange_assigned.Goals as goal
+use Rattle.match_search.proofs.following.compare_by_swaps.Goals as goal
 
 pub loop-place-init : goal.loop-place-init
 loop-place-init g c = way_start c.requires.may

@@ -1,6 +1,6 @@
 use Rattle.match_search.specs.States.{lent}
 use Rattle.match_search.proofs.AskLemmas.{IsUnderWay}
-use Rattle.match_search.proofs.following.exchange_assigned.Given as goal
+use Rattle.match_search.proofs.following.compare_by_swaps.Given as goal
 
 abbrev pub invariant-loop-place : goal.invariant-loop-place
 invariant-loop-place g l =

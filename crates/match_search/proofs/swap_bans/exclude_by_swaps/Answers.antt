@@ -1,6 +1,6 @@
 use Rattle.std.proofs.lemmas.List.Elements.{Contains-get_or}
 use Rattle.match_search.proofs.StepLemmas.{goes_err, goes_ok, gone_more, gone_none, may_ask_on, never_if}
-use Rattle.match_search.proofs.exchanged.exclude_by_swaps.Goals as goal
+use Rattle.match_search.proofs.swap_bans.exclude_by_swaps.Goals as goal
 
 pub loop-other-init : goal.loop-other-init
 loop-other-init g c = gone_none c.requires.may

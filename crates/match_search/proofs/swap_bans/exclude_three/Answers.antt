@@ -4,7 +4,7 @@ use Rattle.account_core.specs.Ports.{IsKnown}
 use Rattle.fact_bans.proofs.WiderLemmas.{all_wider, three_among}
 use Rattle.match_search.proofs.AskLemmas.{each_of_three}
 use Rattle.match_search.proofs.StepLemmas.{goes_by, goes_ok, gone_none}
-use Rattle.match_search.proofs.exchanged.exclude_three.Goals as goal
+use Rattle.match_search.proofs.swap_bans.exclude_three.Goals as goal
 
 pub returns-in_default-clause-goes_on : goal.returns-in_default-clause-goes_on
 returns-in_default-clause-goes_on g c = goes_ok (gone_none c.requires.may)

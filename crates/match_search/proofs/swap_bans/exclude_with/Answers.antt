@@ -1,7 +1,7 @@
 use Rattle.std.proofs.lemmas.List.Elements.{All-contains, Contains-get_or}
 use Rattle.account_core.specs.Ports.{IsKnown}
 use Rattle.match_search.proofs.StepLemmas.{goes_err, goes_ok, gone_more, gone_none, may_ask_on, never_if}
-use Rattle.match_search.proofs.exchanged.exclude_with.Goals as goal
+use Rattle.match_search.proofs.swap_bans.exclude_with.Goals as goal
 
 pub returns-then-eq : goal.returns-then-eq
 returns-then-eq g c = record { goes_on = goes_ok (gone_none c.requires.may); covers = tt }

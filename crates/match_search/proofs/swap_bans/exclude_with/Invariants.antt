@@ -1,6 +1,6 @@
 use Rattle.match_search.specs.States.{lent}
 use Rattle.match_search.proofs.StepLemmas.{HasGoneOn}
-use Rattle.match_search.proofs.exchanged.exclude_with.Given as goal
+use Rattle.match_search.proofs.swap_bans.exclude_with.Given as goal
 
 abbrev pub invariant-loop-third : goal.invariant-loop-third
 invariant-loop-third g l =
