@@ -1,3 +1,4 @@
+pub mod Marked
 pub mod ListLemmas
 pub mod BookLemmas
 mod ChainLemmas

@@ -2,7 +2,7 @@ pub mod Chains
 pub mod Covering
 pub mod Vectors
 pub use Rattle.account_core.specs.Steps
-pub mod Told
+pub mod DecidedClaims
 pub mod Listed
 pub mod Mismatched
 pub mod Rows

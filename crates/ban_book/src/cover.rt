@@ -19,9 +19,9 @@ use circuits::{Pair, PortKind};
 use items::{Few, Items};
 use std::alloc::{AllocError, Global};
 
-#[tactic(auto, using(crate::proofs::KeepLemmas::adds_no_bans))]
 /// Makes the ban of pairs, in order, beside which each way of a block is impossible or excluded by an earlier ban, and
 /// answers its number.
+#[tactic(auto, using(crate::proofs::KeepLemmas::adds_no_bans))]
 pub fn keep_cover(
     alloc: Global,
     graphs: &PairableGraphs<'_>,

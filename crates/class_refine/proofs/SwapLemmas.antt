@@ -20,7 +20,7 @@ use Rattle.account_core.proofs.Matched.{pair_of-held}
 use Rattle.ban_book.specs.Vectors.{AreDecided}
 use Rattle.ban_book.specs.Mismatched.{mismatch_of, unlike_of}
 use Rattle.ban_book.specs.Shown.{IsShownBan}
-use Rattle.ban_book.specs.Told.{IsToldAs}
+use Rattle.ban_book.specs.DecidedClaims.{IsDecidedAs}
 use Rattle.ban_book.proofs.MismatchLemmas.{inputs_image, some_pair, three_known, three_ordered}
 use Rattle.ban_book.proofs.MismatchedLemmas.{mismatch_valid}
 use Rattle.account_core.specs.Assigned.{AreApart}
@@ -37,17 +37,17 @@ two_apart n i j a b placed same = by_order (nat_lt i j) placed
     by_order true is = omega (arith, is.0, same)
     by_order false is = omega (arith, is.0, same)
 
-told_placed : (graphs : Graphs) (facts : List Decided) (claim : Claim) (holds : Bool) (k : ℕ) → AreDecided graphs facts → IsToldAs facts claim holds k → IsClaim graphs claim
-told_placed graphs facts claim holds k are told = subst (λ (f : Decided). IsClaim graphs f.claim) told.says (are.placed k _ told.within)
+decided_placed : (graphs : Graphs) (facts : List Decided) (claim : Claim) (holds : Bool) (k : ℕ) → AreDecided graphs facts → IsDecidedAs facts claim holds k → IsClaim graphs claim
+decided_placed graphs facts claim holds k are decided_one = subst (λ (f : Decided). IsClaim graphs f.claim) decided_one.says (are.placed k _ decided_one.within)
 
 -- the ban of a claim that is decided otherwise than the one that pairs carry it to
-pub exchange_shown : (graphs : Graphs) (facts : List Decided) (pairs : List Pair) (claim : Claim) (e : Exchange) (one_holds other_holds : Bool) (k l : ℕ) → AreDecided graphs facts → All (IsKnown graphs) pairs → IsExchange pairs claim e → IsToldAs facts claim one_holds k → IsToldAs facts (carried_to e) other_holds l → (other_holds ≡ one_holds → ⊥) → IsShownBan graphs facts pairs (mismatch_of (e.one ∷ e.other ∷ e.output ∷ []) (unlike_of one_holds k l))
-exchange_shown graphs facts pairs claim e one_holds other_holds k l are known is told told_other differ =
+pub exchange_shown : (graphs : Graphs) (facts : List Decided) (pairs : List Pair) (claim : Claim) (e : Exchange) (one_holds other_holds : Bool) (k l : ℕ) → AreDecided graphs facts → All (IsKnown graphs) pairs → IsExchange pairs claim e → IsDecidedAs facts claim one_holds k → IsDecidedAs facts (carried_to e) other_holds l → (other_holds ≡ one_holds → ⊥) → IsShownBan graphs facts pairs (mismatch_of (e.one ∷ e.other ∷ e.output ∷ []) (unlike_of one_holds k l))
+exchange_shown graphs facts pairs claim e one_holds other_holds k l are known is decided_one decided_other differ =
     let output = pair_of-held pairs Output claim.output e.output is.of_output in
     let one = pair_of-held pairs Input is.i e.one is.of_one in
     let other = pair_of-held pairs Input is.j e.other is.of_other in
-    let placed = (subst (IsClaim graphs) is.claim_is (told_placed graphs facts claim one_holds k are told)).placed in
-    let placed_other = (told_placed graphs facts (carried_to e) other_holds l are told_other).placed in
+    let placed = (subst (IsClaim graphs) is.claim_is (decided_placed graphs facts claim one_holds k are decided_one)).placed in
+    let placed_other = (decided_placed graphs facts (carried_to e) other_holds l are decided_other).placed in
     let less : e.one.from < e.other.from = omega (arith, placed.0, one.2, other.2) in
     let apart = two_apart (graph_of graphs Second).inputs e.one.to e.other.to (moved_value e.output.flip e.one e.a) (moved_value e.output.flip e.other e.b) placed_other in
     let few = e.one ∷ e.other ∷ e.output ∷ [] in
@@ -59,7 +59,7 @@ exchange_shown graphs facts pairs claim e one_holds other_holds k l are known is
     let carried : IsImage few claim (carried_to e) = (ap (λ (c : Claim). c.side) is.claim_is, ap (image_of few) claim_is ∙ inputs_image e.one e.other e.output e.a e.b one.1 other.1 output.1 less) in
     let known_few = three_known graphs e.one e.other e.output (All-contains (IsKnown graphs) pairs e.one known one.0) (All-contains (IsKnown graphs) pairs e.other known other.0) (All-contains (IsKnown graphs) pairs e.output known output.0) in
     record {
-      valid = (mismatch_valid graphs facts few claim (carried_to e) one_holds other_holds k l known_few (three_ordered e.one e.other e.output one.1 other.1 output.1 less apart) carried told told_other (λ same. differ (sym same))).valid;
+      valid = (mismatch_valid graphs facts few claim (carried_to e) one_holds other_holds k l known_few (three_ordered e.one e.other e.output one.1 other.1 output.1 less apart) carried decided_one decided_other (λ same. differ (sym same))).valid;
       within = record { among = All-cons (Contains pairs) e.one (e.other ∷ e.output ∷ []) one.0 (All-cons (Contains pairs) e.other (e.output ∷ []) other.0 (All-cons (Contains pairs) e.output [] output.0 (All-nil (Contains pairs)))) };
       no_vector = λ v. v;
     }

@@ -12,7 +12,7 @@ ghost use Rattle.fact_bans.specs.Carrying.{Carry};
 ghost use Rattle.fact_bans.specs.Asking.{AreSame, MakesBy, MayMakeBy, ServesBy, loans};
 
 use crate::asker::Asker;
-use crate::told::decide;
+use crate::deciding::decide;
 use account_core::PairableGraphs;
 use ban_book::{BanBook, Carried, Unlike, mismatch_ban, unlike_of};
 use circuits::Pair;

@@ -63,7 +63,7 @@ fn tally_by<O: Oracle>(
     let Some(lists) = ask(graphs, asker, pair, plan)? else {
         return Ok(None);
     };
-    if !are_many(graphs.first().inputs(), &lists.one, &lists.both) {
+    if !are_enough(graphs.first().inputs(), &lists.one, &lists.both) {
         return Ok(None);
     }
     let ban = tally_ban(asker.alloc, pair, holds, lists)?;
@@ -111,8 +111,9 @@ fn wanted_on(side: Side, pair: Pair, holds: bool, both: bool) -> Wanted
     }
 }
 
-// Whether facts of one input each, and facts in twos, are of more inputs than there are, and there are some of both.
-fn are_many(inputs: u32, one: &[u64], both: &[u64]) -> bool
+// Whether facts are enough for a tally: `one` has one fact an input and `both` has two, of more inputs together than a
+// circuit has, and neither is empty.
+fn are_enough(inputs: u32, one: &[u64], both: &[u64]) -> bool
     ensures some_one { IsTrue result → 0 < length one.now }
     ensures some_both { IsTrue result → 1 < length both.now }
     ensures many { IsTrue result → inputs < length one.now + length both.now / 2 }

@@ -68,7 +68,7 @@ fn ban_of<O: Oracle>(
         pairs,
         values,
     } = shown;
-    let by_facts = told_apart(graphs, asker, &pairs, pair)?;
+    let by_facts = ban_by_claims(graphs, asker, &pairs, pair)?;
     match by_facts {
         Some(ban) => Ok(ban),
         None => Ok(vector_ban(asker.alloc, &pairs, pair.from, values)?),
@@ -76,7 +76,7 @@ fn ban_of<O: Oracle>(
 }
 
 // The ban that claims of one input show of some pairs, among them that of an output. They are decided for both outputs.
-fn told_apart<O: Oracle>(
+fn ban_by_claims<O: Oracle>(
     graphs: &PairableGraphs<'_>,
     asker: &mut Asker<'_, O>,
     pairs: &[Pair],

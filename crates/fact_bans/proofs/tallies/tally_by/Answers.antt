@@ -18,8 +18,8 @@ pub returns-in_default-clause-makes : goal.returns-in_default-clause-makes
 returns-in_default-clause-makes g c =
     makes_ok _ _ _ _ _ _ _ _ _ refl (made_kept _ _ _ _ _ _ _ c.requires.may.valid (served_one _ _ _ _ _ c.in_ok-lists.ensures.serves) refl)
 
-pub returns-then-not-are_many-clause-makes : goal.returns-then-not-are_many-clause-makes
-returns-then-not-are_many-clause-makes g c =
+pub returns-then-not-are_enough-clause-makes : goal.returns-then-not-are_enough-clause-makes
+returns-then-not-are_enough-clause-makes g c =
     makes_ok _ _ _ _ _ _ _ _ _ refl (made_kept _ _ _ _ _ _ _ c.requires.may.valid (served_one _ _ _ _ _ c.in_ok-lists.ensures.serves) refl)
 
 pub returns-in_err-ban-clause-makes : goal.returns-in_err-ban-clause-makes
@@ -36,9 +36,9 @@ returns-clause-makes g c =
     let new = g.O.Oracle.known c.ask.new.asker.oracle.now in
     let lists = c.in-Some.lists in
     let are = rw c.in-Some.is at c.in_ok-lists.ensures.lists in
-    let one = subst (λ (l : List ℕ). 0 < length l) c.deref.ensures.value (c.are_many.ensures.some_one c.if-not-are_many.false) in
-    let both = subst (λ (l : List ℕ). 1 < length l) c.deref-2.ensures.value (c.are_many.ensures.some_both c.if-not-are_many.false) in
-    let many : graphs.first.inputs < length lists.one + length lists.both / 2 = omega (arith, c.are_many.ensures.many c.if-not-are_many.false, ap length c.deref.ensures.value, ap length c.deref-2.ensures.value, c.inputs.ensures.value, ap (λ (net : Net). net.inputs) c.first.ensures.value) in
+    let one = subst (λ (l : List ℕ). 0 < length l) c.deref.ensures.value (c.are_enough.ensures.some_one c.if-not-are_enough.false) in
+    let both = subst (λ (l : List ℕ). 1 < length l) c.deref-2.ensures.value (c.are_enough.ensures.some_both c.if-not-are_enough.false) in
+    let many : graphs.first.inputs < length lists.one + length lists.both / 2 = omega (arith, c.are_enough.ensures.many c.if-not-are_enough.false, ap length c.deref.ensures.value, ap length c.deref-2.ensures.value, c.inputs.ensures.value, ap (λ (net : Net). net.inputs) c.first.ensures.value) in
     let valid = tally_valid graphs (map decided_by new.facts) c.args.book.now c.args.pair c.args.plan.now.side c.args.plan.now.holds lists c.requires.outputs.kind_is c.requires.outputs.known are one both many in
     let here = subst (λ (b : Ban). IsValidBan graphs (given_of (map decided_by new.facts) c.args.book.now) b) (sym c.in_ok-ban.ensures) valid in
     makes_ok _ _ _ _ _ _ _ _ _ refl (made_ban _ _ _ _ _ _ _ c.in_ok-ban.ban c.requires.may.valid (served_one _ _ _ _ _ c.in_ok-lists.ensures.serves) c.in_ok-number.ensures.added here (λ vector. absurd (tally_no_vector c.args.pair c.args.plan.now.holds lists (subst (λ (b : Ban). IsVector b.step) c.in_ok-ban.ensures vector))))

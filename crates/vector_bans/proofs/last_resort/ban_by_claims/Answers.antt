@@ -8,7 +8,7 @@ use Rattle.ban_book.specs.declared.input_claims.InputClaims.{InputClaims}
 use Rattle.fact_bans.proofs.AskingLemmas.{same_then}
 use Rattle.fact_bans.proofs.ServeLemmas.{ask_later, served_one, served_then, serves_err, serves_memory, serves_ok}
 use Rattle.vector_bans.proofs.ResortLemmas.{both_rows, first_there, nothing_by_rows, second_there, shown_by_rows}
-use Rattle.vector_bans.proofs.last_resort.told_apart.Goals as goal
+use Rattle.vector_bans.proofs.last_resort.ban_by_claims.Goals as goal
 
 pub claims_of-requires-clause-output : goal.claims_of-requires-clause-output
 claims_of-requires-clause-output g c = first_there c.args.graphs.now c.args.pairs.now c.args.pair c.requires.known c.requires.output

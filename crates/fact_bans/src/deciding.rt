@@ -4,7 +4,7 @@ ghost use Rattle.std.specs.Prelude.{◌≡◌, ◌++◌, ◌∷◌, [], IfOk, If
 ghost use Rattle.claim_core.specs.Claims.{IsClaim};
 ghost use Rattle.account_core.specs.Given.{decided_by};
 ghost use Rattle.oracle_core.specs.Oracles.{IsNumberOf, Suits};
-ghost use Rattle.ban_book.specs.Told.{AddsFact, IsToldAs};
+ghost use Rattle.ban_book.specs.DecidedClaims.{AddsFact, IsDecidedAs};
 ghost use Rattle.fact_bans.specs.Asking.{AreSame, ServesBy, loans};
 
 use crate::asker::Asker;
@@ -25,8 +25,8 @@ pub(crate) fn decide<O: Oracle>(
     requires suits { Suits (O.known asker.old.oracle.now) asker.old.ledger.now }
     ensures same { AreSame (loans O.known asker.old) (loans O.known asker.new) }
     ensures serves { ServesBy (loans O.known asker.old) (loans O.known asker.new) result }
-    ensures told { IfOk result (λ told.
-        IsToldAs (map decided_by (O.known asker.new.oracle.now).facts) claim told.holds told.number) }
+    ensures decided { IfOk result (λ decided.
+        IsDecidedAs (map decided_by (O.known asker.new.oracle.now).facts) claim decided.holds decided.number) }
 {
     let number = number_of(asker, claim)?;
     let fact = &asker.oracle.facts()[number as usize];
@@ -84,10 +84,10 @@ pub(crate) fn add_fact<O: Oracle>(
     ensures adds { IfOk result (λ added. IsTrue added
         → AddsFact (map decided_by (O.known asker.new.oracle.now).facts) claim holds numbers.old numbers.new) }
 {
-    let told = decide(asker, claim)?;
-    if told.holds != holds {
+    let decided = decide(asker, claim)?;
+    if decided.holds != holds {
         return Ok(false);
     }
-    numbers.push(told.number)?;
+    numbers.push(decided.number)?;
     Ok(true)
 }
