@@ -11,12 +11,12 @@ ghost use Rattle.pair_search.specs.Named.{IsPortOf};
 ghost use Rattle.pair_search.specs.Conflicts.{HasNoWay};
 ghost use Rattle.class_refine.specs.Stable.{HasLeft};
 
-use account_core::PairableGraphs;
+use account_core::{PairableGraphs, Port};
 use ban_book::BanBook;
 use circuits::PortKind;
 use net_core::Side;
 use pair_domains::Domains;
-use pair_search::{Conflict, Mismatches, Port, conflict_set_of, way_of};
+use pair_search::{Conflict, Mismatches, conflict_set_of, way_of};
 use std::alloc::{AllocError, Global};
 
 /// Makes the ban that says that a port has no way left beside the assigned pairs, if there is such a port, and answers

@@ -16,13 +16,13 @@ ghost use Rattle.class_refine.specs.Stable.{HaveNoBan};
 use crate::grounds::Grounds;
 use crate::shown::way_ban;
 use crate::swaps::swap_ban;
-use account_core::Ban;
+use account_core::{Ban, Port};
 use ban_book::BanBook;
 use ban_book::clash::clashing;
 use circuits::{Pair, PortKind};
 use net_core::Side;
 use pair_domains::{Domains, Reason};
-use pair_search::{Port, way_of};
+use pair_search::way_of;
 use std::alloc::{AllocError, Global};
 
 /// What excludes a pair beside the assigned ones.

@@ -13,7 +13,7 @@ use Rattle.pair_domains.specs.declared.entry.Entry.{Entry}
 use Rattle.pair_domains.specs.Trails.{IsAssignedAt, assigned_in}
 use Rattle.pair_domains.proofs.EntryLemmas.{of_at}
 use Rattle.pair_search.specs.ConflictSets.{FitPorts}
-use Rattle.pair_search.specs.declared.port.Port.{Port}
+use Rattle.account_core.specs.declared.ports.Port.{Port}
 
 -- a port of an assigned pair is taken
 pub taken_of : (es : List Entry) (side : Side) (kind : PortKind) (port : ℕ) (p : Pair) → IsAssignedAt es side kind port p → IsTaken side (assigned_in es) kind port

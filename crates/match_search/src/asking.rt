@@ -7,14 +7,14 @@ ghost use Rattle.pair_search.specs.ConflictSets.{FitPorts};
 ghost use Rattle.match_search.specs.States.{GoesOn, MayGoOn, MayStep, Steps, lent, AreOfBothKinds};
 
 use crate::session::Session;
-use account_core::PairableGraphs;
+use account_core::{PairableGraphs, Port};
 use circuits::{Pair, PortKind};
 use class_refine::Domains;
 use cnf_core::Stop;
 use fact_bans::{mismatch, tally};
 use net_core::Side;
 use oracle_core::Oracle;
-use pair_search::{Port, way_of};
+use pair_search::way_of;
 
 /// Makes the tallies of an output of the first circuit and each of the second.
 pub(crate) fn ask_output<O: Oracle>(

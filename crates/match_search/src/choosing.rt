@@ -9,10 +9,10 @@ ghost use Rattle.pair_search.specs.ConflictSets.{FitPorts};
 
 use crate::fewest::fewest_ways;
 use crate::guide::Guide;
+use account_core::Port;
 use circuits::PortKind;
 use class_refine::Domains;
 use net_core::Side;
-use pair_search::Port;
 use std::alloc::{AllocError, Global};
 
 /// The next port that is in no pair: the urgent one, or that of either circuit which has the fewest ways left for its

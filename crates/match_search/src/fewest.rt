@@ -5,12 +5,11 @@ ghost use Rattle.pair_domains.specs.Trails.{ports_of};
 
 use crate::reads::Reads;
 use crate::weights::Weights;
-use account_core::port_on;
+use account_core::{Port, port_on};
 use circuits::{Pair, PortKind};
 use class_refine::Domains;
 use items::Items;
 use net_core::Side;
-use pair_search::Port;
 use std::alloc::{AllocError, Global};
 
 // A port, how many ways it has left, and its weight.

@@ -7,9 +7,9 @@ use crate::reads::{Reads, by_count};
 use crate::room::BanRoom;
 use crate::rounds::Rounds;
 use crate::weights::Weights;
-use account_core::{Ban, PairableGraphs};
+use account_core::{Ban, PairableGraphs, Port};
 use circuits::Pair;
-use pair_search::{Conflict, Port};
+use pair_search::Conflict;
 use std::alloc::{AllocError, Global};
 
 /// The most that tallies of all signed pairs of outputs may ask: the pairs times the inputs. Each pair's ban lists up

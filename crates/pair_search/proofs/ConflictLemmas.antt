@@ -13,7 +13,7 @@ use Rattle.ban_book.specs.Covering.{Covers}
 use Rattle.account_core.specs.Assigned.{IsPart}
 use Rattle.ban_book.proofs.BlockListLemmas.{cons_more}
 use Rattle.pair_domains.specs.Trails.{IsPairOf, ports_of}
-use Rattle.pair_search.specs.declared.port.Resolved.{Resolved}
+use Rattle.pair_search.specs.declared.resolved.Resolved.{Resolved}
 use Rattle.pair_search.specs.ConflictSets.{FitPorts}
 use Rattle.pair_domains.specs.declared.entry.Entry.{Entry}
 use Rattle.pair_search.specs.Named.{AreAllGathered, IsLeftOutOr}

@@ -23,7 +23,7 @@ use Rattle.pair_domains.specs.declared.entry.Fate.{Fate}
 use Rattle.pair_domains.specs.declared.entry.Fate.TheVariants.{Assigned, Deleted}
 use Rattle.pair_domains.specs.declared.entry.Reason.TheVariants as reason
 use Rattle.pair_domains.specs.Trails.{Domained}
-use Rattle.pair_search.specs.declared.port.Resolved.{Resolved}
+use Rattle.pair_search.specs.declared.resolved.Resolved.{Resolved}
 use Rattle.pair_search.specs.Named.{IsGathered, IsLeftOutOr, deleted}
 use Rattle.pair_search.specs.Justified.{IsTrail}
 use Rattle.pair_search.specs.Grounded.{AreGrounded, IsGrounded, LearnsMore, MayAdd, StayGrounded, in_order, mismatch_ban}

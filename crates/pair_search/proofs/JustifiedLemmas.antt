@@ -15,7 +15,8 @@ use Rattle.pair_domains.specs.declared.entry.Reason.{Reason}
 use Rattle.pair_domains.specs.declared.entry.Reason.TheVariants as reason
 use Rattle.pair_domains.specs.Trails.{IsDeleted, assigned_in, is_assigned, ports_of}
 use Rattle.pair_search.specs.Named.{AreNamed, EachWay, IsLeftOutOr, IsNamedIn, deleted}
-use Rattle.pair_search.specs.Justified.{AreJustified, IsJustified, port_of}
+use Rattle.account_core.specs.Tallies.{port_of}
+use Rattle.pair_search.specs.Justified.{AreJustified, IsJustified}
 use Rattle.pair_search.proofs.NamedLemmas.{named_more}
 use Rattle.ban_book.proofs.BookLemmas.{covers_later}
 

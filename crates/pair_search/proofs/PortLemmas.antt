@@ -6,15 +6,14 @@ use Rattle.std.proofs.lemmas.List.Elements.{All-contains}
 use Rattle.circuits.specs.declared.port.Pair.{Pair}
 use Rattle.circuits.specs.declared.port.PortKind.{PortKind}
 use Rattle.net_core.specs.declared.graphs.Side.{Side}
-use Rattle.account_core.specs.Tallies.{port_on}
+use Rattle.account_core.specs.Tallies.{port_of, port_on}
 use Rattle.ban_book.specs.Ways.{nth_way}
 use Rattle.pair_domains.specs.declared.entry.Entry.{Entry}
 use Rattle.pair_domains.specs.declared.entry.Fate.{Fate}
 use Rattle.pair_domains.specs.declared.entry.Fate.TheVariants.{Assigned, Deleted}
 use Rattle.pair_domains.specs.Trails.{IsDeleted, IsFreePort, IsOpen, assigned_in, is_at, is_assigned, ports_of}
 use Rattle.pair_domains.proofs.EntryLemmas.{at_of}
-use Rattle.pair_search.specs.declared.port.Port.{Port}
-use Rattle.pair_search.specs.Justified.{port_of}
+use Rattle.account_core.specs.declared.ports.Port.{Port}
 use Rattle.pair_search.specs.Named.{EachWay, IsLeftOutOr}
 use Rattle.pair_search.proofs.PivotLemmas.{assigned_with}
 use Rattle.circuits.proofs.Lists.{contains_cons}

@@ -5,7 +5,7 @@ use Rattle.ban_book.specs.Covering.{Covers}
 use Rattle.ban_book.specs.declared.block.Block.{Block}
 use Rattle.ban_book.specs.Ways.{ways_in, IsBlock}
 use Rattle.pair_domains.specs.Trails.{Domained, IsDeleted, assigned_in, ports_of}
-use Rattle.pair_search.specs.declared.port.Port.{Port}
+use Rattle.account_core.specs.declared.ports.Port.{Port}
 use Rattle.pair_search.specs.Named.{EachWay, IsPortOf}
 use Rattle.pair_search.specs.Progress.{Propagates}
 use Rattle.pair_search.specs.declared.conflict.Conflict.{Conflict}

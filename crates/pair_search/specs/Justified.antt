@@ -6,19 +6,14 @@ use Rattle.circuits.specs.Literals.{EachAt}
 use Rattle.net_core.specs.Sides.{Graphs}
 use Rattle.net_core.specs.declared.graphs.Side.{Side}
 use Rattle.account_core.specs.declared.step.Ban.{Ban}
-use Rattle.account_core.specs.Tallies.{port_on}
+use Rattle.account_core.specs.Tallies.{port_of}
 use Rattle.pair_domains.specs.declared.entry.Entry.{Entry}
 use Rattle.pair_domains.specs.declared.entry.Cause.TheVariants.{Choice, LastWay}
 use Rattle.pair_domains.specs.declared.entry.Fate.{Fate}
 use Rattle.pair_domains.specs.declared.entry.Fate.TheVariants.{Assigned, Deleted}
 use Rattle.pair_domains.specs.Trails.{Domained, IsDeleted, assigned_in, ports_of}
-use Rattle.pair_search.specs.declared.port.Port.{Port}
 use Rattle.pair_search.specs.ConflictSets.{FitPorts}
 use Rattle.pair_search.specs.Named.{AreNamed, EachWay, IsLeftOutOr}
-
--- a pair's port of a circuit
-abbrev pub port_of : Side → Pair → Port
-port_of side pair = record { side = side; kind = pair.kind; number = port_on side pair }
 
 -- what became of a pair follows: a choice from nothing, the last way of a port from the deletions of all others, and a deletion from the assigned pairs that
 -- its reason names

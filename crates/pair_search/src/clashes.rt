@@ -5,9 +5,8 @@ ghost use Rattle.pair_domains.specs.Trails.{IsPairOf, assigned_in};
 ghost use Rattle.pair_search.specs.Justified.{IsJustifiedTrail};
 ghost use Rattle.pair_search.specs.Progress.{Propagates};
 
-use crate::Port;
 use crate::ports::way_of;
-use account_core::{Ban, port_on};
+use account_core::{Ban, Port, port_on};
 use circuits::Pair;
 use net_core::Side;
 use pair_domains::{Domains, Reason};

@@ -7,8 +7,8 @@ ghost use Rattle.pair_search.specs.Conflicts.{IsConflict};
 
 use crate::conflict_set::{cover_block, cover_port};
 use crate::view::TrailView;
-use crate::{ConflictSet, Mismatches, Port, conflict_set_of_ban};
-use account_core::PairableGraphs;
+use crate::{ConflictSet, Mismatches, conflict_set_of_ban};
+use account_core::{PairableGraphs, Port};
 use ban_book::BanBook;
 use ban_book::block::Block;
 use pair_domains::Domains;

@@ -10,10 +10,10 @@ ghost use Rattle.pair_search.specs.Resolutions.{LeadsIntoBan, left_out};
 
 use crate::gather::gather;
 use crate::mismatch::Mismatches;
-use crate::port::{Port, Resolved};
 use crate::refer::{NotedWays, refer};
+use crate::resolved::Resolved;
 use crate::view::TrailView;
-use account_core::Ban;
+use account_core::{Ban, Port};
 use ban_book::BanBook;
 use ban_book::block::{Block, block_of, ways_in};
 use ban_book::cover::{add_one, keep_cover};

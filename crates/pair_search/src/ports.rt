@@ -12,9 +12,8 @@ ghost use Rattle.pair_search.specs.Named.{IsPortOf};
 ghost use Rattle.pair_search.specs.Conflicts.{HasNoWay, IsConflict};
 ghost use Rattle.pair_search.specs.Progress.{Propagates, StaysJustified, left};
 
-use crate::Port;
 use crate::conflict::Conflict;
-use account_core::Ban;
+use account_core::{Ban, Port};
 use ban_book::ways::nth_way;
 use circuits::Pair;
 use net_core::Side;

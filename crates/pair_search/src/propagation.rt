@@ -5,14 +5,13 @@ ghost use Rattle.pair_domains.specs.Trails.{ports_of};
 ghost use Rattle.pair_search.specs.Justified.{IsJustifiedTrail};
 ghost use Rattle.pair_search.specs.Conflicts.{Follows};
 
-use crate::Port;
 use crate::clashes::delete_ways;
 use crate::conflict::Conflict;
 use crate::crowds::crowd;
 use crate::ports::apply_port;
 use crate::queue::Queue;
 use crate::units::{apply, is_assigned, is_known};
-use account_core::{Ban, port_on};
+use account_core::{Ban, Port, port_on};
 use circuits::Pair;
 use net_core::Side;
 use pair_domains::{Domains, Entry, Fate};
