@@ -109,12 +109,12 @@ fn add_unless(
     if pair == way {
         return Ok(());
     }
-    add_one(needed, assigned, pair)?;
+    add_assigned(needed, assigned, pair)?;
     Ok(())
 }
 
 /// Adds an assigned pair to the needed ones, in order.
-pub fn add_one(needed: &mut Vec<Pair>, assigned: &[Pair], pair: Pair) -> Result<(), AllocError>
+pub fn add_assigned(needed: &mut Vec<Pair>, assigned: &[Pair], pair: Pair) -> Result<(), AllocError>
     requires part { IsPart assigned.now needed.old.items }
     requires apart { AllPairs AreApart assigned.now }
     requires assigned { Contains assigned.now pair }
@@ -141,6 +141,6 @@ pub fn add_input(inputs: &mut Vec<Pair>, assigned: &[Pair], pair: Pair) -> Resul
     if pair.kind != PortKind::Input {
         return Ok(());
     }
-    add_one(inputs, assigned, pair)?;
+    add_assigned(inputs, assigned, pair)?;
     Ok(())
 }

@@ -16,7 +16,7 @@ use crate::view::TrailView;
 use account_core::{Ban, Port};
 use ban_book::BanBook;
 use ban_book::block::{Block, block_of, ways_in};
-use ban_book::cover::{add_one, keep_cover};
+use ban_book::cover::{add_assigned, keep_cover};
 use circuits::Pair;
 use std::alloc::{AllocError, Global};
 
@@ -109,7 +109,7 @@ fn add_all(needed: &mut Vec<Pair>, assigned: &[Pair], pairs: &[Pair]) -> Result<
     ensures among { OnOk result (All (Contains needed.new.items) pairs.now) }
 {
     for pair in pairs.iter() {
-        add_one(needed, assigned, *pair)?;
+        add_assigned(needed, assigned, *pair)?;
     }
     Ok(())
 }

@@ -10,7 +10,7 @@ use crate::mismatch::{Mismatches, made_beside};
 use crate::view::TrailView;
 use account_core::Ban;
 use ban_book::clash::clashing;
-use ban_book::cover::{add_one, add_others};
+use ban_book::cover::{add_assigned, add_others};
 use circuits::Pair;
 use pair_domains::Reason;
 use std::alloc::AllocError;
@@ -111,8 +111,8 @@ fn add_named(
     ensures named { OnOk result (AreNamed bans.now conflict.new.items way reason) }
 {
     match reason {
-        Reason::Clash(with) => add_one(conflict, assigned, with),
+        Reason::Clash(with) => add_assigned(conflict, assigned, with),
         Reason::Ban(ban) => add_others(conflict, assigned, way, &bans[ban as usize].pairs),
-        Reason::Mismatch { with, .. } => add_one(conflict, assigned, with),
+        Reason::Mismatch { with, .. } => add_assigned(conflict, assigned, with),
     }
 }

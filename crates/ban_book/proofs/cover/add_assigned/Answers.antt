@@ -3,7 +3,7 @@ use Rattle.std.specs.Prelude.{Contains}
 use Rattle.std.proofs.lemmas.List.Elements.{All-contains}
 use Rattle.circuits.specs.declared.port.Pair.{Pair}
 use Rattle.ban_book.proofs.OrderLemmas.{assigned_apart}
-use Rattle.ban_book.proofs.cover.add_one.Goals as goal
+use Rattle.ban_book.proofs.cover.add_assigned.Goals as goal
 
 pub add-requires-clause-apart : goal.add-requires-clause-apart
 add-requires-clause-apart c =
