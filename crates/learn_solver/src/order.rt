@@ -88,7 +88,7 @@ impl Order {
         }
     }
 
-    // A variable is to be decided, if it is one and a focus has it.
+    // Puts a variable among those to be decided, if it is one and a focus has it.
     fn insert(&mut self, variable: u64, focus: &Focus)
         requires { IsOrder (length self.old.heap) self.old }
         ensures { IsOrder (length self.old.heap) self.new }
