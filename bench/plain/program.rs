@@ -9,7 +9,7 @@ use crate::circuits::{Gate, Lit};
 use crate::claim_core::{Claim, Shape, of_claim, of_match};
 use crate::cnf_core::Stop;
 use crate::fact_tests::FactBook;
-use crate::match_guess::{Effort, Guesser, Hints};
+use crate::match_guess::{Effort, Guesser, SearchStart};
 use crate::match_search::{Found, decide, search};
 use crate::net_core::{Graph, Graphs, Matching, Side};
 use crate::oracle_core::{Compared, Oracle};
@@ -36,7 +36,7 @@ pub fn main() -> Answer {
         }),
         ["decide", first, second, seed] => on_pair(first, second, seed, |graphs, seed| {
             look(graphs, seed, |book, bans, ledger| {
-                decide(Global, graphs, book, bans, &Hints { seed, candidates: &[] }, ledger)
+                decide(Global, graphs, book, bans, &SearchStart { seed, candidates: &[] }, ledger)
             })
         }),
         ["ask", first, second, output, value, budget] => on_pair(first, second, "0", |graphs, _| {

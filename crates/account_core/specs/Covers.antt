@@ -21,7 +21,7 @@ ways kind from to = flat_map (λ f. row kind f to) from
 
 -- a pair clashes with one of the ban's
 abbrev pub IsImpossible : List Pair → Pair → Type 0
-IsImpossible pairs pair = Any (λ held. Clash held pair) pairs
+IsImpossible pairs pair = Any (λ assigned. Clash assigned pair) pairs
 
 -- what stands for a way: nothing where it is impossible, else an earlier ban all of whose pairs are among the ban's and it
 abbrev pub IsReference : Given → List Pair → Pair → Option ℕ → Type 0

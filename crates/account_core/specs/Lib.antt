@@ -15,4 +15,4 @@ pub use Rattle.claim_core.specs.Formulas
 pub use Rattle.claim_core.specs.MatchQueries
 pub use Rattle.claim_core.specs.ClaimQueries
 pub use Rattle.cnf_core.specs.Derivations
-pub mod Held
+pub mod Assigned

@@ -32,5 +32,5 @@ pub record IsShownMatch (graphs : Graphs) (matching : Matching) (logs : List Log
 
 -- A ban that is kept and has no pairs: each match would have all of none, so there is no match.
 pub record IsEmptyBan (bans : List Ban) (number : ℕ) : Type 0 where
-  pub held : number < length bans
+  pub kept : number < length bans
   pub pairs : (d : Ban) → (slice_index_or bans number d).pairs ≡ []

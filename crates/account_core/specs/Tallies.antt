@@ -9,6 +9,7 @@ use Rattle.net_core.specs.declared.graphs.Side.{Side}
 use Rattle.net_core.specs.declared.graphs.Side.TheVariants.{First, Second}
 use Rattle.claim_core.specs.declared.claims.Shape.{Shape}
 use Rattle.claim_core.specs.declared.claims.Shape.TheVariants.{Up, Down}
+use Rattle.account_core.specs.declared.ports.Port.{Port}
 use Rattle.account_core.specs.declared.step.Tallied.{Tallied}
 use Rattle.account_core.specs.declared.step.Tallied.TheVariants.{Support, Binate}
 use Rattle.account_core.specs.Given.{Given, fact_at}
@@ -17,10 +18,14 @@ abbrev pub other_side : Side → Side
 other_side First = Second
 other_side Second = First
 
--- the port that a pair has of a circuit
+-- the number of the port that a pair has of a circuit
 abbrev pub port_on : Side → Pair → ℕ
 port_on First pair = pair.from
 port_on Second pair = pair.to
+
+-- a pair's port of a circuit
+abbrev pub port_of : Side → Pair → Port
+port_of side pair = record { side = side; kind = pair.kind; number = port_on side pair }
 
 -- the shapes of facts
 abbrev pub shapes_of : Given → List ℕ → List Shape

@@ -12,6 +12,6 @@ pub mod step_laws;
 pub use conclusion::Conclusion;
 pub use fact::{Evidence, Fact, FactHead};
 pub use pairable::PairableGraphs;
-pub use ports::{have_as_many, other_side, port_on, ports_in, way};
+pub use ports::{Port, have_as_many, other_side, port_of, port_on, ports_in, way};
 pub use sent::values_sent;
 pub use step::{Ban, Step, Tallied};

@@ -3,10 +3,19 @@
 ghost use Rattle.std.specs.Prelude.{◌≡◌, ◌↔◌, IsTrue};
 ghost use Rattle.account_core.specs.Covers.{way};
 ghost use Rattle.account_core.specs.Ports.{HaveAsMany, ports_in};
-ghost use Rattle.account_core.specs.Tallies.{other_side, port_on};
+ghost use Rattle.account_core.specs.Tallies.{other_side, port_of, port_on};
 
 use circuits::{Pair, PortKind};
 use net_core::{Graph, Graphs, Side};
+
+/// A port of one of two circuits.
+#[derive(Clone, Copy, Debug, PartialEq, Eq, Hash)]
+pub struct Port {
+    pub side: Side,
+    pub kind: PortKind,
+    /// Its position, from 0.
+    pub number: u32,
+}
 
 /// Whether two circuits have the same number of inputs, and the same number of outputs.
 pub fn have_as_many(graphs: &Graphs<'_>) -> bool
@@ -48,12 +57,23 @@ pub fn other_side(side: Side) -> Side
     }
 }
 
-/// A pair's port of a circuit.
+/// The number of a pair's port of a circuit.
 pub fn port_on(side: Side, pair: Pair) -> u32
     ensures { result ≡ port_on side pair }
 {
     match side {
         Side::First => pair.from,
         Side::Second => pair.to,
+    }
+}
+
+/// A pair's port of a circuit.
+pub fn port_of(side: Side, pair: Pair) -> Port
+    ensures { result ≡ port_of side pair }
+{
+    Port {
+        side,
+        kind: pair.kind,
+        number: port_on(side, pair),
     }
 }

@@ -313,12 +313,12 @@ pub conclusion_kept : (facts : List Fact) (bans : List Ban) (number : ℕ) (core
 conclusion_kept facts bans number core trimmed empty =
     subst (λ (list : List Ban). IsEmptyBan list core.number) (sym trimmed.bans_are)
     (subst (λ n. IsEmptyBan (map (renumbered_ban trimmed.fact_marks trimmed.ban_marks) (kept trimmed.ban_marks bans)) n) (sym trimmed.number_is) (record {
-      held = omega (arith, there, length-map (kept trimmed.ban_marks bans) (renumbered_ban trimmed.fact_marks trimmed.ban_marks));
+      kept = omega (arith, there, length-map (kept trimmed.ban_marks bans) (renumbered_ban trimmed.fact_marks trimmed.ban_marks));
       pairs = λ d.
           ap (λ (ban : Ban). ban.pairs) (get_or-map (renumbered_ban trimmed.fact_marks trimmed.ban_marks) (kept trimmed.ban_marks bans) (number_of trimmed.ban_marks number) d d there)
-          ∙ (ap (λ (ban : Ban). ban.pairs) (kept_at trimmed.ban_marks bans number d trimmed.as_many_bans empty.held trimmed.needed.closed.concluded)
+          ∙ (ap (λ (ban : Ban). ban.pairs) (kept_at trimmed.ban_marks bans number d trimmed.as_many_bans empty.kept trimmed.needed.closed.concluded)
           ∙ empty.pairs d);
     }))
   where
     there : number_of trimmed.ban_marks number < length (kept trimmed.ban_marks bans)
-    there = kept_below trimmed.ban_marks bans number trimmed.as_many_bans empty.held trimmed.needed.closed.concluded
+    there = kept_below trimmed.ban_marks bans number trimmed.as_many_bans empty.kept trimmed.needed.closed.concluded

@@ -141,7 +141,7 @@ module _ (graphs : Graphs) (many : HaveAsMany graphs.first graphs.second) where
   conclusion_taken : (facts : List Decided) (bans : List Ban) (number : ℕ) → IsEmptyBan bans number → IsTaken (headed graphs (record { facts = facts; bans = pairs_of bans })) (entry.Conclusion (conclusion.NoneBan number))
   conclusion_taken facts bans number empty = record {
     there = refl;
-    right = inr (many, inr (omega (arith, length-map bans (λ (b : Ban). b.pairs), empty.held), inr (get_or-map (λ (b : Ban). b.pairs) bans number none [] empty.held ∙ empty.pairs none, refl)));
+    right = inr (many, inr (omega (arith, length-map bans (λ (b : Ban). b.pairs), empty.kept), inr (get_or-map (λ (b : Ban). b.pairs) bans number none [] empty.kept ∙ empty.pairs none, refl)));
   }
     where
       none : Ban

@@ -1,4 +1,4 @@
--- Mismatches by rows: what is told apart shows a ban, and where all is told alike there is none.
+-- Mismatches by rows: claims that are decided differently show a ban, and where all are decided alike there is none.
 use Rattle.std.proofs.Common.{◌≡◌, ℕ, ◌<◌, List, [], ◌∷◌, length, All, Option, None, Some, refl, sym, ap, subst, ◌∙◌, inl, inr, arith}
 use Rattle.std.specs.Prelude.{Contains, IfNone}
 use Rattle.std.proofs.lemmas.Bool.{false≢true}
@@ -18,13 +18,13 @@ use Rattle.ban_book.proofs.CarriedLemmas.{carried_by, one_back}
 use Rattle.ban_book.specs.declared.input_claims.InputClaims.{InputClaims}
 use Rattle.ban_book.specs.declared.mismatched.Unlike.{Unlike}
 use Rattle.ban_book.specs.Mismatched.{mismatch_of, unlike_of, IsBanBy}
-use Rattle.ban_book.specs.Rows.{told_at, AreAlike, AreRows, HasOneOutput, IsMismatchBan}
+use Rattle.ban_book.specs.Rows.{decided_at, AreAlike, AreRows, HasOneOutput, IsMismatchBan}
 use Rattle.ban_book.specs.Shown.{IsShownBan}
 use Rattle.ban_book.proofs.MismatchLemmas.{input_before, input_from, input_image, input_to, two_known, two_ordered}
 use Rattle.ban_book.proofs.MismatchedLemmas.{mismatch_valid}
 use Rattle.ban_book.proofs.RowLemmas.{row_tells, same_said}
 
--- what is told apart shows a ban
+-- claims that are decided differently show a ban
 pub apart_shown : (graphs : Graphs) (facts : List Decided) (pairs : List Pair) (output : Pair) (one other : List InputClaims) (ban : Ban) → All (IsKnown graphs) pairs → HasOneOutput pairs output → length one ≡ graphs.first.inputs → length other ≡ graphs.second.inputs → IsMismatchBan pairs output one other ban → AreRows facts output one other → IsShownBan graphs facts pairs ban
 apart_shown graphs facts pairs output one other ban known has first second is rows =
     let input = is.found.input in
@@ -35,8 +35,8 @@ apart_shown graphs facts pairs output one other ban known has first second is ro
     let known_output = All-contains (IsKnown graphs) pairs output known has.has in
     let here = row_tells facts First output.from one input.from value rows.first (omega (arith, first, input_from graphs input of_input known_input)) in
     let there = row_tells facts Second output.to other input.to moved rows.second (omega (arith, second, input_to graphs input of_input known_input)) in
-    let by : IsBanBy graphs facts (input ∷ output ∷ []) (mismatch_of (input ∷ output ∷ []) (unlike_of (told_at one input.from value).holds (told_at one input.from value).number (told_at other input.to moved).number)) =
-    mismatch_valid graphs facts (input ∷ output ∷ []) _ _ (told_at one input.from value).holds (told_at other input.to moved).holds (told_at one input.from value).number (told_at other input.to moved).number (two_known graphs input output known_input known_output) (two_ordered input output (input_before input output of_input has.of_output)) (refl, input_image input output value of_input has.of_output) here there is.is.is.differ in
+    let by : IsBanBy graphs facts (input ∷ output ∷ []) (mismatch_of (input ∷ output ∷ []) (unlike_of (decided_at one input.from value).holds (decided_at one input.from value).number (decided_at other input.to moved).number)) =
+    mismatch_valid graphs facts (input ∷ output ∷ []) _ _ (decided_at one input.from value).holds (decided_at other input.to moved).holds (decided_at one input.from value).number (decided_at other input.to moved).number (two_known graphs input output known_input known_output) (two_ordered input output (input_before input output of_input has.of_output)) (refl, input_image input output value of_input has.of_output) here there is.is.is.differ in
     let shown = subst (λ (u : Unlike). IsBanBy graphs facts (input ∷ output ∷ []) (mismatch_of (input ∷ output ∷ []) u)) (sym is.is.is.unlike_is) by in
     subst (IsShownBan graphs facts pairs) (sym is.ban_is) (record {
       valid = shown.valid;
@@ -44,7 +44,7 @@ apart_shown graphs facts pairs output one other ban known has first second is ro
       no_vector = λ vector. vector;
     })
 
--- where all is told alike
+-- where all are decided alike
 module _ (graphs : Graphs) (facts : List Decided) (pairs : List Pair) (output : Pair) (one other : List InputClaims) (are : AreDecided graphs facts) (rows : AreRows facts output one other) (known : All (IsKnown graphs) pairs) (has : HasOneOutput pairs output) (first : length one ≡ graphs.first.inputs) (second : length other ≡ graphs.second.inputs) (alike : All (λ pair. pair.kind ≡ Input → AreAlike output one other pair) pairs) where
   abbrev fact : ℕ → Decided
   fact k = fact_at (given_of facts []) k
@@ -52,16 +52,16 @@ module _ (graphs : Graphs) (facts : List Decided) (pairs : List Pair) (output : 
   alike_facts : (a b : ℕ) → a < length facts → b < length facts → IsImage pairs (fact a).claim (fact b).claim → HasOneInput (fact a).claim.shape → (fact a).holds ≡ (fact b).holds
   alike_facts a b below below_other image single =
       let is = carried_by pairs (fact a).claim (fact b).claim image single in
-      let same : is.output ≡ output = All-contains (λ (p : Pair). p.kind ≡ Output → p ≡ output) pairs is.output has.only is.output_held is.output_kind in
+      let same : is.output ≡ output = All-contains (λ (p : Pair). p.kind ≡ Output → p ≡ output) pairs is.output has.only is.output_among is.output_kind in
       let input = is.input in
       let value = is.value in
       let moved = moved_value output.flip input value in
       let claim_is : (fact a).claim ≡ record { side = First; output = output.from; shape = one_input input.from value } = is.claim_is ∙ ap (λ (p : Pair). record { side = First; output = p.from; shape = one_input input.from value }) same in
       let image_is : (fact b).claim ≡ record { side = Second; output = output.to; shape = one_input input.to moved } = is.image_is ∙ ap (λ (p : Pair). record { side = Second; output = p.to; shape = one_input input.to (moved_value p.flip input value) }) same in
-      let known_input = All-contains (IsKnown graphs) pairs input known is.input_held in
+      let known_input = All-contains (IsKnown graphs) pairs input known is.input_among in
       let here = row_tells facts First output.from one input.from value rows.first (omega (arith, first, input_from graphs input is.input_kind known_input)) in
       let there = row_tells facts Second output.to other input.to moved rows.second (omega (arith, second, input_to graphs input is.input_kind known_input)) in
-      let so = All-contains (λ (p : Pair). p.kind ≡ Input → AreAlike output one other p) pairs input alike is.input_held is.input_kind in
+      let so = All-contains (λ (p : Pair). p.kind ≡ Input → AreAlike output one other p) pairs input alike is.input_among is.input_kind in
       same_said graphs facts _ _ _ a are here below claim_is ∙ (so.each value ∙ sym (same_said graphs facts _ _ _ b are there below_other image_is))
 
   pub alike_no_mismatch : (fails holds : ℕ) → HasOneInput (fact_at (given_of facts []) fails).claim.shape → IsShownBy graphs facts pairs (step.Mismatch fails holds) → ⊥

@@ -26,28 +26,28 @@ valid_push graphs facts bans ban valid here k d below =
 -- the last ban is within pairs
 pub covers_last : (bans after : List Ban) (ban : Ban) (pairs : List Pair) (number : ℕ) → after ≡ bans ++ ban ∷ [] → number ≡ length bans → IsWithin pairs ban → Covers after pairs number
 covers_last bans after ban pairs number is last within = record {
-  held = omega (arith, ap length is, length_push bans ban, last);
+  kept = omega (arith, ap length is, length_push bans ban, last);
   within = λ d. subst (IsWithin pairs) (sym (ap (λ l. get_or l number d) is ∙ get_or_push bans ban d number (sym last))) within;
 }
 
 -- a ban is among more bans
 pub covers_later : (before added after : List Ban) (pairs : List Pair) (number : ℕ) → after ≡ before ++ added → Covers before pairs number → Covers after pairs number
 covers_later before added after pairs number more is = record {
-  held = omega (arith, is.held, ap length more, length-append before added);
-  within = λ d. subst (IsWithin pairs) (sym (ap (λ l. get_or l number d) more ∙ get_or_append_left before added d number is.held)) (is.within d);
+  kept = omega (arith, is.kept, ap length more, length-append before added);
+  within = λ d. subst (IsWithin pairs) (sym (ap (λ l. get_or l number d) more ∙ get_or_append_left before added d number is.kept)) (is.within d);
 }
 
 -- a ban within some pairs is within more
 pub covers_wider : (bans : List Ban) (few more : List Pair) (number : ℕ) → All (Contains more) few → Covers bans few number → Covers bans more number
 covers_wider bans few more number among is = record {
-  held = is.held;
+  kept = is.kept;
   within = λ d. record { among = λ k e below. All-contains (Contains more) few (get_or (get_or bans number d).pairs k e) among ((is.within d).among k e below) };
 }
 
 -- a ban that is within no pairs has none
 pub empty_ban : (bans : List Ban) (ban : ℕ) → Covers bans [] ban → IsEmptyBan bans ban
 empty_ban bans ban covers = record {
-  held = covers.held;
+  kept = covers.kept;
   pairs = λ d. no_pairs (get_or bans ban d).pairs ((covers.within d).among);
 }
   where

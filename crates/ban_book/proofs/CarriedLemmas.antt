@@ -49,9 +49,9 @@ pub record IsCarried (pairs : List Pair) (claim image : Claim) : Type 0 where
   pub output : Pair
   pub input : Pair
   pub value : Bool
-  pub output_held : Contains pairs output
+  pub output_among : Contains pairs output
   pub output_kind : output.kind ≡ Output
-  pub input_held : Contains pairs input
+  pub input_among : Contains pairs input
   pub input_kind : input.kind ≡ Input
   pub claim_is : claim ≡ record { side = First; output = output.from; shape = one_input input.from value }
   pub image_is : image ≡ record { side = Second; output = output.to; shape = one_input input.to (moved_value output.flip input value) }
@@ -65,9 +65,9 @@ value_carried pairs k i value output shape image of_output moved is =
       output = output;
       input = found.0;
       value = value;
-      output_held = there.0;
+      output_among = there.0;
       output_kind = there.1;
-      input_held = here.0;
+      input_among = here.0;
       input_kind = here.1;
       claim_is =
           ap (λ (n : ℕ). record { side = First; output = n; shape = one_input i value }) (sym there.2)

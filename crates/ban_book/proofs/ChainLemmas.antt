@@ -177,6 +177,6 @@ module _ (bans : List Ban) (first : Option Pair) (pairs : List Pair) (next : Opt
 
   pub walked_covers : (d : Ban) → IsWithin pairs (get_or bans number d) → Covers bans pairs number
   walked_covers d within = record {
-    held = chain_there.there;
+    kept = chain_there.there;
     within = λ x. subst (IsWithin pairs) (get_or_default bans number d x chain_there.there) within;
   }

@@ -17,7 +17,7 @@ use Rattle.ban_book.specs.Ways.{block_of, first_port, nth_way, ports_tried, seco
 
 -- a way that clashes with an assigned pair is closed
 pub closed_by_clash : (bans : List Ban) (pairs : List Pair) (pair : Pair) → IsImpossible pairs pair → IsClosed bans pairs pair None
-closed_by_clash bans pairs pair imp = record { refers = imp; held = λ ban is. cc }
+closed_by_clash bans pairs pair imp = record { refers = imp; kept = λ ban is. cc }
 
 -- the pairs of a ban that is kept
 pub ban_pairs : (bans : List Ban) (ban : ℕ) (d : Ban) → ban < length bans → ban_at (given_of [] bans) ban ≡ (get_or bans ban d).pairs
@@ -27,7 +27,7 @@ ban_pairs bans ban d below = get_or-map (λ (b : Ban). b.pairs) bans ban d [] be
 pub closed_by_ban : (bans : List Ban) (pairs : List Pair) (pair : Pair) (ban : ℕ) (d : Ban) → ban < length bans → (IsImpossible pairs pair → ⊥) → All (Contains (pair ∷ pairs)) (get_or bans ban d).pairs → IsClosed bans pairs pair (Some ban)
 closed_by_ban bans pairs pair ban d below open' among = record {
   refers = (open', subst (All (Contains (pair ∷ pairs))) (sym (ban_pairs bans ban d below)) among);
-  held = λ other is. by_same other is;
+  kept = λ other is. by_same other is;
 }
   where
     by_same : (other : ℕ) → Some ban ≡ Some other → other < length bans
@@ -90,9 +90,9 @@ port_of_way First kind port number = refl
 port_of_way Second kind port number = refl
 
 -- a ban that closes one of some ways is kept
-pub held_at : (bans : List Ban) (pairs ways : List Pair) (refs : List (Option ℕ)) (k ban : ℕ) → AreClosed bans pairs ways refs → k < length refs → get_or refs k (Some ban) ≡ Some ban → ban < length bans
-held_at bans pairs [] [] k ban are below is = absurd (omega (arith, below))
-held_at bans pairs [] (ref ∷ refs) k ban are below is = absurd are
-held_at bans pairs (way ∷ ways) [] k ban are below is = absurd (omega (arith, below))
-held_at bans pairs (way ∷ ways) (ref ∷ refs) zero ban are below is = are.0.held ban is
-held_at bans pairs (way ∷ ways) (ref ∷ refs) (suc k) ban are below is = held_at bans pairs ways refs k ban are.1 (omega (arith, below)) is
+pub kept_at : (bans : List Ban) (pairs ways : List Pair) (refs : List (Option ℕ)) (k ban : ℕ) → AreClosed bans pairs ways refs → k < length refs → get_or refs k (Some ban) ≡ Some ban → ban < length bans
+kept_at bans pairs [] [] k ban are below is = absurd (omega (arith, below))
+kept_at bans pairs [] (ref ∷ refs) k ban are below is = absurd are
+kept_at bans pairs (way ∷ ways) [] k ban are below is = absurd (omega (arith, below))
+kept_at bans pairs (way ∷ ways) (ref ∷ refs) zero ban are below is = are.0.kept ban is
+kept_at bans pairs (way ∷ ways) (ref ∷ refs) (suc k) ban are below is = kept_at bans pairs ways refs k ban are.1 (omega (arith, below)) is

@@ -21,7 +21,7 @@ use Rattle.account_core.specs.Tallies.{other_side, port_on, shapes_of, AreBothOf
 use Rattle.account_core.proofs.Listed.{given_by, zipped}
 use Rattle.ban_book.specs.Vectors.{AreDecided, IsShownBy}
 use Rattle.ban_book.specs.declared.input_claims.InputClaims.{InputClaims}
-use Rattle.ban_book.specs.Rows.{no_told, row_on, says_both, says_one, told_at, AreEven, AreRows, HasOneOutput, IsRow}
+use Rattle.ban_book.specs.Rows.{no_claims, row_on, says_both, says_one, decided_at, AreEven, AreRows, HasOneOutput, IsRow}
 use Rattle.ban_book.proofs.PlaceLemmas.{ascending_count}
 use Rattle.ban_book.proofs.RowLemmas.{length_of_side, row_of_side, row_tells, same_said}
 use Rattle.ban_book.proofs.UnevenLemmas.{both_or_one}
@@ -42,49 +42,49 @@ module _ (graphs : Graphs) (facts : List Decided) (side : Side) (output : ℕ) (
       ∙ ap (λ (s : Shape). record { side = side; output = output; shape = s }) same)
 
   -- a fact of an input with a value is in the row
-  told_so : (input : ℕ) (value : Bool) → Contains (shapes_of (given_of facts []) numbers) (one_input input value) → (input < length row) × ((told_at row input value).holds ≡ holds)
-  told_so input value held =
+  decided_so : (input : ℕ) (value : Bool) → Contains (shapes_of (given_of facts []) numbers) (one_input input value) → (input < length row) × ((decided_at row input value).holds ≡ holds)
+  decided_so input value held =
       let shape_of : ℕ → Shape = λ n. (fact_at (given_of facts []) n).claim.shape in
       let within : held.0 < length numbers = omega (arith, held.1, length-map numbers shape_of) in
       let number = get_or numbers held.0 0 in
       let claim_is = claim_at held.0 0 (one_input input value) within (sym (get_or-map shape_of numbers held.0 0 (one_input input value) within) ∙ held.2) in
       let placed = subst (IsClaim graphs) claim_is (are.placed number no_fact (known held.0 0 within)) in
       let below : input < length row = omega (arith, whole, placed_at (graph_of graphs side).inputs input value placed.placed) in
-      (below, sym (same_said graphs facts _ (told_at row input value).holds (told_at row input value).number number are (row_tells facts side output row input value is below) (known held.0 0 within) claim_is) ∙ say.says held.0 0 within)
+      (below, sym (same_said graphs facts _ (decided_at row input value).holds (decided_at row input value).number number are (row_tells facts side output row input value is below) (known held.0 0 within) claim_is) ∙ say.says held.0 0 within)
 
-  one_so : (inputs : List ℕ) (input : ℕ) → AreOfEach inputs (shapes_of (given_of facts []) numbers) → Contains inputs input → (input < length row) × (says_one holds (get_or row input no_told) ≡ true)
+  one_so : (inputs : List ℕ) (input : ℕ) → AreOfEach inputs (shapes_of (given_of facts []) numbers) → Contains inputs input → (input < length row) × (says_one holds (get_or row input no_claims) ≡ true)
   one_so inputs input each held =
       let found = zipped (λ i shape. (shape ≡ Up i) ⊎ (shape ≡ Down i)) inputs (shapes_of (given_of facts []) numbers) input each held in
-      let told = get_or row input no_told in
+      let claims = get_or row input no_claims in
       elim found.2 [
         | inl same ↦
-            let so = told_so input false (subst (Contains (shapes_of (given_of facts []) numbers)) same found.1) in
-            (so.0, ap (λ b. b || beq told.down.holds holds) ((bool_decides told.up.holds holds).1 so.1))
+            let so = decided_so input false (subst (Contains (shapes_of (given_of facts []) numbers)) same found.1) in
+            (so.0, ap (λ b. b || beq claims.down.holds holds) ((bool_decides claims.up.holds holds).1 so.1))
         | inr same ↦
-            let so = told_so input true (subst (Contains (shapes_of (given_of facts []) numbers)) same found.1) in
-            (so.0, ap (λ b. beq told.up.holds holds || b) ((bool_decides told.down.holds holds).1 so.1) ∙ or_true (beq told.up.holds holds))
+            let so = decided_so input true (subst (Contains (shapes_of (given_of facts []) numbers)) same found.1) in
+            (so.0, ap (λ b. beq claims.up.holds holds || b) ((bool_decides claims.down.holds holds).1 so.1) ∙ or_true (beq claims.up.holds holds))
       ]
     where
       or_true : (b : Bool) → (b || true) ≡ true
       or_true true = refl
       or_true false = refl
 
-  both_so : (inputs : List ℕ) (input : ℕ) → AreBothOfEach inputs (shapes_of (given_of facts []) numbers) → Contains inputs input → (input < length row) × (says_both holds (get_or row input no_told) ≡ true)
+  both_so : (inputs : List ℕ) (input : ℕ) → AreBothOfEach inputs (shapes_of (given_of facts []) numbers) → Contains inputs input → (input < length row) × (says_both holds (get_or row input no_claims) ≡ true)
   both_so inputs input are_both held =
       let both : ℕ → List Shape = λ i. Up i ∷ Down i ∷ [] in
-      let told = get_or row input no_told in
-      let up = told_so input false (subst (λ s. Contains s (Up input)) (sym are_both) (given_by both inputs input (Up input) held (0, omega arith, refl))) in
-      let down = told_so input true (subst (λ s. Contains s (Down input)) (sym are_both) (given_by both inputs input (Down input) held (1, omega arith, refl))) in
-      (up.0, ap₂ (λ a b. a && b) ((bool_decides told.up.holds holds).1 up.1) ((bool_decides told.down.holds holds).1 down.1))
+      let claims = get_or row input no_claims in
+      let up = decided_so input false (subst (λ s. Contains s (Up input)) (sym are_both) (given_by both inputs input (Up input) held (0, omega arith, refl))) in
+      let down = decided_so input true (subst (λ s. Contains s (Down input)) (sym are_both) (given_by both inputs input (Down input) held (1, omega arith, refl))) in
+      (up.0, ap₂ (λ a b. a && b) ((bool_decides claims.up.holds holds).1 up.1) ((bool_decides claims.down.holds holds).1 down.1))
 
   -- there are no more such inputs than in the row
   ones_most : (inputs : List ℕ) → Ascend inputs → AreOfEach inputs (shapes_of (given_of facts []) numbers) → length inputs ≤ count_by (says_one holds) row
   ones_most inputs ascend each =
-      ascending_count (says_one holds) row no_told inputs ascend (λ k d below. (one_so inputs (get_or inputs k d) each (Contains-get_or inputs k d below)).0) (λ k d below. (one_so inputs (get_or inputs k d) each (Contains-get_or inputs k d below)).1)
+      ascending_count (says_one holds) row no_claims inputs ascend (λ k d below. (one_so inputs (get_or inputs k d) each (Contains-get_or inputs k d below)).0) (λ k d below. (one_so inputs (get_or inputs k d) each (Contains-get_or inputs k d below)).1)
 
   boths_most : (inputs : List ℕ) → Ascend inputs → AreBothOfEach inputs (shapes_of (given_of facts []) numbers) → length inputs ≤ count_by (says_both holds) row
   boths_most inputs ascend are_both =
-      ascending_count (says_both holds) row no_told inputs ascend (λ k d below. (both_so inputs (get_or inputs k d) are_both (Contains-get_or inputs k d below)).0) (λ k d below. (both_so inputs (get_or inputs k d) are_both (Contains-get_or inputs k d below)).1)
+      ascending_count (says_both holds) row no_claims inputs ascend (λ k d below. (both_so inputs (get_or inputs k d) are_both (Contains-get_or inputs k d below)).0) (λ k d below. (both_so inputs (get_or inputs k d) are_both (Contains-get_or inputs k d below)).1)
 
 -- how many inputs there are of either side of which a claim says so
 even_on : (side : Side) (one other : List InputClaims) (holds : Bool) → count_by (says_one holds) one ≡ count_by (says_one holds) other → count_by (says_one holds) (row_on side one other) ≡ count_by (says_one holds) (row_on (other_side side) one other)

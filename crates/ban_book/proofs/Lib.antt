@@ -1,3 +1,4 @@
+pub mod Marked
 pub mod ListLemmas
 pub mod BookLemmas
 mod ChainLemmas
@@ -18,5 +19,5 @@ pub mod BlockListLemmas
 pub mod OrderLemmas
 pub mod GatherLemmas
 pub mod ClosedLemmas
-pub mod HoldLemmas
+pub mod KeepLemmas
 pub mod BlockLemmas

@@ -1,27 +1,8 @@
 -- Lists that grow at their end.
-use Rattle.std.proofs.Common.{◌≡◌, ℕ, ◌+◌, ◌<◌, List, [], ◌∷◌, ◌++◌, length, take, get_or, All, sym, ap, ◌∙◌, subst, arith}
+use Rattle.std.proofs.Common.{◌≡◌, ℕ, ◌+◌, ◌<◌, List, [], ◌∷◌, ◌++◌, length, take, get_or, sym, ap, ◌∙◌, subst}
 use Rattle.std.specs.List.{AllZip, flat_map}
 use Rattle.std.proofs.lemmas.List.{flat_map_more, take_more}
-use Rattle.std.proofs.lemmas.List.Elements.{All-push}
-use Rattle.std.proofs.lemmas.List.Quantifiers.{all_pairs_push}
 use Rattle.std.proofs.lemmas.Slice.Zip.{all_zipped_more}
-use Rattle.account_core.specs.Tallies.{Ascend}
-
-pub below_push : (numbers : List ℕ) (next : ℕ) → All (λ number. number < next) numbers → All (λ number. number < next + 1) (numbers ++ next ∷ [])
-below_push numbers next below = All-push (λ number. number < next + 1) numbers next (λ k d within. omega (arith, below k d within)) (omega arith)
-
-pub below_more : (numbers : List ℕ) (next : ℕ) → All (λ number. number < next) numbers → All (λ number. number < next + 1) numbers
-below_more numbers next below k d within = omega (arith, below k d within)
-
--- numbers below one that comes after them ascend
-pub ascend_after : (numbers after : List ℕ) (next : ℕ) → Ascend numbers → All (λ number. number < next) numbers → after ≡ numbers ++ next ∷ [] → Ascend after
-ascend_after numbers after next ascend below is = subst Ascend (sym is) (all_pairs_push (λ one other. one < other) numbers next ascend below)
-
-pub below_after : (numbers after : List ℕ) (next : ℕ) → All (λ number. number < next) numbers → after ≡ numbers ++ next ∷ [] → All (λ number. number < next + 1) after
-below_after numbers after next below is = subst (All (λ number. number < next + 1)) (sym is) (below_push numbers next below)
-
-pub marked_none : (numbers : List ℕ) → numbers ≡ [] → Ascend numbers × All (λ number. number < 0) numbers
-marked_none numbers none = subst (λ l. Ascend l × All (λ number. number < 0) l) (sym none) (λ i j d less below. absurd (omega (arith, below)), λ k d below. absurd (omega (arith, below)))
 
 pub zip_map : {A B : Type 0} (R S : A → B → Type 0) (xs : List A) (ys : List B) → ((x : A) (y : B) → R x y → S x y) → AllZip R xs ys → AllZip S xs ys
 zip_map R S [] [] then are = tt

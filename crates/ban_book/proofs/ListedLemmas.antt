@@ -13,17 +13,17 @@ use Rattle.claim_core.specs.Images.{one_input}
 use Rattle.account_core.specs.Given.{Decided, fact_at, given_of, no_fact, IsFactGiven}
 use Rattle.account_core.specs.Tallies.{shapes_of, AreOfEach, SayOf}
 use Rattle.ban_book.proofs.ShownLemmas.{IsSame, say_in, shapes_in}
-use Rattle.ban_book.specs.Told.{AddsFact, IsToldAs}
+use Rattle.ban_book.specs.DecidedClaims.{AddsFact, IsDecidedAs}
 use Rattle.ban_book.specs.Listed.{ListsBoth, ListsOf, ListsOne}
 use Rattle.ban_book.proofs.RowListLemmas.{below_more, below_push, flat_push}
 
--- facts that come after leave what was told
+-- facts that come after leave what was decided
 module _ (facts added : List Decided) where
   fact_stays : (k : ℕ) → k < length facts → fact_at (given_of (facts ++ added) []) k ≡ fact_at (given_of facts []) k
   fact_stays k below = get_or_append_left facts added no_fact k below
 
-  pub told_stays : (claim : Claim) (holds : Bool) (number : ℕ) → IsToldAs facts claim holds number → IsToldAs (facts ++ added) claim holds number
-  told_stays claim holds number is = record {
+  pub decided_stays : (claim : Claim) (holds : Bool) (number : ℕ) → IsDecidedAs facts claim holds number → IsDecidedAs (facts ++ added) claim holds number
+  decided_stays claim holds number is = record {
     within = omega (arith, is.within, length-append facts added);
     says = fact_stays number is.within ∙ is.says;
   }
@@ -72,20 +72,20 @@ lists_skip shaped facts holds side output below numbers is = record {
 -- one number more
 module _ (facts : List Decided) (holds : Bool) (side : Side) (output : ℕ) (shape : Shape) (before after : List ℕ) (adds : AddsFact facts (record { side = side; output = output; shape = shape }) holds before after) where
   pub known_push : All (IsFactGiven (given_of facts [])) before → All (IsFactGiven (given_of facts [])) after
-  known_push known = subst (All (IsFactGiven (given_of facts []))) (sym adds.more) (All-push (IsFactGiven (given_of facts [])) before adds.number known adds.told.within)
+  known_push known = subst (All (IsFactGiven (given_of facts []))) (sym adds.more) (All-push (IsFactGiven (given_of facts [])) before adds.number known adds.decided.within)
 
   pub say_push : SayOf (given_of facts []) before holds side output → SayOf (given_of facts []) after holds side output
   say_push say = subst (λ l. SayOf (given_of facts []) l holds side output) (sym adds.more) (record {
-    says = All-push (λ k. (fact_at (given_of facts []) k).holds ≡ holds) before adds.number say.says (ap (λ (f : Decided). f.holds) adds.told.says);
-    of_side = All-push (λ k. (fact_at (given_of facts []) k).claim.side ≡ side) before adds.number say.of_side (ap (λ (f : Decided). f.claim.side) adds.told.says);
-    of_output = All-push (λ k. (fact_at (given_of facts []) k).claim.output ≡ output) before adds.number say.of_output (ap (λ (f : Decided). f.claim.output) adds.told.says);
+    says = All-push (λ k. (fact_at (given_of facts []) k).holds ≡ holds) before adds.number say.says (ap (λ (f : Decided). f.holds) adds.decided.says);
+    of_side = All-push (λ k. (fact_at (given_of facts []) k).claim.side ≡ side) before adds.number say.of_side (ap (λ (f : Decided). f.claim.side) adds.decided.says);
+    of_output = All-push (λ k. (fact_at (given_of facts []) k).claim.output ≡ output) before adds.number say.of_output (ap (λ (f : Decided). f.claim.output) adds.decided.says);
   })
 
   pub shapes_push : shapes_of (given_of facts []) after ≡ shapes_of (given_of facts []) before ++ shape ∷ []
   shapes_push =
       ap (shapes_of (given_of facts [])) adds.more
       ∙ (map_push (λ k. (fact_at (given_of facts []) k).claim.shape) before adds.number
-      ∙ ap (λ (s : Shape). shapes_of (given_of facts []) before ++ s ∷ []) (ap (λ (f : Decided). f.claim.shape) adds.told.says))
+      ∙ ap (λ (s : Shape). shapes_of (given_of facts []) before ++ s ∷ []) (ap (λ (f : Decided). f.claim.shape) adds.decided.says))
 
 is_one : (i : ℕ) (value : Bool) → (one_input i value ≡ Up i) ⊎ (one_input i value ≡ Down i)
 is_one i false = inl refl

@@ -9,7 +9,7 @@ use Rattle.circuits.specs.declared.port.Pair.{Pair}
 use Rattle.circuits.specs.declared.port.PortKind.{PortKind}
 use Rattle.circuits.specs.declared.port.PortKind.TheVariants.{Input, Output}
 use Rattle.account_core.specs.Ports.{StandInOrder, AreOrdered}
-use Rattle.account_core.specs.Held.{AreApart, ArePortsInTurn, StandsBefore}
+use Rattle.account_core.specs.Assigned.{AreApart, ArePortsInTurn, StandsBefore}
 use Rattle.ban_book.proofs.BlockListLemmas.{all_pairs_insert, apart_or_same}
 
 turn_inputs : (k l : PortKind) (a b : ℕ) → ArePortsInTurn k l a b → k ≡ Output → l ≡ Output
@@ -74,9 +74,9 @@ same_or_apart_turned one other (inl same) = inl (sym same)
 same_or_apart_turned one other (inr apart) = inr (turned_apart one other apart)
 
 -- assigned pairs are one, or apart
-pub held_apart : (held : List Pair) (one other : Pair) → AllPairs AreApart held → Contains held one → Contains held other → (one ≡ other) ⊎ AreApart one other
-held_apart held one other apart first second =
-    elim (apart_or_same AreApart held one other apart first second) [
+pub assigned_apart : (assigned : List Pair) (one other : Pair) → AllPairs AreApart assigned → Contains assigned one → Contains assigned other → (one ≡ other) ⊎ AreApart one other
+assigned_apart assigned one other apart first second =
+    elim (apart_or_same AreApart assigned one other apart first second) [
       | inl same ↦ inl same
       | inr (inl is) ↦ inr is
       | inr (inr is) ↦ inr (turned_apart other one is)
@@ -115,9 +115,9 @@ ordered_insert pairs pair place ordered apart within before after other_there =
         subst (StandInOrder pair) (sym e) (stand pair (get_or pairs k pair) (by_place k past below there (cases_order place k)) (same_or_apart_turned (get_or pairs k pair) pair (apart k pair below)))
 
 -- what held of the pairs before one holds of them and of it, where it stays for pairs that are apart from it
-pub held_more : (held : List Pair) (i : ℕ) (d : Pair) (P Q : Pair → Type 0) → i < length held → AllPairs AreApart held → ((x : Pair) → AreApart x (get_or held i d) → P x → Q x) → All P (take i held) → Q (get_or held i d) → All Q (take (i + 1) held)
-held_more held i d P Q below apart stays before here =
-    All-more Q held i d below (λ k e less.
-    let first : k < i = omega (arith, less, length-take i held, below) in
-    let same : get_or (take i held) k e ≡ get_or held k d = get_or-take i held k e first ∙ get_or_default held k e d (omega arith) in
-    stays (get_or (take i held) k e) (subst (λ p. AreApart p (get_or held i d)) (sym same) (apart k i d first below)) (before k e less)) here
+pub assigned_more : (assigned : List Pair) (i : ℕ) (d : Pair) (P Q : Pair → Type 0) → i < length assigned → AllPairs AreApart assigned → ((x : Pair) → AreApart x (get_or assigned i d) → P x → Q x) → All P (take i assigned) → Q (get_or assigned i d) → All Q (take (i + 1) assigned)
+assigned_more assigned i d P Q below apart stays before here =
+    All-more Q assigned i d below (λ k e less.
+    let first : k < i = omega (arith, less, length-take i assigned, below) in
+    let same : get_or (take i assigned) k e ≡ get_or assigned k d = get_or-take i assigned k e first ∙ get_or_default assigned k e d (omega arith) in
+    stays (get_or (take i assigned) k e) (subst (λ p. AreApart p (get_or assigned i d)) (sym same) (apart k i d first below)) (before k e less)) here

@@ -16,20 +16,20 @@ use Rattle.account_core.specs.Tallies.{port_on}
 use Rattle.ban_book.specs.Vectors.{AreDecided, AreEndsDecided, AreInputsDecided, HasOneInput, IsDecided}
 use Rattle.circuits.proofs.EachLemmas.{each_push}
 use Rattle.ban_book.specs.declared.input_claims.InputClaims.{InputClaims}
-use Rattle.ban_book.specs.Told.{IsToldAs}
-use Rattle.ban_book.specs.Rows.{no_told, row_on, told_at, AreRows, IsRow, IsTold}
-use Rattle.ban_book.proofs.ListedLemmas.{told_stays}
+use Rattle.ban_book.specs.DecidedClaims.{IsDecidedAs}
+use Rattle.ban_book.specs.Rows.{no_claims, row_on, decided_at, AreRows, IsRow, AreClaimsOf}
+use Rattle.ban_book.proofs.ListedLemmas.{decided_stays}
 
 pub row_none : (facts : List Decided) (side : Side) (output : ℕ) → IsRow facts side output []
 row_none facts side output = record { each = λ k d below. absurd (omega (arith, below)) }
 
-pub row_push : (facts : List Decided) (side : Side) (output : ℕ) (row : List InputClaims) (told : InputClaims) → IsRow facts side output row → IsTold facts side output (length row) told → IsRow facts side output (row ++ told ∷ [])
-row_push facts side output row told is next = record { each = each_push (IsTold facts side output) row told is.each next }
+pub row_push : (facts : List Decided) (side : Side) (output : ℕ) (row : List InputClaims) (claims : InputClaims) → IsRow facts side output row → AreClaimsOf facts side output (length row) claims → IsRow facts side output (row ++ claims ∷ [])
+row_push facts side output row claims is next = record { each = each_push (AreClaimsOf facts side output) row claims is.each next }
 
-pub input_stays : (facts added : List Decided) (side : Side) (output input : ℕ) (told : InputClaims) → IsTold facts side output input told → IsTold (facts ++ added) side output input told
-input_stays facts added side output input told is = record {
-  up = told_stays facts added (record { side = side; output = output; shape = Up input }) told.up.holds told.up.number is.up;
-  down = told_stays facts added (record { side = side; output = output; shape = Down input }) told.down.holds told.down.number is.down;
+pub input_stays : (facts added : List Decided) (side : Side) (output input : ℕ) (claims : InputClaims) → AreClaimsOf facts side output input claims → AreClaimsOf (facts ++ added) side output input claims
+input_stays facts added side output input claims is = record {
+  up = decided_stays facts added (record { side = side; output = output; shape = Up input }) claims.up.holds claims.up.number is.up;
+  down = decided_stays facts added (record { side = side; output = output; shape = Down input }) claims.down.holds claims.down.number is.down;
 }
 
 pub row_stays : (facts added : List Decided) (side : Side) (output : ℕ) (row : List InputClaims) → IsRow facts side output row → IsRow (facts ++ added) side output row
@@ -38,16 +38,16 @@ row_stays facts added side output row is = record {
 }
 
 -- what a fact says was decided
-told_decided : (facts : List Decided) (claim : Claim) (holds : Bool) (number : ℕ) → IsToldAs facts claim holds number → IsDecided facts claim
-told_decided facts claim holds number is =
+claims_decided : (facts : List Decided) (claim : Claim) (holds : Bool) (number : ℕ) → IsDecidedAs facts claim holds number → IsDecided facts claim
+claims_decided facts claim holds number is =
     (holds, (number, is.within, get_or_default facts number (decided claim holds) no_fact is.within ∙ is.says))
 
 pub inputs_decided : (facts : List Decided) (inputs : ℕ) (side : Side) (output : ℕ) (row : List InputClaims) → length row ≡ inputs → IsRow facts side output row → AreInputsDecided facts inputs side output
 inputs_decided facts inputs side output row whole is = record { each = each }
   where
     each : (shape : Shape) → HasOneInput shape → IsPlaced inputs shape → IsDecided facts (record { side = side; output = output; shape = shape })
-    each (Up i) one below = told_decided facts _ _ _ (is.each i no_told (omega (arith, below, whole))).up
-    each (Down i) one below = told_decided facts _ _ _ (is.each i no_told (omega (arith, below, whole))).down
+    each (Up i) one below = claims_decided facts _ _ _ (is.each i no_claims (omega (arith, below, whole))).up
+    each (Down i) one below = claims_decided facts _ _ _ (is.each i no_claims (omega (arith, below, whole))).down
     each (Swap i j a b) one placed = absurd one
 
 pub ends_decided : (graphs : Graphs) (facts : List Decided) (pair : Pair) (one other : List InputClaims) → length one ≡ graphs.first.inputs → length other ≡ graphs.second.inputs → AreRows facts pair one other → AreEndsDecided graphs facts pair
@@ -67,16 +67,16 @@ length_of_side First one other n first second = first
 length_of_side Second one other n first second = second
 
 -- what a row tells of an input with a value
-pub row_tells : (facts : List Decided) (side : Side) (output : ℕ) (row : List InputClaims) (input : ℕ) (value : Bool) → IsRow facts side output row → input < length row → IsToldAs facts (record { side = side; output = output; shape = one_input input value }) (told_at row input value).holds (told_at row input value).number
-row_tells facts side output row input false is below = (is.each input no_told below).up
-row_tells facts side output row input true is below = (is.each input no_told below).down
+pub row_tells : (facts : List Decided) (side : Side) (output : ℕ) (row : List InputClaims) (input : ℕ) (value : Bool) → IsRow facts side output row → input < length row → IsDecidedAs facts (record { side = side; output = output; shape = one_input input value }) (decided_at row input value).holds (decided_at row input value).number
+row_tells facts side output row input false is below = (is.each input no_claims below).up
+row_tells facts side output row input true is below = (is.each input no_claims below).down
 
 -- no two facts are of one claim, so another fact of it says the same
-pub same_said : (graphs : Graphs) (facts : List Decided) (claim : Claim) (holds : Bool) (number k : ℕ) → AreDecided graphs facts → IsToldAs facts claim holds number → k < length facts → (fact_at (given_of facts []) k).claim ≡ claim → (fact_at (given_of facts []) k).holds ≡ holds
-same_said graphs facts claim holds number k are told below same =
-    let claims : (get_or facts k no_fact).claim ≡ (get_or facts number no_fact).claim = same ∙ sym (ap (λ (fact : Decided). fact.claim) told.says) in
+pub same_said : (graphs : Graphs) (facts : List Decided) (claim : Claim) (holds : Bool) (number k : ℕ) → AreDecided graphs facts → IsDecidedAs facts claim holds number → k < length facts → (fact_at (given_of facts []) k).claim ≡ claim → (fact_at (given_of facts []) k).holds ≡ holds
+same_said graphs facts claim holds number k are said below same =
+    let claims : (get_or facts k no_fact).claim ≡ (get_or facts number no_fact).claim = same ∙ sym (ap (λ (fact : Decided). fact.claim) said.says) in
     elim (cases_order k number) [
-      | inl e ↦ ap (λ n. (get_or facts n no_fact).holds) e ∙ ap (λ (fact : Decided). fact.holds) told.says
-      | inr (inl less) ↦ absurd (are.distinct k number no_fact less told.within claims)
+      | inl e ↦ ap (λ n. (get_or facts n no_fact).holds) e ∙ ap (λ (fact : Decided). fact.holds) said.says
+      | inr (inl less) ↦ absurd (are.distinct k number no_fact less said.within claims)
       | inr (inr more) ↦ absurd (are.distinct number k no_fact more below (sym claims))
     ]

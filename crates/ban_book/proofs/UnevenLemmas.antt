@@ -21,9 +21,9 @@ use Rattle.account_core.specs.Steps.{IsValidBan}
 use Rattle.account_core.specs.Tallies.{other_side, port_on, AreBothOfEach, AreOfEach}
 use Rattle.ban_book.specs.Vectors.{IsVector}
 use Rattle.ban_book.specs.declared.input_claims.InputClaims.{InputClaims}
-use Rattle.ban_book.specs.Told.{AddsFact, IsToldAs}
+use Rattle.ban_book.specs.DecidedClaims.{AddsFact, IsDecidedAs}
 use Rattle.ban_book.specs.Listed.{tally_of, tally_step, AreLists, ListsBoth, ListsOf, ListsOne}
-use Rattle.ban_book.specs.Rows.{both_of, lists_by, no_told, one_of, row_on, says_both, says_one, AreRows, HasOneOutput, IsRow, IsTallyBan, IsTold}
+use Rattle.ban_book.specs.Rows.{both_of, lists_by, no_claims, one_of, row_on, says_both, says_one, AreRows, HasOneOutput, IsRow, IsTallyBan, AreClaimsOf}
 use Rattle.ban_book.specs.Shown.{IsShownBan}
 use Rattle.ban_book.proofs.RowListLemmas.{flat_push}
 use Rattle.ban_book.proofs.ListedLemmas.{lists_both, lists_none, lists_one, lists_skip}
@@ -31,97 +31,97 @@ use Rattle.ban_book.proofs.RowLemmas.{length_of_side, row_of_side}
 use Rattle.ban_book.proofs.TallyLemmas.{tally_valid}
 use Rattle.claim_core.proofs.EqualLemmas.{bool_decides}
 
-adds : (facts : List Decided) (claim : Claim) (told holds : Bool) (number : ℕ) (before after : List ℕ) → IsToldAs facts claim told number → beq told holds ≡ true → after ≡ before ++ number ∷ [] → AddsFact facts claim holds before after
-adds facts claim told holds number before after is same more = record {
+adds : (facts : List Decided) (claim : Claim) (says holds : Bool) (number : ℕ) (before after : List ℕ) → IsDecidedAs facts claim says number → beq says holds ≡ true → after ≡ before ++ number ∷ [] → AddsFact facts claim holds before after
+adds facts claim says holds number before after is same more = record {
   number = number;
-  told = subst (λ h. IsToldAs facts claim h number) ((bool_decides told holds).0 same) is;
+  decided = subst (λ h. IsDecidedAs facts claim h number) ((bool_decides says holds).0 same) is;
   more = more;
 }
 
 -- one input more
-module _ (facts : List Decided) (side : Side) (output input : ℕ) (holds : Bool) (told : InputClaims) (before : List ℕ) (is : IsTold facts side output input told) where
-  one_more : ListsOne facts holds side output input before → ListsOne facts holds side output (input + 1) (before ++ one_of holds told)
+module _ (facts : List Decided) (side : Side) (output input : ℕ) (holds : Bool) (claims : InputClaims) (before : List ℕ) (is : AreClaimsOf facts side output input claims) where
+  one_more : ListsOne facts holds side output input before → ListsOne facts holds side output (input + 1) (before ++ one_of holds claims)
   one_more lists =
-      elim (cases_Bool (beq told.up.holds holds)) [
+      elim (cases_Bool (beq claims.up.holds holds)) [
         | inl e ↦
-            subst (λ l. ListsOne facts holds side output (input + 1) (before ++ l)) (sym (cond-true _ _ _ e)) (lists_one facts holds side output input false before (before ++ told.up.number ∷ []) lists (adds facts _ told.up.holds holds told.up.number before _ is.up e refl))
+            subst (λ l. ListsOne facts holds side output (input + 1) (before ++ l)) (sym (cond-true _ _ _ e)) (lists_one facts holds side output input false before (before ++ claims.up.number ∷ []) lists (adds facts _ claims.up.holds holds claims.up.number before _ is.up e refl))
         | inr e ↦
-            elim (cases_Bool (beq told.down.holds holds)) [
+            elim (cases_Bool (beq claims.down.holds holds)) [
               | inl f ↦
-                  subst (λ l. ListsOne facts holds side output (input + 1) (before ++ l)) (sym (cond-false _ _ _ e ∙ cond-true _ _ _ f)) (lists_one facts holds side output input true before (before ++ told.down.number ∷ []) lists (adds facts _ told.down.holds holds told.down.number before _ is.down f refl))
+                  subst (λ l. ListsOne facts holds side output (input + 1) (before ++ l)) (sym (cond-false _ _ _ e ∙ cond-true _ _ _ f)) (lists_one facts holds side output input true before (before ++ claims.down.number ∷ []) lists (adds facts _ claims.down.holds holds claims.down.number before _ is.down f refl))
               | inr f ↦
                   subst (λ l. ListsOne facts holds side output (input + 1) (before ++ l)) (sym (cond-false _ _ _ e ∙ cond-false _ _ _ f)) (subst (ListsOne facts holds side output (input + 1)) (sym (append-nil before)) (lists_skip AreOfEach facts holds side output input before lists))
             ]
       ]
 
-  both_more : ListsBoth facts holds side output input before → ListsBoth facts holds side output (input + 1) (before ++ both_of holds told)
+  both_more : ListsBoth facts holds side output input before → ListsBoth facts holds side output (input + 1) (before ++ both_of holds claims)
   both_more lists =
-      elim (cases_Bool (says_both holds told)) [
+      elim (cases_Bool (says_both holds claims)) [
         | inl e ↦
-            let parts = and_parts (beq told.up.holds holds) (beq told.down.holds holds) e in
-            subst (λ l. ListsBoth facts holds side output (input + 1) (before ++ l)) (sym (cond-true _ _ _ e)) (lists_both facts holds side output input before (before ++ told.up.number ∷ []) (before ++ told.up.number ∷ told.down.number ∷ []) lists (adds facts _ told.up.holds holds told.up.number before _ is.up parts.0 refl) (adds facts _ told.down.holds holds told.down.number _ _ is.down parts.1 (sym (append_assoc before (told.up.number ∷ []) (told.down.number ∷ [])))))
+            let parts = and_parts (beq claims.up.holds holds) (beq claims.down.holds holds) e in
+            subst (λ l. ListsBoth facts holds side output (input + 1) (before ++ l)) (sym (cond-true _ _ _ e)) (lists_both facts holds side output input before (before ++ claims.up.number ∷ []) (before ++ claims.up.number ∷ claims.down.number ∷ []) lists (adds facts _ claims.up.holds holds claims.up.number before _ is.up parts.0 refl) (adds facts _ claims.down.holds holds claims.down.number _ _ is.down parts.1 (sym (append_assoc before (claims.up.number ∷ []) (claims.down.number ∷ [])))))
         | inr e ↦
             subst (λ l. ListsBoth facts holds side output (input + 1) (before ++ l)) (sym (cond-false _ _ _ e)) (subst (ListsBoth facts holds side output (input + 1)) (sym (append-nil before)) (lists_skip AreBothOfEach facts holds side output input before lists))
       ]
 
 -- what each input of a row gives is listed
-listed : (shaped : List ℕ → List Shape → Type 0) (facts : List Decided) (holds : Bool) (side : Side) (output : ℕ) (numbers_of : InputClaims → List ℕ) (row : List InputClaims) → shaped [] [] → ((input : ℕ) (told : InputClaims) (before : List ℕ) → IsTold facts side output input told → ListsOf shaped facts holds side output input before → ListsOf shaped facts holds side output (input + 1) (before ++ numbers_of told)) → IsRow facts side output row → (k : ℕ) → k ≤ length row → ListsOf shaped facts holds side output k (flat_map numbers_of (take k row))
+listed : (shaped : List ℕ → List Shape → Type 0) (facts : List Decided) (holds : Bool) (side : Side) (output : ℕ) (numbers_of : InputClaims → List ℕ) (row : List InputClaims) → shaped [] [] → ((input : ℕ) (claims : InputClaims) (before : List ℕ) → AreClaimsOf facts side output input claims → ListsOf shaped facts holds side output input before → ListsOf shaped facts holds side output (input + 1) (before ++ numbers_of claims)) → IsRow facts side output row → (k : ℕ) → k ≤ length row → ListsOf shaped facts holds side output k (flat_map numbers_of (take k row))
 listed shaped facts holds side output numbers_of row start more is zero below =
     lists_none shaped facts holds side output [] refl start
 listed shaped facts holds side output numbers_of row start more is (suc k) below =
     let within : k < length row = omega (arith, below) in
-    let told = get_or row k no_told in
+    let claims = get_or row k no_claims in
     let before = listed shaped facts holds side output numbers_of row start more is k (omega (arith, below)) in
-    let numbers : flat_map numbers_of (take (k + 1) row) ≡ flat_map numbers_of (take k row) ++ numbers_of told = ap (flat_map numbers_of) (take_more row k no_told within) ∙ flat_push numbers_of (take k row) told in
+    let numbers : flat_map numbers_of (take (k + 1) row) ≡ flat_map numbers_of (take k row) ++ numbers_of claims = ap (flat_map numbers_of) (take_more row k no_claims within) ∙ flat_push numbers_of (take k row) claims in
     let next : k + 1 ≡ suc k = omega arith in
-    subst (λ n. ListsOf shaped facts holds side output n (flat_map numbers_of (take n row))) next (subst (ListsOf shaped facts holds side output (k + 1)) (sym numbers) (more k told (flat_map numbers_of (take k row)) (is.each k no_told within) before))
+    subst (λ n. ListsOf shaped facts holds side output n (flat_map numbers_of (take n row))) next (subst (ListsOf shaped facts holds side output (k + 1)) (sym numbers) (more k claims (flat_map numbers_of (take k row)) (is.each k no_claims within) before))
 
 ones_listed : (facts : List Decided) (holds : Bool) (side : Side) (output : ℕ) (row : List InputClaims) → IsRow facts side output row → ListsOne facts holds side output (length row) (flat_map (one_of holds) row)
 ones_listed facts holds side output row is =
-    subst (λ l. ListsOne facts holds side output (length row) (flat_map (one_of holds) l)) (take_all (length row) row (omega arith)) (listed AreOfEach facts holds side output (one_of holds) row tt (λ input told before. one_more facts side output input holds told before) is (length row) (omega arith))
+    subst (λ l. ListsOne facts holds side output (length row) (flat_map (one_of holds) l)) (take_all (length row) row (omega arith)) (listed AreOfEach facts holds side output (one_of holds) row tt (λ input claims before. one_more facts side output input holds claims before) is (length row) (omega arith))
 
 boths_listed : (facts : List Decided) (holds : Bool) (side : Side) (output : ℕ) (row : List InputClaims) → IsRow facts side output row → ListsBoth facts holds side output (length row) (flat_map (both_of holds) row)
 boths_listed facts holds side output row is =
-    subst (λ l. ListsBoth facts holds side output (length row) (flat_map (both_of holds) l)) (take_all (length row) row (omega arith)) (listed AreBothOfEach facts holds side output (both_of holds) row refl (λ input told before. both_more facts side output input holds told before) is (length row) (omega arith))
+    subst (λ l. ListsBoth facts holds side output (length row) (flat_map (both_of holds) l)) (take_all (length row) row (omega arith)) (listed AreBothOfEach facts holds side output (both_of holds) row refl (λ input claims before. both_more facts side output input holds claims before) is (length row) (omega arith))
 
 -- as many facts as inputs of which a claim says so
-one_length : (holds : Bool) (told : InputClaims) (rest : List ℕ) (row : List InputClaims) → length rest ≡ length (filter (says_one holds) row) → length (one_of holds told ++ rest) ≡ length (filter (says_one holds) (told ∷ row))
-one_length holds told rest row same =
-    elim (cases_Bool (beq told.up.holds holds)) [
+one_length : (holds : Bool) (claims : InputClaims) (rest : List ℕ) (row : List InputClaims) → length rest ≡ length (filter (says_one holds) row) → length (one_of holds claims ++ rest) ≡ length (filter (says_one holds) (claims ∷ row))
+one_length holds claims rest row same =
+    elim (cases_Bool (beq claims.up.holds holds)) [
       | inl e ↦
-          let passes : says_one holds told ≡ true = ap (λ b. b || beq told.down.holds holds) e in
-          omega (arith, same, ap (λ (l : List ℕ). length (l ++ rest)) (cond-true (beq told.up.holds holds) (told.up.number ∷ []) (cond (beq told.down.holds holds) (told.down.number ∷ []) []) e), ap length (cond-true (says_one holds told) (told ∷ filter (says_one holds) row) (filter (says_one holds) row) passes))
+          let passes : says_one holds claims ≡ true = ap (λ b. b || beq claims.down.holds holds) e in
+          omega (arith, same, ap (λ (l : List ℕ). length (l ++ rest)) (cond-true (beq claims.up.holds holds) (claims.up.number ∷ []) (cond (beq claims.down.holds holds) (claims.down.number ∷ []) []) e), ap length (cond-true (says_one holds claims) (claims ∷ filter (says_one holds) row) (filter (says_one holds) row) passes))
       | inr e ↦
-          elim (cases_Bool (beq told.down.holds holds)) [
+          elim (cases_Bool (beq claims.down.holds holds)) [
             | inl f ↦
-                let passes : says_one holds told ≡ true = ap (λ b. b || beq told.down.holds holds) e ∙ f in
-                omega (arith, same, ap (λ (l : List ℕ). length (l ++ rest)) (cond-false (beq told.up.holds holds) (told.up.number ∷ []) (cond (beq told.down.holds holds) (told.down.number ∷ []) []) e ∙ cond-true (beq told.down.holds holds) (told.down.number ∷ []) [] f), ap length (cond-true (says_one holds told) (told ∷ filter (says_one holds) row) (filter (says_one holds) row) passes))
+                let passes : says_one holds claims ≡ true = ap (λ b. b || beq claims.down.holds holds) e ∙ f in
+                omega (arith, same, ap (λ (l : List ℕ). length (l ++ rest)) (cond-false (beq claims.up.holds holds) (claims.up.number ∷ []) (cond (beq claims.down.holds holds) (claims.down.number ∷ []) []) e ∙ cond-true (beq claims.down.holds holds) (claims.down.number ∷ []) [] f), ap length (cond-true (says_one holds claims) (claims ∷ filter (says_one holds) row) (filter (says_one holds) row) passes))
             | inr f ↦
-                let fails : says_one holds told ≡ false = ap (λ b. b || beq told.down.holds holds) e ∙ f in
-                omega (arith, same, ap (λ (l : List ℕ). length (l ++ rest)) (cond-false (beq told.up.holds holds) (told.up.number ∷ []) (cond (beq told.down.holds holds) (told.down.number ∷ []) []) e ∙ cond-false (beq told.down.holds holds) (told.down.number ∷ []) [] f), ap length (cond-false (says_one holds told) (told ∷ filter (says_one holds) row) (filter (says_one holds) row) fails))
+                let fails : says_one holds claims ≡ false = ap (λ b. b || beq claims.down.holds holds) e ∙ f in
+                omega (arith, same, ap (λ (l : List ℕ). length (l ++ rest)) (cond-false (beq claims.up.holds holds) (claims.up.number ∷ []) (cond (beq claims.down.holds holds) (claims.down.number ∷ []) []) e ∙ cond-false (beq claims.down.holds holds) (claims.down.number ∷ []) [] f), ap length (cond-false (says_one holds claims) (claims ∷ filter (says_one holds) row) (filter (says_one holds) row) fails))
           ]
     ]
 
 ones_filtered : (holds : Bool) (row : List InputClaims) → length (flat_map (one_of holds) row) ≡ length (filter (says_one holds) row)
 ones_filtered holds [] = refl
-ones_filtered holds (told ∷ row) = one_length holds told (flat_map (one_of holds) row) row (ones_filtered holds row)
+ones_filtered holds (claims ∷ row) = one_length holds claims (flat_map (one_of holds) row) row (ones_filtered holds row)
 
 ones_length : (holds : Bool) (row : List InputClaims) → length (flat_map (one_of holds) row) ≡ count_by (says_one holds) row
 ones_length holds row = ones_filtered holds row ∙ length-filter (says_one holds) row
 
 -- twice as many as inputs of which both do
-both_length : (holds : Bool) (told : InputClaims) (rest : List ℕ) (row : List InputClaims) → length rest ≡ 2 * length (filter (says_both holds) row) → length (both_of holds told ++ rest) ≡ 2 * length (filter (says_both holds) (told ∷ row))
-both_length holds told rest row same =
-    elim (cases_Bool (says_both holds told)) [
+both_length : (holds : Bool) (claims : InputClaims) (rest : List ℕ) (row : List InputClaims) → length rest ≡ 2 * length (filter (says_both holds) row) → length (both_of holds claims ++ rest) ≡ 2 * length (filter (says_both holds) (claims ∷ row))
+both_length holds claims rest row same =
+    elim (cases_Bool (says_both holds claims)) [
       | inl e ↦
-          omega (arith, same, ap (λ (l : List ℕ). length (l ++ rest)) (cond-true (says_both holds told) (told.up.number ∷ told.down.number ∷ []) [] e), ap length (cond-true (says_both holds told) (told ∷ filter (says_both holds) row) (filter (says_both holds) row) e))
+          omega (arith, same, ap (λ (l : List ℕ). length (l ++ rest)) (cond-true (says_both holds claims) (claims.up.number ∷ claims.down.number ∷ []) [] e), ap length (cond-true (says_both holds claims) (claims ∷ filter (says_both holds) row) (filter (says_both holds) row) e))
       | inr e ↦
-          omega (arith, same, ap (λ (l : List ℕ). length (l ++ rest)) (cond-false (says_both holds told) (told.up.number ∷ told.down.number ∷ []) [] e), ap length (cond-false (says_both holds told) (told ∷ filter (says_both holds) row) (filter (says_both holds) row) e))
+          omega (arith, same, ap (λ (l : List ℕ). length (l ++ rest)) (cond-false (says_both holds claims) (claims.up.number ∷ claims.down.number ∷ []) [] e), ap length (cond-false (says_both holds claims) (claims ∷ filter (says_both holds) row) (filter (says_both holds) row) e))
     ]
 
 boths_filtered : (holds : Bool) (row : List InputClaims) → length (flat_map (both_of holds) row) ≡ 2 * length (filter (says_both holds) row)
 boths_filtered holds [] = refl
-boths_filtered holds (told ∷ row) = both_length holds told (flat_map (both_of holds) row) row (boths_filtered holds row)
+boths_filtered holds (claims ∷ row) = both_length holds claims (flat_map (both_of holds) row) row (boths_filtered holds row)
 
 boths_length : (holds : Bool) (row : List InputClaims) → length (flat_map (both_of holds) row) ≡ 2 * count_by (says_both holds) row
 boths_length holds row = boths_filtered holds row ∙ ap (λ n. 2 * n) (length-filter (says_both holds) row)
@@ -139,7 +139,7 @@ opposite false false false = refl
 
 pub both_or_one : (holds : Bool) (row : List InputClaims) → count_by (says_one holds) row + count_by (says_both (not holds)) row ≡ length row
 both_or_one holds row =
-    omega (arith, length-filter_both (says_one holds) (says_both (not holds)) (λ told. opposite holds told.up.holds told.down.holds) row, length-filter (says_one holds) row, length-filter (says_both (not holds)) row)
+    omega (arith, length-filter_both (says_one holds) (says_both (not holds)) (λ claims. opposite holds claims.up.holds claims.down.holds) row, length-filter (says_one holds) row, length-filter (says_both (not holds)) row)
 
 -- A tally's ban is valid in view of facts that the rows tell of.
 module _ (graphs : Graphs) (facts : List Decided) (pair : Pair) (one other : List InputClaims) (are : AreRows facts pair one other) where

@@ -127,13 +127,13 @@ module _ (graphs : Graphs) (facts added : List Decided) (are : AreDecided graphs
             absurd (are.distinct held.0 k no_fact (omega (arith, held.1, past)) below (ap (λ (f : Decided). f.claim) there))
       ]
 
-  told_before : (pair : Pair) (side : Side) (shape : Shape) (k : ℕ)
+  decided_before : (pair : Pair) (side : Side) (shape : Shape) (k : ℕ)
       → AreEndsDecided graphs facts pair
       → HasOneInput shape
       → k < length (facts ++ added)
       → (fact_at after k).claim ≡ record { side = side; output = port_on side pair; shape = shape }
       → k < length facts
-  told_before pair side shape k ends one below is =
+  decided_before pair side shape k ends one below is =
       stands_before k below (subst (IsDecided facts) (sym is) ((ends.each side).each shape one (subst (IsClaim graphs) is (are.placed k no_fact below)).placed))
 
   abbrev EndsDecided : List Pair → Type 0
@@ -152,8 +152,8 @@ module _ (graphs : Graphs) (facts added : List Decided) (are : AreDecided graphs
       → (one < length facts) × (other < length facts)
   both_before pairs one other ends first second image single =
       let is = carried_by pairs (fact_at after one).claim (fact_at after other).claim image single in
-      let pair_ends = ends_of pairs is.output ends is.output_held is.output_kind in
-      (told_before is.output First _ one pair_ends (one_is_one is.input.from is.value) first is.claim_is, told_before is.output Second _ other pair_ends (one_is_one is.input.to (moved_value is.output.flip is.input is.value)) second is.image_is)
+      let pair_ends = ends_of pairs is.output ends is.output_among is.output_kind in
+      (decided_before is.output First _ one pair_ends (one_is_one is.input.from is.value) first is.claim_is, decided_before is.output Second _ other pair_ends (one_is_one is.input.to (moved_value is.output.flip is.input is.value)) second is.image_is)
 
   mismatch_before : (pairs : List Pair) (fails holds : ℕ)
       → HaveNoFacts graphs facts pairs
@@ -192,7 +192,7 @@ module _ (graphs : Graphs) (facts added : List Decided) (are : AreDecided graphs
       → All (IsFactGiven before) numbers
   numbers_before pair side holds numbers ends known say ones k d below =
       let number = get_or numbers k d in
-      told_before pair side (fact_at after number).claim.shape number ends (shape_at after numbers k d ones below) (known k d below) (λ i. record { side = say.of_side k d below i; output = say.of_output k d below i; shape = (fact_at after number).claim.shape })
+      decided_before pair side (fact_at after number).claim.shape number ends (shape_at after numbers k d ones below) (known k d below) (λ i. record { side = say.of_side k d below i; output = say.of_output k d below i; shape = (fact_at after number).claim.shape })
 
   no_tally_later : (pairs : List Pair) (kind : Tallied) (have lack : List ℕ)
       → EndsDecided pairs

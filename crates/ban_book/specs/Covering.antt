@@ -9,5 +9,5 @@ pub record IsWithin (pairs : List Pair) (ban : Ban) : Type 0 where
 
 -- The number of a ban, all pairs of which are among the given ones.
 pub record Covers (bans : List Ban) (pairs : List Pair) (number : ℕ) : Type 0 where
-  pub held : number < length bans
+  pub kept : number < length bans
   pub within : (d : Ban) → IsWithin pairs (slice_index_or bans number d)

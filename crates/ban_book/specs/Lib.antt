@@ -2,10 +2,10 @@ pub mod Chains
 pub mod Covering
 pub mod Vectors
 pub use Rattle.account_core.specs.Steps
-pub mod Told
+pub mod DecidedClaims
 pub mod Listed
 pub mod Mismatched
 pub mod Rows
 pub mod Shown
 pub mod Ways
-pub use Rattle.account_core.specs.Held
+pub use Rattle.account_core.specs.Assigned

@@ -19,18 +19,18 @@ use Rattle.ban_book.specs.declared.input_claims.InputClaims.{InputClaims}
 use Rattle.ban_book.specs.declared.tallies.Lists.{Lists}
 use Rattle.ban_book.specs.declared.mismatched.Unlike.{Unlike}
 use Rattle.ban_book.specs.declared.mismatches.Apart.{Apart}
-use Rattle.ban_book.specs.Told.{IsToldAs}
+use Rattle.ban_book.specs.DecidedClaims.{IsDecidedAs}
 use Rattle.ban_book.specs.Listed.{tally_of}
 use Rattle.ban_book.specs.Mismatched.{mismatch_of, unlike_of}
 
 -- These are the facts of both claims of an input at an output.
-pub record IsTold (facts : List Decided) (side : Side) (output input : ℕ) (told : InputClaims) : Type 0 where
-  pub up : IsToldAs facts (record { side = side; output = output; shape = Up input }) told.up.holds told.up.number
-  pub down : IsToldAs facts (record { side = side; output = output; shape = Down input }) told.down.holds told.down.number
+pub record AreClaimsOf (facts : List Decided) (side : Side) (output input : ℕ) (claims : InputClaims) : Type 0 where
+  pub up : IsDecidedAs facts (record { side = side; output = output; shape = Up input }) claims.up.holds claims.up.number
+  pub down : IsDecidedAs facts (record { side = side; output = output; shape = Down input }) claims.down.holds claims.down.number
 
 -- An output's row: entry i has the claims of input i.
 pub record IsRow (facts : List Decided) (side : Side) (output : ℕ) (row : List InputClaims) : Type 0 where
-  pub each : EachAt (IsTold facts side output) row
+  pub each : EachAt (AreClaimsOf facts side output) row
 
 -- The rows of both outputs of a pair.
 pub record AreRows (facts : List Decided) (pair : Pair) (one other : List InputClaims) : Type 0 where
@@ -44,32 +44,32 @@ pub record HasOneOutput (pairs : List Pair) (pair : Pair) : Type 0 where
   pub only : All (λ other. other.kind ≡ Output → other ≡ pair) pairs
 
 -- the decided claim for a change of the input from a value
-abbrev pub told_by : Bool → InputClaims → DecidedClaim
-told_by false told = told.up
-told_by true told = told.down
+abbrev pub decided_from : Bool → InputClaims → DecidedClaim
+decided_from false claims = claims.up
+decided_from true claims = claims.down
 
 -- what stands for an input that isn't there
-abbrev pub no_told : InputClaims
-no_told = record { up = record { number = 0; holds = true }; down = record { number = 0; holds = true } }
+abbrev pub no_claims : InputClaims
+no_claims = record { up = record { number = 0; holds = true }; down = record { number = 0; holds = true } }
 
-abbrev pub told_at : List InputClaims → ℕ → Bool → DecidedClaim
-told_at row input value = told_by value (slice_index_or row input no_told)
+abbrev pub decided_at : List InputClaims → ℕ → Bool → DecidedClaim
+decided_at row input value = decided_from value (slice_index_or row input no_claims)
 
 -- whether one of an input's claims holds (or fails), and whether both do
 abbrev pub says_one : Bool → InputClaims → Bool
-says_one holds told = beq told.up.holds holds || beq told.down.holds holds
+says_one holds claims = beq claims.up.holds holds || beq claims.down.holds holds
 
 abbrev pub says_both : Bool → InputClaims → Bool
-says_both holds told = beq told.up.holds holds && beq told.down.holds holds
+says_both holds claims = beq claims.up.holds holds && beq claims.down.holds holds
 
 -- the fact of one claim of an input that holds (or fails), if there is one, and those of both, if both do
 abbrev pub one_of : Bool → InputClaims → List ℕ
-one_of holds told =
-    if beq told.up.holds holds then told.up.number ∷ []
-    else (if beq told.down.holds holds then told.down.number ∷ [] else [])
+one_of holds claims =
+    if beq claims.up.holds holds then claims.up.number ∷ []
+    else (if beq claims.down.holds holds then claims.down.number ∷ [] else [])
 
 abbrev pub both_of : Bool → InputClaims → List ℕ
-both_of holds told = if says_both holds told then told.up.number ∷ told.down.number ∷ [] else []
+both_of holds claims = if says_both holds claims then claims.up.number ∷ claims.down.number ∷ [] else []
 
 -- for one row the facts of one claim an input that holds (or fails), and for another one those of both claims that don't
 abbrev pub lists_by : Bool → List InputClaims → List InputClaims → Lists
@@ -94,13 +94,13 @@ pub record AreEven (one other : List InputClaims) : Type 0 where
 -- Each claim of an input of the first circuit is decided as its image under the input's pair and the output's.
 pub record AreAlike (output : Pair) (one other : List InputClaims) (input : Pair) : Type 0 where
   pub each : (value : Bool)
-      → (told_at one input.from value).holds ≡ (told_at other input.to (moved_value output.flip input value)).holds
+      → (decided_at one input.from value).holds ≡ (decided_at other input.to (moved_value output.flip input value)).holds
 
 -- The claim for a change of an input from a value and its image are decided differently, by these facts.
 pub record IsApartAt (output : Pair) (one other : List InputClaims) (input : Pair) (value : Bool) (unlike : Unlike) : Type 0 where
-  pub differ : (told_at one input.from value).holds ≢ (told_at other input.to (moved_value output.flip input value)).holds
-  pub unlike_is : unlike ≡ unlike_of (told_at one input.from value).holds (told_at one input.from value).number
-      (told_at other input.to (moved_value output.flip input value)).number
+  pub differ : (decided_at one input.from value).holds ≢ (decided_at other input.to (moved_value output.flip input value)).holds
+  pub unlike_is : unlike ≡ unlike_of (decided_at one input.from value).holds (decided_at one input.from value).number
+      (decided_at other input.to (moved_value output.flip input value)).number
 
 -- So it is for one of the input's two claims.
 pub record IsApart (output : Pair) (one other : List InputClaims) (found : Apart) : Type 0 where

@@ -55,14 +55,14 @@ pub record IsBlock (count : ℕ) (block : Block) : Type 0 where
 -- A way is closed beside pairs: it shares a port with one of them, or an earlier ban excludes it beside them.
 pub record IsClosed (bans : List Ban) (pairs : List Pair) (pair : Pair) (ref : Option ℕ) : Type 0 where
   pub refers : IsReference (given_of [] bans) pairs pair ref
-  pub held : (ban : ℕ) → ref ≡ Some ban → ban < length bans
+  pub kept : (ban : ℕ) → ref ≡ Some ban → ban < length bans
 
 -- ways are closed beside pairs, each as its reference says
 abbrev pub AreClosed : List Ban → List Pair → List Pair → List (Option ℕ) → Type 0
 AreClosed bans pairs ways refs = AllZip (IsClosed bans pairs) ways refs
 
 -- Bans were added, none by a vector. Where the earlier ones are valid all are, in view of any facts.
-pub record HoldsMore (graphs : Graphs) (before after : List Ban) : Type 0 where
+pub record AddsBans (graphs : Graphs) (before after : List Ban) : Type 0 where
   pub added : List Ban
   pub more : after ≡ before ++ added
   pub no_vector : AddsNoVector added

@@ -69,8 +69,8 @@ pub fn marked(alloc: Global, marks: &[bool], count: u32) -> Result<Items<u32>, A
     Ok(ports)
 }
 
-#[tactic(auto, using(crate::proofs::ListLemmas::ascend_after, crate::proofs::ListLemmas::below_after, crate::proofs::ListLemmas::below_more))]
 // Adds a port that is marked.
+#[tactic(auto, using(crate::proofs::Marked::ascends, crate::proofs::Marked::below, crate::proofs::Marked::below_more))]
 fn add_marked(ports: &mut Items<u32>, marks: &[bool], port: u32) -> Result<(), AllocError>
     requires ascends { Ascend ports.old }
     requires below { All (λ other. other < port) ports.old }

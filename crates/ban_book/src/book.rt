@@ -64,7 +64,7 @@ impl BanBook {
     /// Keeps a ban under the next number, and answers that. Where memory runs out nothing changes.
     pub fn hold(&mut self, ban: Ban) -> Result<u64, AllocError>
         ensures number { IfOk result (λ number. number ≡ length self.old) }
-        ensures held { OnOk result (self.new ≡ self.old ++ ban ∷ []) }
+        ensures added { OnOk result (self.new ≡ self.old ++ ban ∷ []) }
         ensures refused { OnErr result (self.new ≡ self.old) }
     {
         self.bans.reserve(1)?;

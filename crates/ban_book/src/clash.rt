@@ -15,12 +15,12 @@ fn clash(one: Pair, other: Pair) -> bool
 
 /// An assigned pair that shares a port with the way, if there is one. The list is gone over: it has a conflict's pairs
 /// where a cover is made, and all assigned ones only where open pairs are refined.
-pub fn clashing(held: &[Pair], way: Pair) -> Option<Pair>
-    ensures found { IfSome result (Contains held.now) }
+pub fn clashing(assigned: &[Pair], way: Pair) -> Option<Pair>
+    ensures found { IfSome result (Contains assigned.now) }
     ensures clash { IfSome result (λ pair. Clash pair way) }
-    ensures none { IfNone result (IsImpossible held.now way → ⊥) }
+    ensures none { IfNone result (IsImpossible assigned.now way → ⊥) }
 {
-    for pair in held.iter() {
+    for pair in assigned.iter() {
         if clash(*pair, way) {
             return Some(*pair);
         }

@@ -8,8 +8,8 @@ ghost use Rattle.account_core.specs.Given.{Decided as AnyFact, given_of};
 ghost use Rattle.account_core.specs.Steps.{IsValidBan};
 ghost use Rattle.ban_book.specs.Covering.{Covers};
 ghost use Rattle.ban_book.specs.Vectors.{IsVector};
-ghost use Rattle.account_core.specs.Held.{AddsHeld, AreApart, IsPart};
-ghost use Rattle.ban_book.specs.Ways.{ways_in, AreClosed, HoldsMore, IsBlock};
+ghost use Rattle.account_core.specs.Assigned.{AddsAssigned, AreApart, IsPart};
+ghost use Rattle.ban_book.specs.Ways.{ways_in, AreClosed, AddsBans, IsBlock};
 
 use crate::BanBook;
 use crate::block::Block;
@@ -19,10 +19,10 @@ use circuits::{Pair, PortKind};
 use items::{Few, Items};
 use std::alloc::{AllocError, Global};
 
-#[tactic(auto, using(crate::proofs::HoldLemmas::holds_none))]
 /// Makes the ban of pairs, in order, beside which each way of a block is impossible or excluded by an earlier ban, and
 /// answers its number.
-pub fn hold_cover(
+#[tactic(auto, using(crate::proofs::KeepLemmas::adds_no_bans))]
+pub fn keep_cover(
     alloc: Global,
     graphs: &PairableGraphs<'_>,
     pairs: &[Pair],
@@ -34,12 +34,12 @@ pub fn hold_cover(
     requires ordered { AreOrdered pairs.now }
     requires block { IsBlock (ports_in graphs.now.second block.kind) block }
     requires closed { AreClosed book.old pairs.now (ways_in block) refs }
-    ensures more { HoldsMore graphs.now book.old book.new }
+    ensures more { AddsBans graphs.now book.old book.new }
     ensures covers { IfOk result (Covers book.new pairs.now) }
 {
     let ban = cover_of(alloc, graphs, pairs, block, refs)?;
-    let held = book.hold(ban)?;
-    Ok(held)
+    let number = book.hold(ban)?;
+    Ok(number)
 }
 
 // The ban of these pairs by the block's cover.
@@ -77,18 +77,18 @@ fn cover_of(
 /// Adds the pairs of a ban to the needed ones, but for the way itself.
 pub fn add_others(
     needed: &mut Vec<Pair>,
-    held: &[Pair],
+    assigned: &[Pair],
     way: Pair,
     pairs: &[Pair],
 ) -> Result<(), AllocError>
-    requires part { IsPart held.now needed.old.items }
-    requires apart { AllPairs AreApart held.now }
-    requires among { All (Contains (way ∷ held.now)) pairs.now }
-    ensures adds { OnOk result (AddsHeld held.now needed.old.items needed.new.items) }
+    requires part { IsPart assigned.now needed.old.items }
+    requires apart { AllPairs AreApart assigned.now }
+    requires among { All (Contains (way ∷ assigned.now)) pairs.now }
+    ensures adds { OnOk result (AddsAssigned assigned.now needed.old.items needed.new.items) }
     ensures among { OnOk result (All (Contains (way ∷ needed.new.items)) pairs.now) }
 {
     for pair in pairs.iter() {
-        add_unless(needed, held, way, *pair)?;
+        add_unless(needed, assigned, way, *pair)?;
     }
     Ok(())
 }
@@ -96,51 +96,51 @@ pub fn add_others(
 // Adds an assigned pair, unless it is the way itself.
 fn add_unless(
     needed: &mut Vec<Pair>,
-    held: &[Pair],
+    assigned: &[Pair],
     way: Pair,
     pair: Pair,
 ) -> Result<(), AllocError>
-    requires part { IsPart held.now needed.old.items }
-    requires apart { AllPairs AreApart held.now }
-    requires held { Contains (way ∷ held.now) pair }
-    ensures adds { OnOk result (AddsHeld held.now needed.old.items needed.new.items) }
+    requires part { IsPart assigned.now needed.old.items }
+    requires apart { AllPairs AreApart assigned.now }
+    requires assigned { Contains (way ∷ assigned.now) pair }
+    ensures adds { OnOk result (AddsAssigned assigned.now needed.old.items needed.new.items) }
     ensures added { OnOk result (Contains (way ∷ needed.new.items) pair) }
 {
     if pair == way {
         return Ok(());
     }
-    add_one(needed, held, pair)?;
+    add_assigned(needed, assigned, pair)?;
     Ok(())
 }
 
 /// Adds an assigned pair to the needed ones, in order.
-pub fn add_one(needed: &mut Vec<Pair>, held: &[Pair], pair: Pair) -> Result<(), AllocError>
-    requires part { IsPart held.now needed.old.items }
-    requires apart { AllPairs AreApart held.now }
-    requires held { Contains held.now pair }
-    ensures adds { OnOk result (AddsHeld held.now needed.old.items needed.new.items) }
+pub fn add_assigned(needed: &mut Vec<Pair>, assigned: &[Pair], pair: Pair) -> Result<(), AllocError>
+    requires part { IsPart assigned.now needed.old.items }
+    requires apart { AllPairs AreApart assigned.now }
+    requires assigned { Contains assigned.now pair }
+    ensures adds { OnOk result (AddsAssigned assigned.now needed.old.items needed.new.items) }
     ensures added { OnOk result (Contains needed.new.items pair) }
     ensures only { OnOk result (All (λ other. Contains needed.old.items other ⊎ (other ≡ pair)) needed.new.items) }
 {
     // contracts alone read the assigned pairs
-    let _ = held;
+    let _ = assigned;
     add(needed, pair)?;
     Ok(())
 }
 
 /// Adds an assigned pair to those of inputs, in order, if it is one.
-pub fn add_input(inputs: &mut Vec<Pair>, held: &[Pair], pair: Pair) -> Result<(), AllocError>
-    requires part { IsPart held.now inputs.old.items }
+pub fn add_input(inputs: &mut Vec<Pair>, assigned: &[Pair], pair: Pair) -> Result<(), AllocError>
+    requires part { IsPart assigned.now inputs.old.items }
     requires inputs { All (λ other. other.kind ≡ InputKind) inputs.old.items }
-    requires apart { AllPairs AreApart held.now }
-    requires held { Contains held.now pair }
-    ensures adds { OnOk result (AddsHeld held.now inputs.old.items inputs.new.items) }
+    requires apart { AllPairs AreApart assigned.now }
+    requires assigned { Contains assigned.now pair }
+    ensures adds { OnOk result (AddsAssigned assigned.now inputs.old.items inputs.new.items) }
     ensures inputs { OnOk result (All (λ other. other.kind ≡ InputKind) inputs.new.items) }
     ensures added { OnOk result (pair.kind ≡ InputKind → Contains inputs.new.items pair) }
 {
     if pair.kind != PortKind::Input {
         return Ok(());
     }
-    add_one(inputs, held, pair)?;
+    add_assigned(inputs, assigned, pair)?;
     Ok(())
 }

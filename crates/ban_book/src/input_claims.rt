@@ -1,7 +1,7 @@
 //! Decided claims, as rows have them.
 
 ghost use Rattle.std.specs.Prelude.{◌≡◌};
-ghost use Rattle.ban_book.specs.Rows.{says_both, says_one, told_by};
+ghost use Rattle.ban_book.specs.Rows.{says_both, says_one, decided_from};
 
 /// A decided claim: the number of its fact, and whether it holds.
 #[derive(Clone, Copy, Debug, Drop, PartialEq, Eq)]
@@ -22,7 +22,7 @@ pub struct InputClaims {
 impl InputClaims {
     /// The claim for a change of the input from this value: `up` where it is false, and `down` where it is true.
     pub fn with(self, value: bool) -> DecidedClaim
-        ensures { result ≡ told_by value self }
+        ensures { result ≡ decided_from value self }
     {
         if value { self.down } else { self.up }
     }

@@ -17,6 +17,6 @@ pub mod ways;
 pub use book::BanBook;
 pub use input_claims::{DecidedClaim, InputClaims};
 pub use mismatched::{Carried, Unlike, carry, mismatch_ban, unlike_of};
-pub use ports::{moved_value, one_input, two_inputs};
+pub use ports::{one_input, two_inputs};
 pub use row_bans::ban_by_facts;
 pub use tallies::{Lists, tally_ban};

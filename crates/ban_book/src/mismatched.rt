@@ -6,10 +6,10 @@ ghost use Rattle.claim_core.specs.Images.{moved_value, one_input};
 ghost use Rattle.ban_book.specs.Mismatched.{mismatch_of, unlike_of};
 
 use crate::input_claims::DecidedClaim;
-use crate::ports::{moved_value, one_input};
+use crate::ports::one_input;
 use account_core::{Ban, Step};
 use circuits::Pair;
-use claim_core::Claim;
+use claim_core::{Claim, moved_value};
 use items::Few;
 use net_core::Side;
 use std::alloc::{AllocError, Global};

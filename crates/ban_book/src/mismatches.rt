@@ -3,13 +3,13 @@
 ghost use Rattle.std.specs.Prelude.{◌≡◌, ◌<◌, All, Contains, IfNone, IfOk, IfSome, length};
 ghost use Rattle.circuits.specs.declared.port.PortKind.TheVariants.{Input};
 ghost use Rattle.claim_core.specs.Images.{moved_value};
-ghost use Rattle.ban_book.specs.Rows.{AreAlike, IsApart, IsApartAt, IsMismatchBan, told_at};
+ghost use Rattle.ban_book.specs.Rows.{AreAlike, IsApart, IsApartAt, IsMismatchBan, decided_at};
 
 use crate::input_claims::{DecidedClaim, InputClaims};
 use crate::mismatched::{Unlike, mismatch_ban, unlike_of};
-use crate::ports::moved_value;
 use account_core::Ban;
 use circuits::{Pair, PortKind};
+use claim_core::moved_value;
 use std::alloc::{AllocError, Global};
 
 /// The pair of an input that no match has beside an output's pair, and the facts that say so.
@@ -55,7 +55,7 @@ fn first_apart(
         (All (λ pair. pair.kind ≡ Input → AreAlike output first.now second.now pair) pairs.now) }
 {
     for input in pairs.iter() {
-        if let Some(apart) = told_apart(*input, output, first, second) {
+        if let Some(apart) = mismatch_at(*input, output, first, second) {
             return Some(apart);
         }
     }
@@ -63,7 +63,7 @@ fn first_apart(
 }
 
 // The facts of a mismatch of a pair, if it is of an input, beside an output's pair.
-fn told_apart(
+fn mismatch_at(
     input: Pair,
     output: Pair,
     first: &[InputClaims],
@@ -95,11 +95,11 @@ fn apart_with(
     requires from { input.from < length first.now }
     requires to { input.to < length second.now }
     ensures some { IfSome result (IsApartAt output first.now second.now input value) }
-    ensures none { IfNone result ((told_at first.now input.from value).holds
-        ≡ (told_at second.now input.to (moved_value output.flip input value)).holds) }
+    ensures none { IfNone result ((decided_at first.now input.from value).holds
+        ≡ (decided_at second.now input.to (moved_value output.flip input value)).holds) }
 {
-    let one = told_at(first, input.from, value);
-    let other = told_at(second, input.to, moved_value(output.flip, input, value));
+    let one = decided_at(first, input.from, value);
+    let other = decided_at(second, input.to, moved_value(output.flip, input, value));
     if one.holds == other.holds {
         return None;
     }
@@ -107,9 +107,9 @@ fn apart_with(
 }
 
 // The decided claim of a row for a change of an input from a value.
-fn told_at(row: &[InputClaims], input: u32, value: bool) -> DecidedClaim
+fn decided_at(row: &[InputClaims], input: u32, value: bool) -> DecidedClaim
     requires { input < length row.now }
-    ensures { result ≡ told_at row.now input value }
+    ensures { result ≡ decided_at row.now input value }
 {
     row[input as usize].with(value)
 }

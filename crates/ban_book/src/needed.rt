@@ -4,7 +4,7 @@ ghost use Rattle.std.specs.Prelude.{◌≡◌, ◌≢◌, ◌⊎◌, ◌≤◌, 
 ghost use Rattle.std.specs.Prelude.{slice_index_or, take};
 ghost use Rattle.circuits.specs.declared.port.Pair.{Pair as AnyPair};
 ghost use Rattle.account_core.specs.Ports.{AreOrdered};
-ghost use Rattle.account_core.specs.Held.{AreApart, StandsBefore};
+ghost use Rattle.account_core.specs.Assigned.{AreApart, StandsBefore};
 
 use circuits::{Pair, PortKind};
 use std::alloc::AllocError;

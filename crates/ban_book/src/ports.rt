@@ -1,9 +1,8 @@
-//! Shapes of claims, and what pairs make of their values.
+//! Shapes of claims, by inputs and values.
 
 ghost use Rattle.std.specs.Prelude.{◌≡◌};
-ghost use Rattle.claim_core.specs.Images.{moved_value, one_input, two_inputs};
+ghost use Rattle.claim_core.specs.Images.{one_input, two_inputs};
 
-use circuits::Pair;
 use claim_core::Shape;
 
 /// The shape for a change of one input from a value: false goes up, true goes down.
@@ -36,12 +35,4 @@ pub fn two_inputs(one: u32, one_value: bool, other: u32, other_value: bool) -> S
             b: one_value,
         }
     }
-}
-
-/// The value from which a pair's second input changes where its first one changes from `value`: opposite where either
-/// the pair or the output's pair is inverted, and the same where both are.
-pub fn moved_value(exchanged: bool, input: Pair, value: bool) -> bool
-    ensures { result ≡ moved_value exchanged input value }
-{
-    (value != input.flip) != exchanged
 }

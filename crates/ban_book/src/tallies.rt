@@ -91,7 +91,7 @@ fn uneven(
 fn count(row: &[InputClaims], holds: bool) -> usize
     ensures { result ≡ count_by (says_one holds) row.now }
 {
-    row.iter().filter(|told| told.says_one(holds)).count()
+    row.iter().filter(|claims| claims.says_one(holds)).count()
 }
 
 // The ban by the inputs of one row of which some claim holds, or fails, and those of the other row of which none does.
@@ -114,19 +114,19 @@ fn list_one(alloc: Global, row: &[InputClaims], holds: bool) -> Result<Items<u64
     ensures { IfOk result (λ numbers. numbers ≡ flat_map (one_of holds) row.now) }
 {
     let mut numbers = Items::new(alloc);
-    for told in row.iter() {
-        add_one(&mut numbers, *told, holds)?;
+    for claims in row.iter() {
+        add_one(&mut numbers, *claims, holds)?;
     }
     Ok(numbers)
 }
 
-fn add_one(numbers: &mut Items<u64>, told: InputClaims, holds: bool) -> Result<(), AllocError>
-    ensures { OnOk result (numbers.new ≡ numbers.old ++ one_of holds told) }
+fn add_one(numbers: &mut Items<u64>, claims: InputClaims, holds: bool) -> Result<(), AllocError>
+    ensures { OnOk result (numbers.new ≡ numbers.old ++ one_of holds claims) }
 {
-    if told.up.holds == holds {
-        numbers.push(told.up.number)?;
-    } else if told.down.holds == holds {
-        numbers.push(told.down.number)?;
+    if claims.up.holds == holds {
+        numbers.push(claims.up.number)?;
+    } else if claims.down.holds == holds {
+        numbers.push(claims.down.number)?;
     }
     Ok(())
 }
@@ -136,18 +136,18 @@ fn list_both(alloc: Global, row: &[InputClaims], holds: bool) -> Result<Items<u6
     ensures { IfOk result (λ numbers. numbers ≡ flat_map (both_of holds) row.now) }
 {
     let mut numbers = Items::new(alloc);
-    for told in row.iter() {
-        add_both(&mut numbers, *told, holds)?;
+    for claims in row.iter() {
+        add_both(&mut numbers, *claims, holds)?;
     }
     Ok(numbers)
 }
 
-fn add_both(numbers: &mut Items<u64>, told: InputClaims, holds: bool) -> Result<(), AllocError>
-    ensures { OnOk result (numbers.new ≡ numbers.old ++ both_of holds told) }
+fn add_both(numbers: &mut Items<u64>, claims: InputClaims, holds: bool) -> Result<(), AllocError>
+    ensures { OnOk result (numbers.new ≡ numbers.old ++ both_of holds claims) }
 {
-    if told.says_both(holds) {
-        numbers.push(told.up.number)?;
-        numbers.push(told.down.number)?;
+    if claims.says_both(holds) {
+        numbers.push(claims.up.number)?;
+        numbers.push(claims.down.number)?;
     }
     Ok(())
 }

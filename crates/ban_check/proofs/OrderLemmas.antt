@@ -16,7 +16,7 @@ use Rattle.circuits.specs.declared.port.PortKind.{PortKind}
 use Rattle.circuits.specs.declared.port.PortKind.TheVariants.{Input, Output}
 use Rattle.net_core.proofs.ConeLemmas.{ascending_cone}
 use Rattle.claim_core.specs.Images.{same_kind}
-use Rattle.account_core.specs.Held.{ArePortsInTurn, StandsBefore}
+use Rattle.account_core.specs.Assigned.{ArePortsInTurn, StandsBefore}
 use Rattle.account_core.specs.Ports.{AreOrdered}
 use Rattle.account_core.specs.Tallies.{Ascend}
 use Rattle.ban_check.specs.Seconds.{seconds_of}

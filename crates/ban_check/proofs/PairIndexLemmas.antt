@@ -13,10 +13,10 @@ use Rattle.net_core.specs.contracts.graphs.SidePartialEq.TheImpl.{eq-value as si
 use Rattle.claim_core.proofs.EqualLemmas.{side_decides}
 use Rattle.account_core.specs.Covers.{IsImpossible}
 use Rattle.account_core.specs.Ports.{AreOrdered, Clash, StandInOrder}
-use Rattle.account_core.specs.Tallies.{port_on}
-use Rattle.ban_check.specs.PairIndices.{IsAnothers, IsIndexOf, IsIndexOfFirst, found_at, port_of}
-use Rattle.ban_check.specs.declared.pair_index.Port.{Port}
-use Rattle.ban_check.specs.contracts.pair_index.PortPartialEq.TheImpl.{eq-value as port_eq}
+use Rattle.account_core.specs.Tallies.{port_of, port_on}
+use Rattle.ban_check.specs.PairIndices.{IsAnothers, IsIndexOf, IsIndexOfFirst, found_at}
+use Rattle.account_core.specs.declared.ports.Port.{Port}
+use Rattle.account_core.specs.contracts.ports.PortPartialEq.TheImpl.{eq-value as port_eq}
 use Rattle.ban_check.proofs.BoolLemmas.{same_test}
 
 kind_decides : (x y : PortKind) → Decides (kind_eq.it x y) (x ≡ y)

@@ -4,15 +4,11 @@ use Rattle.std.specs.Map.{lookup}
 use Rattle.circuits.specs.declared.port.Pair.{Pair}
 use Rattle.net_core.specs.declared.graphs.Side.{Side}
 use Rattle.account_core.specs.Given.{Given, ban_at}
-use Rattle.account_core.specs.Tallies.{port_on}
-use Rattle.ban_check.specs.declared.pair_index.Port.{Port}
-use Rattle.ban_check.specs.contracts.pair_index.PortPartialEq.TheImpl.{eq-value as port_eq}
+use Rattle.account_core.specs.Tallies.{port_of}
+use Rattle.account_core.specs.declared.ports.Port.{Port}
+use Rattle.account_core.specs.contracts.ports.PortPartialEq.TheImpl.{eq-value as port_eq}
 use Rattle.ban_check.specs.declared.missing.Missing.{Missing}
 use Rattle.ban_check.specs.declared.missing.Missing.TheVariants as missing
-
--- a pair's port of a circuit
-abbrev pub port_of : Side → Pair → Port
-port_of side pair = record { side = side; kind = pair.kind; number = port_on side pair }
 
 -- the pair that an index has for a port
 abbrev pub found_at : List (Port × Pair) → Port → Option Pair

@@ -4,25 +4,18 @@ ghost use Rattle.std.specs.Prelude.{◌≡◌, ◌↔◌, ◌⊎◌, ◌+◌, �
 ghost use Rattle.std.specs.Prelude.{length};
 ghost use Rattle.account_core.specs.Covers.{IsImpossible};
 ghost use Rattle.account_core.specs.Ports.{AreOrdered};
-ghost use Rattle.ban_check.specs.PairIndices.{found_at, port_of, IsAnothers, IsIndexOf, IsIndexOfFirst};
-ghost use Rattle.ban_check.specs.declared.pair_index.Port.{Port as AnyPort};
-ghost use Rattle.ban_check.specs.contracts.pair_index.PortPartialEq.TheImpl.{eq-value as port_eq};
+ghost use Rattle.account_core.specs.Tallies.{port_of};
+ghost use Rattle.ban_check.specs.PairIndices.{found_at, IsAnothers, IsIndexOf, IsIndexOfFirst};
+ghost use Rattle.account_core.specs.declared.ports.Port.{Port as AnyPort};
+ghost use Rattle.account_core.specs.contracts.ports.PortPartialEq.TheImpl.{eq-value as port_eq};
 
 use crate::ordered::OrderedPairs;
-use account_core::port_on;
-use circuits::{Pair, PortKind};
+use account_core::{Port, port_of};
+use circuits::Pair;
 use indexmap::IndexMap;
 use net_core::Side;
 use std::alloc::{AllocError, Global};
 use std::marker::Model;
-
-/// A port of one of two circuits.
-#[derive(Clone, Copy, Drop, PartialEq, Eq, Hash)]
-pub(crate) struct Port {
-    side: Side,
-    kind: PortKind,
-    number: u32,
-}
 
 /// Pairs in order, of which that of a port is found in one step, however many there are. Contracts see the list of the
 /// pairs.
@@ -111,17 +104,6 @@ fn found_at(by_port: &IndexMap<Port, Pair>, port: Port) -> Option<Pair>
     ensures { result ≡ found_at by_port.now.entries port }
 {
     by_port.get(&port).copied()
-}
-
-// A pair's port of a circuit.
-fn port_of(side: Side, pair: Pair) -> Port
-    ensures { result ≡ port_of side pair }
-{
-    Port {
-        side,
-        kind: pair.kind,
-        number: port_on(side, pair),
-    }
 }
 
 // Whether a pair is the one of its first port.

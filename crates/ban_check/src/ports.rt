@@ -1,7 +1,7 @@
 //! The ports that pairs name.
 
 ghost use Rattle.std.specs.Prelude.{◌≡◌, ◌≢◌, ◌↔◌, ◌++◌, ◌∷◌, [], All, AllPairs, IfOk, IsTrue, OnOk};
-ghost use Rattle.account_core.specs.Held.{StandsBefore};
+ghost use Rattle.account_core.specs.Assigned.{StandsBefore};
 ghost use Rattle.account_core.specs.Ports.{AreOrdered, IsKnown};
 ghost use Rattle.ban_check.specs.Seconds.{seconds_of};
 

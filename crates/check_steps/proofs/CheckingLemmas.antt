@@ -10,7 +10,7 @@ use Rattle.net_core.specs.Sides.{Graphs}
 use Rattle.check_steps.specs.Check.{IsAsked}
 use Rattle.check_steps.specs.Checks.{AskFor, Checks, IsOfCheck, IsSound, JudgesFiles}
 use Rattle.check_steps.specs.Ends.{EndsAt, EndsEarly}
-use Rattle.check_steps.specs.Held.{HoldsGraph, HoldsNetlist, Netlist}
+use Rattle.check_steps.specs.Held.{HasGraph, HasNetlist, Netlist}
 use Rattle.check_steps.specs.Judged.{IsVerdict, graphs_of}
 use Rattle.check_steps.specs.Lines.{report_on}
 use Rattle.check_steps.specs.Reading.{IsOfReading, netlist_of}
@@ -38,7 +38,7 @@ pub at_first : (held : List ℕ → Option (List ℕ)) (words : List (List ℕ))
 at_first held words f g t asks o ends =
     early_end held words First (held f) o ends (inl (record { first_name = f; second_name = g; account_name = t; asks = asks; ends = ends }))
 
-pub at_second : (held : List ℕ → Option (List ℕ)) (words : List (List ℕ)) (f g t : List ℕ) (first : Netlist) → NameThree words f g t → HoldsNetlist (held f) first → (o : Outcome) → EndsAt Second (held g) o → IsOfCheck held words o
+pub at_second : (held : List ℕ → Option (List ℕ)) (words : List (List ℕ)) (f g t : List ℕ) (first : Netlist) → NameThree words f g t → HasNetlist (held f) first → (o : Outcome) → EndsAt Second (held g) o → IsOfCheck held words o
 at_second held words f g t first asks there o ends =
     early_end held words Second (held g) o ends (inr (inl (record { first_name = f; second_name = g; account_name = t; asks = asks; first = first; first_held = there; ends = ends })))
 
@@ -46,7 +46,7 @@ pub at_only : (held : List ℕ → Option (List ℕ)) (words : List (List ℕ)) 
 at_only held words file budget asks o ends =
     early_end held words First (held file) o ends (inr (inr (record { file_name = file; budget = budget; asks = asks; ends = ends })))
 
-pub by_verdict : (held : List ℕ → Option (List ℕ)) (words : List (List ℕ)) (f g t : List ℕ) (graphs : Graphs) → AsksCheck words f g t → HoldsGraph (held f) graphs.first → HoldsGraph (held g) graphs.second → (o : Outcome) → IsVerdict graphs (held t) o → IsOfCheck held words o
+pub by_verdict : (held : List ℕ → Option (List ℕ)) (words : List (List ℕ)) (f g t : List ℕ) (graphs : Graphs) → AsksCheck words f g t → HasGraph (held f) graphs.first → HasGraph (held g) graphs.second → (o : Outcome) → IsVerdict graphs (held t) o → IsOfCheck held words o
 by_verdict held words f g t graphs asks first second (AcceptedMatch matching) fact = record { graphs = graphs; account = fact.0; has = record { first_name = f; second_name = g; account_name = t; asks = asks; first_held = first; second_held = second; there = fact.1 }; accepted = fact.2 }
 by_verdict held words f g t graphs asks first second AcceptedRefusal fact = record { graphs = graphs; account = fact.0; has = record { first_name = f; second_name = g; account_name = t; asks = asks; first_held = first; second_held = second; there = fact.1 }; accepted = fact.2 }
 by_verdict held words f g t graphs asks first second (Rejected line why) fact = record { graphs = graphs; account = fact.0; has = record { first_name = f; second_name = g; account_name = t; asks = asks; first_held = first; second_held = second; there = fact.1 }; rejected = fact.2 }

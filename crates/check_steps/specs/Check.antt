@@ -6,7 +6,7 @@ use Rattle.account_check.specs.declared.verdict.Verdict.{Verdict}
 use Rattle.account_check.specs.declared.verdict.Why.{Why}
 use Rattle.net_core.specs.Sides.{Graphs}
 use Rattle.net_core.specs.declared.matching.Matching.{Matching}
-use Rattle.check_steps.specs.Held.{Netlist, HoldsNetlist, HoldsGraph}
+use Rattle.check_steps.specs.Held.{Netlist, HasNetlist, HasGraph}
 use Rattle.check_steps.specs.Words.{AsksCheck}
 
 -- The words ask for a check of two files that are netlists, and of the account under a name.
@@ -14,8 +14,8 @@ pub record IsAsked (held : List ℕ → Option (List ℕ)) (words : List (List �
   pub first_name : List ℕ
   pub second_name : List ℕ
   pub asks : AsksCheck words first_name second_name account_name
-  pub first_held : HoldsNetlist (held first_name) first
-  pub second_held : HoldsNetlist (held second_name) second
+  pub first_held : HasNetlist (held first_name) first
+  pub second_held : HasNetlist (held second_name) second
 
 -- Both files are netlists, and there is no account.
 pub record LacksAccount (held : List ℕ → Option (List ℕ)) (words : List (List ℕ)) : Type 0 where
@@ -31,8 +31,8 @@ pub record HasAccount (held : List ℕ → Option (List ℕ)) (words : List (Lis
   pub second_name : List ℕ
   pub account_name : List ℕ
   pub asks : AsksCheck words first_name second_name account_name
-  pub first_held : HoldsGraph (held first_name) graphs.first
-  pub second_held : HoldsGraph (held second_name) graphs.second
+  pub first_held : HasGraph (held first_name) graphs.first
+  pub second_held : HasGraph (held second_name) graphs.second
   pub there : held account_name ≡ Some account
 
 -- The account's records are all valid, and prove this: that a matching is a match, or that there is none.

@@ -1,7 +1,7 @@
 -- How a file that isn't there, or is no netlist, ends a run.
 use Rattle.std.specs.Prelude.{◌≡◌, ℕ, ◌⊎◌, List, Option, None}
 use Rattle.check_steps.specs.Check.{LacksAccount}
-use Rattle.check_steps.specs.Held.{Netlist, HoldsNetlist, HoldsFault, HoldsTooMuch}
+use Rattle.check_steps.specs.Held.{Netlist, HasNetlist, HasNetFault, HasTooMuch}
 use Rattle.check_steps.specs.Words.{AsksInfo, NameThree}
 use Rattle.check_steps.specs.declared.outcome.Which.{Which}
 use Rattle.check_steps.specs.declared.outcome.Which.TheVariants.{First, Second, Account}
@@ -12,8 +12,8 @@ use Rattle.check_steps.specs.declared.outcome.Outcome.TheVariants.{Absent, TooLa
 -- say nothing of it.
 abbrev pub EndsAt : Which → Option (List ℕ) → Outcome → Type 0
 EndsAt file content (Absent which) = (which ≡ file) × (content ≡ None)
-EndsAt file content (TooLarge which) = (which ≡ file) × HoldsTooMuch content
-EndsAt file content (Malformed which kind at) = (which ≡ file) × HoldsFault content kind at
+EndsAt file content (TooLarge which) = (which ≡ file) × HasTooMuch content
+EndsAt file content (Malformed which kind at) = (which ≡ file) × HasNetFault content kind at
 EndsAt file content ReadFault = Unit {0}
 EndsAt file content Memory = Unit {0}
 EndsAt file content other = ⊥
@@ -33,7 +33,7 @@ pub record EndsAtSecond (held : List ℕ → Option (List ℕ)) (words : List (L
   pub account_name : List ℕ
   pub asks : NameThree words first_name second_name account_name
   pub first : Netlist
-  pub first_held : HoldsNetlist (held first_name) first
+  pub first_held : HasNetlist (held first_name) first
   pub ends : EndsAt Second (held second_name) outcome
 
 -- The words ask for what is known of a file, which ends the run.

@@ -14,28 +14,28 @@ pub record Netlist : Type 0 where
   pub output_names : List (List ℕ)
 
 -- What stands under a name is a file of at most 67,108,864 bytes that is this netlist.
-pub record HoldsNetlist (content : Option (List ℕ)) (netlist : Netlist) : Type 0 where
+pub record HasNetlist (content : Option (List ℕ)) (netlist : Netlist) : Type 0 where
   pub bytes : List ℕ
   pub there : content ≡ Some bytes
   pub short : length bytes ≤ most_bytes
   pub is : IsCircuit bytes netlist.circuit netlist.input_names netlist.output_names
 
 -- What stands under a name is a file of at most 67,108,864 bytes with this first fault.
-pub record HoldsFault (content : Option (List ℕ)) (kind : NetKind) (at : ℕ) : Type 0 where
+pub record HasNetFault (content : Option (List ℕ)) (kind : NetKind) (at : ℕ) : Type 0 where
   pub bytes : List ℕ
   pub there : content ≡ Some bytes
   pub short : length bytes ≤ most_bytes
   pub is : IsCircuitFault bytes kind at
 
 -- What stands under a name is a file of more than 67,108,864 bytes.
-pub record HoldsTooMuch (content : Option (List ℕ)) : Type 0 where
+pub record HasTooMuch (content : Option (List ℕ)) : Type 0 where
   pub bytes : List ℕ
   pub there : content ≡ Some bytes
   pub long : most_bytes < length bytes
 
 -- What stands under a name is a netlist, and this is the graph by which accounts number its gates: its definitions by level, then by place, each expanded to
 -- gates.
-pub record HoldsGraph (content : Option (List ℕ)) (graph : Net) : Type 0 where
+pub record HasGraph (content : Option (List ℕ)) (graph : Net) : Type 0 where
   pub netlist : Netlist
-  pub holds : HoldsNetlist content netlist
+  pub holds : HasNetlist content netlist
   pub numbered : IsOrderOf netlist.circuit graph

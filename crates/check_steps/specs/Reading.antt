@@ -9,7 +9,7 @@ use Rattle.shelf_core.specs.Fault.{NoCallFollows, Rose}
 use Rattle.shelf_core.specs.State.{ShelfState, Closed}
 use Rattle.net_file.specs.declared.named.Named.{Named}
 use Rattle.check_steps.specs.Circuits.{IsCircuit, IsCircuitFault}
-use Rattle.check_steps.specs.Held.{Netlist, HoldsNetlist}
+use Rattle.check_steps.specs.Held.{Netlist, HasNetlist}
 use Rattle.check_steps.specs.Ends.{EndsAt}
 use Rattle.check_steps.specs.Lines.{IsOneLine}
 use Rattle.check_steps.specs.declared.outcome.Which.{Which}
@@ -52,7 +52,7 @@ netlist_of circuit named = record { circuit = circuit; input_names = named.input
 -- What stands under a name was read as this graph with these names.
 pub record IsReadFrom (tells : Bool) (content : Option (List ℕ)) (named : Named) : Type 0 where
   pub circuit : Circuit
-  pub held : IsTrue tells → HoldsNetlist content (netlist_of circuit named)
+  pub held : IsTrue tells → HasNetlist content (netlist_of circuit named)
   pub acyclic : IsAcyclic circuit
   pub few : length circuit.outputs ≤ most_ports
   pub computes : Computes named.graph circuit

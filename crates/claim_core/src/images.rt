@@ -110,8 +110,9 @@ fn moved_two(exchanged: bool, a: bool, b: bool, first: Pair, second: Pair) -> Sh
     }
 }
 
-// The value that an input has at its place.
-fn moved_value(exchanged: bool, input: Pair, value: bool) -> bool
+/// The value from which a pair's second input changes where its first one changes from `value`: opposite where either
+/// the pair or the output's pair is inverted, and the same where both are.
+pub fn moved_value(exchanged: bool, input: Pair, value: bool) -> bool
     ensures { result ≡ moved_value exchanged input value }
 {
     (value != input.flip) != exchanged

@@ -14,7 +14,7 @@ mod query;
 pub use claim_queries::of_claim;
 pub use claims::{Claim, Shape};
 pub use feeds::Feeds;
-pub use images::{image, pair_of};
+pub use images::{image, moved_value, pair_of};
 pub use info::{OutputInfo, Sym, Unate};
 pub use matches::of_match;
 pub use query::{Cone, Feed, Query};

@@ -10,7 +10,7 @@ use Rattle.net_core.specs.Sides.{Graphs}
 use Rattle.account_core.specs.Ports.{AreOrdered, IsKnown, StandInOrder}
 use Rattle.ban_book.specs.Rows.{HasOneOutput}
 use Rattle.ban_book.proofs.MismatchLemmas.{input_before}
-use Rattle.account_core.specs.Held.{AddsHeld, AreHeld, IsPart}
+use Rattle.account_core.specs.Assigned.{AddsAssigned, AreAssignable, IsPart}
 use Rattle.class_refine.specs.Rows.{AreInputs, AreInputsOf}
 use Rattle.circuits.proofs.Lists.{contains_cons}
 
@@ -32,9 +32,9 @@ one_with graphs inputs output are kind = record {
 }
 
 -- the assigned pairs of inputs are known
-pub inputs_known : (graphs : Graphs) (held inputs : List Pair) → AreHeld graphs held → AreInputsOf held inputs → AreInputs graphs inputs
-inputs_known graphs held inputs are of = record {
-  known = λ k d below. All-contains (IsKnown graphs) held (get_or inputs k d) are.known (of.part.among k d below);
+pub inputs_known : (graphs : Graphs) (assigned inputs : List Pair) → AreAssignable graphs assigned → AreInputsOf assigned inputs → AreInputs graphs inputs
+inputs_known graphs assigned inputs are of = record {
+  known = λ k d below. All-contains (IsKnown graphs) assigned (get_or inputs k d) are.known (of.part.among k d below);
   ordered = of.part.ordered;
   inputs = of.inputs;
 }
@@ -48,38 +48,38 @@ one_input graphs way known kind = record {
 }
 
 -- The assigned pairs of inputs so far.
-pub record IsTaking (held inputs : List Pair) (index : ℕ) : Type 0 where
-  pub part : IsPart held inputs
+pub record IsTaking (assigned inputs : List Pair) (index : ℕ) : Type 0 where
+  pub part : IsPart assigned inputs
   pub inputs_are : All (λ pair. pair.kind ≡ Input) inputs
-  pub all : All (λ pair. pair.kind ≡ Input → Contains inputs pair) (take index held)
+  pub all : All (λ pair. pair.kind ≡ Input → Contains inputs pair) (take index assigned)
 
-pub taking_none : (held inputs : List Pair) → inputs ≡ [] → IsTaking held inputs 0
-taking_none held inputs none = subst (λ (l : List Pair). IsTaking held l 0) (sym none) (record {
-  part = record { among = All-nil (Contains held); ordered = λ i j d less below. absurd (omega (arith, below)) };
+pub taking_none : (assigned inputs : List Pair) → inputs ≡ [] → IsTaking assigned inputs 0
+taking_none assigned inputs none = subst (λ (l : List Pair). IsTaking assigned l 0) (sym none) (record {
+  part = record { among = All-nil (Contains assigned); ordered = λ i j d less below. absurd (omega (arith, below)) };
   inputs_are = All-nil (λ (p : Pair). p.kind ≡ Input);
   all = All-nil (λ (p : Pair). p.kind ≡ Input → Contains [] p);
 })
 
-pub taking_more : (held before after : List Pair) (index : ℕ) (d : Pair) → index < length held → IsTaking held before index → AddsHeld held before after → All (λ pair. pair.kind ≡ Input) after → ((get_or held index d).kind ≡ Input → Contains after (get_or held index d)) → IsTaking held after (index + 1)
-taking_more held before after index d below is adds inputs here = record {
+pub taking_more : (assigned before after : List Pair) (index : ℕ) (d : Pair) → index < length assigned → IsTaking assigned before index → AddsAssigned assigned before after → All (λ pair. pair.kind ≡ Input) after → ((get_or assigned index d).kind ≡ Input → Contains after (get_or assigned index d)) → IsTaking assigned after (index + 1)
+taking_more assigned before after index d below is adds inputs here = record {
   part = adds.part;
   inputs_are = inputs;
-  all = subst (All P) (sym (take_more held index d below)) (All-push P (take index held) (get_or held index d) (λ k e within kind. All-contains (Contains after) before (get_or (take index held) k e) adds.stays (is.all k e within kind)) here);
+  all = subst (All P) (sym (take_more assigned index d below)) (All-push P (take index assigned) (get_or assigned index d) (λ k e within kind. All-contains (Contains after) before (get_or (take index assigned) k e) adds.stays (is.all k e within kind)) here);
 }
   where
     P : Pair → Type 0
     P p = p.kind ≡ Input → Contains after p
 
 -- pairs of inputs and one of the assigned pairs are among both
-pub with_among : (inputs held : List Pair) (pair : Pair) → Contains held pair → All (Contains (inputs ++ held)) (inputs ++ pair ∷ [])
-with_among inputs held pair there =
-    All-push (Contains (inputs ++ held)) inputs pair (λ k d below. Contains-append_left inputs held (get_or inputs k d) (Contains-get_or inputs k d below)) (Contains-append_right inputs held pair there)
+pub with_among : (inputs assigned : List Pair) (pair : Pair) → Contains assigned pair → All (Contains (inputs ++ assigned)) (inputs ++ pair ∷ [])
+with_among inputs assigned pair there =
+    All-push (Contains (inputs ++ assigned)) inputs pair (λ k d below. Contains-append_left inputs assigned (get_or inputs k d) (Contains-get_or inputs k d below)) (Contains-append_right inputs assigned pair there)
 
 -- the assigned pairs of inputs are assigned pairs
-pub both_among : (held inputs : List Pair) → AreInputsOf held inputs → All (Contains held) (inputs ++ held)
-both_among held inputs of = All-append (Contains held) inputs held of.part.among (All-contains_itself held)
+pub both_among : (assigned inputs : List Pair) → AreInputsOf assigned inputs → All (Contains assigned) (inputs ++ assigned)
+both_among assigned inputs of = All-append (Contains assigned) inputs assigned of.part.among (All-contains_itself assigned)
 
 -- and with a way after them they are among it and the assigned pairs
-pub way_among : (held inputs : List Pair) (way : Pair) → AreInputsOf held inputs → All (Contains (way ∷ held)) (inputs ++ way ∷ [])
-way_among held inputs way of =
-    All-push (Contains (way ∷ held)) inputs way (λ k d below. contains_cons held way (get_or inputs k d) (of.part.among k d below)) (0, omega arith, refl)
+pub way_among : (assigned inputs : List Pair) (way : Pair) → AreInputsOf assigned inputs → All (Contains (way ∷ assigned)) (inputs ++ way ∷ [])
+way_among assigned inputs way of =
+    All-push (Contains (way ∷ assigned)) inputs way (λ k d below. contains_cons assigned way (get_or inputs k d) (of.part.among k d below)) (0, omega arith, refl)

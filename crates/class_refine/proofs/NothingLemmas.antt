@@ -18,7 +18,7 @@ use Rattle.ban_book.proofs.CarriedLemmas.{IsCarried, carried_by, one_back}
 use Rattle.ban_book.proofs.ShownLemmas.{tally_in}
 use Rattle.ban_book.specs.Shown.{IsShownBan}
 use Rattle.ban_book.proofs.MismatchLemmas.{one_image, pair_of-one}
-use Rattle.account_core.specs.Held.{AreHeld}
+use Rattle.account_core.specs.Assigned.{AreAssignable}
 use Rattle.ban_book.proofs.BlockListLemmas.{among_more}
 use Rattle.class_refine.specs.Rows.{AreInputsOf, ShowNothingAt}
 use Rattle.class_refine.proofs.InputLemmas.{inputs_known, kinds_differ, one_input, ordered_with}
@@ -59,14 +59,14 @@ module _ (graphs : Graphs) (facts : List Decided) (pairs : List Pair) (are : Are
       elim shown.rule.image [
         | inl image ↦
             let is = carried_by pairs (fact fails).claim (fact holds).claim image single in
-            let few = are.both is.input is.output is.input_held is.input_kind is.output_held is.output_kind in
+            let few = are.both is.input is.output is.input_among is.input_kind is.output_among is.output_kind in
             few.nothing.no_mismatch fails holds single (record {
               names = shown.names;
               rule = record { one_fails = shown.rule.one_fails; other_holds = shown.rule.other_holds; image = inl (image_in few.pairs pairs (fact fails).claim (fact holds).claim few.ordered is few.has_input few.has_output) };
             })
         | inr image ↦
             let is = carried_by pairs (fact holds).claim (fact fails).claim image (one_back pairs (fact holds).claim (fact fails).claim image single) in
-            let few = are.both is.input is.output is.input_held is.input_kind is.output_held is.output_kind in
+            let few = are.both is.input is.output is.input_among is.input_kind is.output_among is.output_kind in
             few.nothing.no_mismatch fails holds single (record {
               names = shown.names;
               rule = record { one_fails = shown.rule.one_fails; other_holds = shown.rule.other_holds; image = inr (image_in few.pairs pairs (fact holds).claim (fact fails).claim few.ordered is few.has_input few.has_output) };
@@ -82,18 +82,18 @@ module _ (graphs : Graphs) (facts : List Decided) (pairs : List Pair) (are : Are
   nothing_of = record { no_mismatch = no_mismatch; no_tally = no_tally }
 
 -- assigned pairs, of whose inputs and any one output facts show nothing
-module _ (graphs : Graphs) (facts : List Decided) (held inputs : List Pair) (are : AreHeld graphs held) (of : AreInputsOf held inputs) (alone : ShowNothingAt graphs facts inputs held) where
-  nothing_at : (output : Pair) → Contains held output → output.kind ≡ Output → HaveNoFacts graphs facts (inputs ++ output ∷ [])
-  nothing_at output there kind = All-contains (λ (p : Pair). p.kind ≡ Output → HaveNoFacts graphs facts (inputs ++ p ∷ [])) held output alone there kind
+module _ (graphs : Graphs) (facts : List Decided) (assigned inputs : List Pair) (are : AreAssignable graphs assigned) (of : AreInputsOf assigned inputs) (alone : ShowNothingAt graphs facts inputs assigned) where
+  nothing_at : (output : Pair) → Contains assigned output → output.kind ≡ Output → HaveNoFacts graphs facts (inputs ++ output ∷ [])
+  nothing_at output there kind = All-contains (λ (p : Pair). p.kind ≡ Output → HaveNoFacts graphs facts (inputs ++ p ∷ [])) assigned output alone there kind
 
-  input_of : (input : Pair) → Contains held input → input.kind ≡ Input → Contains inputs input
-  input_of input there kind = All-contains (λ (p : Pair). p.kind ≡ Input → Contains inputs p) held input of.all there kind
+  input_of : (input : Pair) → Contains assigned input → input.kind ≡ Input → Contains inputs input
+  input_of input there kind = All-contains (λ (p : Pair). p.kind ≡ Input → Contains inputs p) assigned input of.all there kind
 
   -- with an output's pair, of which facts show nothing either
-  with_output : (input output : Pair) → Contains held input → input.kind ≡ Input → output.kind ≡ Output → HaveNoFacts graphs facts (inputs ++ output ∷ []) → IsCleared graphs facts input output
+  with_output : (input output : Pair) → Contains assigned input → input.kind ≡ Input → output.kind ≡ Output → HaveNoFacts graphs facts (inputs ++ output ∷ []) → IsCleared graphs facts input output
   with_output input output there kind of_output nothing = record {
     pairs = inputs ++ output ∷ [];
-    ordered = ordered_with graphs inputs output (inputs_known graphs held inputs are of) of_output;
+    ordered = ordered_with graphs inputs output (inputs_known graphs assigned inputs are of) of_output;
     has_input = Contains-append_left inputs (output ∷ []) input (input_of input there kind);
     has_output = Contains-push inputs output;
     nothing = nothing;
@@ -102,79 +102,79 @@ module _ (graphs : Graphs) (facts : List Decided) (held inputs : List Pair) (are
   one_output : (output : Pair) → HaveNoFacts graphs facts (inputs ++ output ∷ []) → IsOneCleared graphs facts output
   one_output output nothing = record { pairs = inputs ++ output ∷ []; has = Contains-push inputs output; nothing = nothing }
 
-  held_cleared : AreCleared graphs facts held
-  held_cleared = record {
-    both = λ input output there kind held_output of_output. with_output input output there kind of_output (nothing_at output held_output of_output);
+  assigned_cleared : AreCleared graphs facts assigned
+  assigned_cleared = record {
+    both = λ input output there kind assigned_output of_output. with_output input output there kind of_output (nothing_at output assigned_output of_output);
     one = λ output there kind. one_output output (nothing_at output there kind);
   }
 
-  pub nothing_held : HaveNoFacts graphs facts held
-  nothing_held = nothing_of graphs facts held held_cleared
+  pub nothing_assigned : HaveNoFacts graphs facts assigned
+  nothing_assigned = nothing_of graphs facts assigned assigned_cleared
 
-  beside_cases : (pair other : Pair) → Contains held pair → Contains (pair ∷ held) other → Contains held other
-  beside_cases pair other there in_both = elim (cons_cases held pair other in_both) [ inl same ↦ subst (Contains held) same there | inr later ↦ later ]
+  beside_cases : (pair other : Pair) → Contains assigned pair → Contains (pair ∷ assigned) other → Contains assigned other
+  beside_cases pair other there in_both = elim (cons_cases assigned pair other in_both) [ inl same ↦ subst (Contains assigned) same there | inr later ↦ later ]
 
   -- beside them one of them adds nothing
-  pub nothing_beside : (pair : Pair) → Contains held pair → HaveNoFacts graphs facts (pair ∷ held)
+  pub nothing_beside : (pair : Pair) → Contains assigned pair → HaveNoFacts graphs facts (pair ∷ assigned)
   nothing_beside pair there =
-      nothing_of graphs facts (pair ∷ held) (record {
-        both = λ input output a kind b of_output. held_cleared.both input output (beside_cases pair input there a) kind (beside_cases pair output there b) of_output;
-        one = λ output a kind. held_cleared.one output (beside_cases pair output there a) kind;
+      nothing_of graphs facts (pair ∷ assigned) (record {
+        both = λ input output a kind b of_output. assigned_cleared.both input output (beside_cases pair input there a) kind (beside_cases pair output there b) of_output;
+        one = λ output a kind. assigned_cleared.one output (beside_cases pair output there a) kind;
       })
 
   -- nor does an output's, if facts show nothing of it and the inputs
   module _ (way : Pair) (kind_is : way.kind ≡ Output) (nothing : HaveNoFacts graphs facts (inputs ++ way ∷ [])) where
-    output_nothing : (output : Pair) → Contains (way ∷ held) output → output.kind ≡ Output → HaveNoFacts graphs facts (inputs ++ output ∷ [])
+    output_nothing : (output : Pair) → Contains (way ∷ assigned) output → output.kind ≡ Output → HaveNoFacts graphs facts (inputs ++ output ∷ [])
     output_nothing output there kind =
-        elim (cons_cases held way output there) [
+        elim (cons_cases assigned way output there) [
           | inl same ↦ subst (λ (p : Pair). HaveNoFacts graphs facts (inputs ++ p ∷ [])) same nothing
           | inr later ↦ nothing_at output later kind
         ]
 
-    held_input : (input : Pair) → Contains (way ∷ held) input → input.kind ≡ Input → Contains held input
-    held_input input there kind =
-        elim (cons_cases held way input there) [
+    assigned_input : (input : Pair) → Contains (way ∷ assigned) input → input.kind ≡ Input → Contains assigned input
+    assigned_input input there kind =
+        elim (cons_cases assigned way input there) [
           | inl same ↦ absurd (kinds_differ (sym kind ∙ (sym (ap (λ (p : Pair). p.kind) same) ∙ kind_is)))
           | inr later ↦ later
         ]
 
-    pub nothing_of_output : HaveNoFacts graphs facts (way ∷ held)
+    pub nothing_of_output : HaveNoFacts graphs facts (way ∷ assigned)
     nothing_of_output =
-        nothing_of graphs facts (way ∷ held) (record {
-          both = λ input output a kind b of_output. with_output input output (held_input input a kind) kind of_output (output_nothing output b of_output);
+        nothing_of graphs facts (way ∷ assigned) (record {
+          both = λ input output a kind b of_output. with_output input output (assigned_input input a kind) kind of_output (output_nothing output b of_output);
           one = λ output there kind. one_output output (output_nothing output there kind);
         })
 
   -- nor does an input's, if facts show nothing of it and any one output
-  module _ (way : Pair) (known : IsKnown graphs way) (kind_is : way.kind ≡ Input) (nothing : ShowNothingAt graphs facts (way ∷ []) held) where
-    held_output : (output : Pair) → Contains (way ∷ held) output → output.kind ≡ Output → Contains held output
-    held_output output there kind =
-        elim (cons_cases held way output there) [
+  module _ (way : Pair) (known : IsKnown graphs way) (kind_is : way.kind ≡ Input) (nothing : ShowNothingAt graphs facts (way ∷ []) assigned) where
+    assigned_output : (output : Pair) → Contains (way ∷ assigned) output → output.kind ≡ Output → Contains assigned output
+    assigned_output output there kind =
+        elim (cons_cases assigned way output there) [
           | inl same ↦ absurd (kinds_differ (sym kind_is ∙ (ap (λ (p : Pair). p.kind) same ∙ kind)))
           | inr later ↦ later
         ]
 
-    with_way : (output : Pair) → Contains held output → output.kind ≡ Output → IsCleared graphs facts way output
+    with_way : (output : Pair) → Contains assigned output → output.kind ≡ Output → IsCleared graphs facts way output
     with_way output there kind = record {
       pairs = (way ∷ []) ++ output ∷ [];
       ordered = ordered_with graphs (way ∷ []) output (one_input graphs way known kind_is) kind;
       has_input = Contains-append_left (way ∷ []) (output ∷ []) way (Contains-push [] way);
       has_output = Contains-push (way ∷ []) output;
-      nothing = All-contains (λ (p : Pair). p.kind ≡ Output → HaveNoFacts graphs facts ((way ∷ []) ++ p ∷ [])) held output nothing there kind;
+      nothing = All-contains (λ (p : Pair). p.kind ≡ Output → HaveNoFacts graphs facts ((way ∷ []) ++ p ∷ [])) assigned output nothing there kind;
     }
 
-    way_both : (input output : Pair) → Contains (way ∷ held) input → input.kind ≡ Input → Contains held output → output.kind ≡ Output → IsCleared graphs facts input output
-    way_both input output there kind held_one of_output =
-        elim (cons_cases held way input there) [
-          | inl same ↦ subst (λ (p : Pair). IsCleared graphs facts p output) same (with_way output held_one of_output)
-          | inr later ↦ held_cleared.both input output later kind held_one of_output
+    way_both : (input output : Pair) → Contains (way ∷ assigned) input → input.kind ≡ Input → Contains assigned output → output.kind ≡ Output → IsCleared graphs facts input output
+    way_both input output there kind made_one of_output =
+        elim (cons_cases assigned way input there) [
+          | inl same ↦ subst (λ (p : Pair). IsCleared graphs facts p output) same (with_way output made_one of_output)
+          | inr later ↦ assigned_cleared.both input output later kind made_one of_output
         ]
 
-    pub nothing_of_input : HaveNoFacts graphs facts (way ∷ held)
+    pub nothing_of_input : HaveNoFacts graphs facts (way ∷ assigned)
     nothing_of_input =
-        nothing_of graphs facts (way ∷ held) (record {
-          both = λ input output a kind b of_output. way_both input output a kind (held_output output b of_output) of_output;
-          one = λ output there kind. held_cleared.one output (held_output output there kind) kind;
+        nothing_of graphs facts (way ∷ assigned) (record {
+          both = λ input output a kind b of_output. way_both input output a kind (assigned_output output b of_output) of_output;
+          one = λ output there kind. assigned_cleared.one output (assigned_output output there kind) kind;
         })
 
 -- a ban of some pairs is one of more of them

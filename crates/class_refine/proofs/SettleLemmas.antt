@@ -14,17 +14,17 @@ use Rattle.ban_book.specs.Covering.{IsWithin}
 use Rattle.ban_book.specs.Vectors.{HaveNoFacts}
 use Rattle.pair_domains.specs.declared.entry.Entry.{Entry}
 use Rattle.pair_domains.specs.declared.entry.Fate.{Fate}
-use Rattle.pair_domains.specs.declared.entry.Fate.TheVariants.{Held, Deleted}
+use Rattle.pair_domains.specs.declared.entry.Fate.TheVariants.{Assigned, Deleted}
 use Rattle.pair_domains.specs.declared.entry.Reason.{Reason}
-use Rattle.pair_domains.specs.Trails.{Domained, IsDeleted, IsPairOf, held_in, is_held}
+use Rattle.pair_domains.specs.Trails.{Domained, IsDeleted, IsPairOf, assigned_in, is_assigned}
 use Rattle.pair_domains.proofs.EntryLemmas.{one_if}
 use Rattle.pair_domains.proofs.NumberLemmas.{same_pair}
 use Rattle.pair_search.specs.Named.{deleted}
-use Rattle.account_core.specs.Held.{AreApart}
+use Rattle.account_core.specs.Assigned.{AreApart}
 use Rattle.ban_book.specs.Ways.{nth_way}
 use Rattle.ban_book.proofs.BlockListLemmas.{among_more, contained_of_any}
-use Rattle.ban_book.proofs.OrderLemmas.{held_apart}
-use Rattle.pair_search.proofs.PortLemmas.{held_by}
+use Rattle.ban_book.proofs.OrderLemmas.{assigned_apart}
+use Rattle.pair_search.proofs.PortLemmas.{assigned_by}
 use Rattle.class_refine.specs.declared.grounds.Grounds.{Grounds}
 use Rattle.class_refine.specs.Refining.{OnlyDeletes, Refines}
 use Rattle.class_refine.specs.Rows.{decided}
@@ -71,22 +71,22 @@ deleted_later : (before after : Domained) (pair : Pair) → OnlyDeletes before a
 deleted_later before after pair deletes gone =
     (gone.0, subst (λ (l : List Entry). Contains l (deleted pair gone.0)) (sym deletes.more) (Contains-append_left before.entries deletes.added (deleted pair gone.0) gone.1))
 
-clear_later : (g : Grounds) (bans : List Ban) (before after : Domained) (pair : Pair) → OnlyDeletes before after → IsClear g bans (held_in before.entries) pair → IsClear g bans (held_in after.entries) pair
-clear_later g bans before after pair deletes clear = subst (λ l. IsClear g bans l pair) (sym deletes.held) clear
+clear_later : (g : Grounds) (bans : List Ban) (before after : Domained) (pair : Pair) → OnlyDeletes before after → IsClear g bans (assigned_in before.entries) pair → IsClear g bans (assigned_in after.entries) pair
+clear_later g bans before after pair deletes clear = subst (λ l. IsClear g bans l pair) (sym deletes.assigned) clear
 
 -- a ban that isn't within pairs isn't within them and one of them
-pub no_ban_beside : (bans : List Ban) (held : List Pair) (pair : Pair) → Contains held pair → HaveNoBan bans held → HaveNoBan bans (pair ∷ held)
-no_ban_beside bans held pair there no_ban k d below within =
-    no_ban k d below (record { among = among_more (get_or bans k d).pairs (pair ∷ held) held within.among (All-cons (Contains held) pair held there (All-contains_itself held)) })
+pub no_ban_beside : (bans : List Ban) (assigned : List Pair) (pair : Pair) → Contains assigned pair → HaveNoBan bans assigned → HaveNoBan bans (pair ∷ assigned)
+no_ban_beside bans assigned pair there no_ban k d below within =
+    no_ban k d below (record { among = among_more (get_or bans k d).pairs (pair ∷ assigned) assigned within.among (All-cons (Contains assigned) pair assigned there (All-contains_itself assigned)) })
 
 -- an assigned pair clashes with none
 no_clash : (one other : Pair) → (one ≡ other) ⊎ AreApart one other → Clash one other → ⊥
 no_clash one other (inl same) clash = clash.differ same
 no_clash one other (inr apart) clash = elim clash.share [ inl from ↦ apart.from clash.same_kind from | inr to ↦ apart.to clash.same_kind to ]
 
-pub held_possible : (held : List Pair) (pair : Pair) → AllPairs AreApart held → Contains held pair → IsImpossible held pair → ⊥
-held_possible held pair apart there impossible =
-    no_clash impossible.1 pair (held_apart held impossible.1 pair apart (contained_of_any (λ (p : Pair). Clash p pair) held impossible) there) impossible.4
+pub assigned_possible : (assigned : List Pair) (pair : Pair) → AllPairs AreApart assigned → Contains assigned pair → IsImpossible assigned pair → ⊥
+assigned_possible assigned pair apart there impossible =
+    no_clash impossible.1 pair (assigned_apart assigned impossible.1 pair apart (contained_of_any (λ (p : Pair). Clash p pair) assigned impossible) there) impossible.4
 
 -- Some pairs were settled.
 pub record IsUnderWay (g : Grounds) (bans more : List Ban) (before after : Domained) (these : Pair → Type 0) : Type 0 where
@@ -139,7 +139,7 @@ stops g bans more before after these (Ok x) is refines = absurd (false≢true is
 stops g bans more before after these (Err stop) is refines = record { refines = refines; settled = tt; dead = tt }
 
 -- a pair that is settled as it is
-pub settles_now : {E : Type 0} (g : Grounds) (bans : List Ban) (d : Domained) (way : Pair) → HaveNoBan bans (held_in d.entries) → IsSettled g bans d way → Settles {E = E} g bans bans d d (λ pair. pair ≡ way) (Ok None)
+pub settles_now : {E : Type 0} (g : Grounds) (bans : List Ban) (d : Domained) (way : Pair) → HaveNoBan bans (assigned_in d.entries) → IsSettled g bans d way → Settles {E = E} g bans bans d d (λ pair. pair ≡ way) (Ok None)
 settles_now g bans d way no_ban is = record {
   refines = refines_none g.graphs.now (decided g) bans d;
   settled = record { no_ban = no_ban; kept = λ pair before. before; settled = λ pair same. subst (IsSettled g bans d) (sym same) is };
@@ -151,11 +151,11 @@ deleted_now : (before after : Domained) (way : Pair) (why : Reason) → after �
 deleted_now before after way why is pair same =
     subst (IsDeleted after.entries) (sym same) (why, subst (λ (l : List Entry). Contains l (deleted way why)) (sym (ap (λ (d : Domained). d.entries) is)) (Contains-push before.entries (deleted way why)))
 
-pub settles_deleted : {E : Type 0} (g : Grounds) (bans : List Ban) (before after : Domained) (way : Pair) (why : Reason) → after ≡ record before { entries = before.entries ++ deleted way why ∷ [] } → Refines g.graphs.now (decided g) bans bans before after → HaveNoBan bans (held_in before.entries) → Settles {E = E} g bans bans before after (λ pair. pair ≡ way) (Ok None)
+pub settles_deleted : {E : Type 0} (g : Grounds) (bans : List Ban) (before after : Domained) (way : Pair) (why : Reason) → after ≡ record before { entries = before.entries ++ deleted way why ∷ [] } → Refines g.graphs.now (decided g) bans bans before after → HaveNoBan bans (assigned_in before.entries) → Settles {E = E} g bans bans before after (λ pair. pair ≡ way) (Ok None)
 settles_deleted g bans before after way why after_is refines no_ban = record {
   refines = refines;
   settled = record {
-    no_ban = subst (HaveNoBan bans) (sym refines.deletes.held) no_ban;
+    no_ban = subst (HaveNoBan bans) (sym refines.deletes.assigned) no_ban;
     kept = λ pair is. elim is [
       | inl gone ↦ inl (deleted_later before after pair refines.deletes gone)
       | inr clear ↦ inr (clear_later g bans before after pair refines.deletes clear)
@@ -166,21 +166,21 @@ settles_deleted g bans before after way why after_is refines no_ban = record {
 }
 
 -- a ban within one pair and the assigned ones, and not within these, isn't within them and another one
-not_within : (held : List Pair) (way pair : Pair) (ban : Ban) → pair ≢ way → IsWithin (way ∷ held) ban → (IsWithin held ban → ⊥) → IsWithin (pair ∷ held) ban → ⊥
-not_within held way pair ban differ within alone other =
-    alone (record { among = λ k d below. in_both (get_or ban.pairs k d) (cons_cases held way (get_or ban.pairs k d) (within.among k d below)) (cons_cases held pair (get_or ban.pairs k d) (other.among k d below)) })
+not_within : (assigned : List Pair) (way pair : Pair) (ban : Ban) → pair ≢ way → IsWithin (way ∷ assigned) ban → (IsWithin assigned ban → ⊥) → IsWithin (pair ∷ assigned) ban → ⊥
+not_within assigned way pair ban differ within alone other =
+    alone (record { among = λ k d below. in_both (get_or ban.pairs k d) (cons_cases assigned way (get_or ban.pairs k d) (within.among k d below)) (cons_cases assigned pair (get_or ban.pairs k d) (other.among k d below)) })
   where
-    in_both : (x : Pair) → (way ≡ x) ⊎ Contains held x → (pair ≡ x) ⊎ Contains held x → Contains held x
+    in_both : (x : Pair) → (way ≡ x) ⊎ Contains assigned x → (pair ≡ x) ⊎ Contains assigned x → Contains assigned x
     in_both x (inr there) second = there
     in_both x (inl same) (inr there) = there
     in_both x (inl same) (inl also) = absurd (differ (also ∙ sym same))
 
 -- a pair that is deleted by a ban that is kept for it
-pub settles_banned : {E : Type 0} (g : Grounds) (bans more : List Ban) (before after : Domained) (way : Pair) (ban : Ban) (number : Reason) → more ≡ bans ++ ban ∷ [] → after ≡ record before { entries = before.entries ++ deleted way number ∷ [] } → Refines g.graphs.now (decided g) bans more before after → IsWithin (way ∷ held_in before.entries) ban → HaveNoBan more (held_in before.entries) → Settles {E = E} g bans more before after (λ pair. pair ≡ way) (Ok None)
+pub settles_banned : {E : Type 0} (g : Grounds) (bans more : List Ban) (before after : Domained) (way : Pair) (ban : Ban) (number : Reason) → more ≡ bans ++ ban ∷ [] → after ≡ record before { entries = before.entries ++ deleted way number ∷ [] } → Refines g.graphs.now (decided g) bans more before after → IsWithin (way ∷ assigned_in before.entries) ban → HaveNoBan more (assigned_in before.entries) → Settles {E = E} g bans more before after (λ pair. pair ≡ way) (Ok None)
 settles_banned g bans more before after way ban number more_is after_is refines within no_ban = record {
   refines = refines;
   settled = record {
-    no_ban = subst (HaveNoBan more) (sym refines.deletes.held) no_ban;
+    no_ban = subst (HaveNoBan more) (sym refines.deletes.assigned) no_ban;
     kept = λ pair is. elim is [
       | inl gone ↦ inl (deleted_later before after pair refines.deletes gone)
       | inr clear ↦ by_pair pair clear (pair_or_not pair way)
@@ -190,40 +190,40 @@ settles_banned g bans more before after way ban number more_is after_is refines 
   dead = tt;
 }
   where
-    held : List Pair
-    held = held_in before.entries
+    assigned : List Pair
+    assigned = assigned_in before.entries
 
-    last_no : IsWithin held ban → ⊥
-    last_no = All-contains (λ (b : Ban). IsWithin held b → ⊥) (bans ++ ban ∷ []) ban (subst (λ l. HaveNoBan l held) more_is no_ban) (Contains-push bans ban)
+    last_no : IsWithin assigned ban → ⊥
+    last_no = All-contains (λ (b : Ban). IsWithin assigned b → ⊥) (bans ++ ban ∷ []) ban (subst (λ l. HaveNoBan l assigned) more_is no_ban) (Contains-push bans ban)
 
-    by_pair : (pair : Pair) → IsClear g bans held pair → (pair ≡ way) ⊎ (pair ≢ way) → IsSettled g more after pair
+    by_pair : (pair : Pair) → IsClear g bans assigned pair → (pair ≡ way) ⊎ (pair ≢ way) → IsSettled g more after pair
     by_pair pair clear (inl same) = inl (deleted_now before after way number after_is pair same)
     by_pair pair clear (inr differ) = inr (clear_later g more before after pair refines.deletes (record {
       possible = clear.possible;
       clean = record {
-        no_ban = subst (λ l. HaveNoBan l (pair ∷ held)) (sym more_is) (All-push (λ (b : Ban). IsWithin (pair ∷ held) b → ⊥) bans ban clear.clean.no_ban (not_within held way pair ban differ within last_no));
+        no_ban = subst (λ l. HaveNoBan l (pair ∷ assigned)) (sym more_is) (All-push (λ (b : Ban). IsWithin (pair ∷ assigned) b → ⊥) bans ban clear.clean.no_ban (not_within assigned way pair ban differ within last_no));
         no_facts = clear.clean.no_facts;
         no_swap = clear.clean.no_swap;
       };
     }))
 
 -- a pair that is assigned is settled
-held_entry : (es : List Entry) (pair : Pair) (fate : Fate) → Contains es (record { pair = pair; fate = fate }) → is_held fate ≡ true → Contains (held_in es) pair
-held_entry es pair fate there held =
+assigned_entry : (es : List Entry) (pair : Pair) (fate : Fate) → Contains es (record { pair = pair; fate = fate }) → is_assigned fate ≡ true → Contains (assigned_in es) pair
+assigned_entry es pair fate there assigned =
     let e : Entry = record { pair = pair; fate = fate } in
-    subst (Contains (held_in es)) (ap (λ (x : Entry). x.pair) there.2) (held_by es there.0 e there.1 (ap (λ (x : Entry). is_held x.fate) there.2 ∙ held))
+    subst (Contains (assigned_in es)) (ap (λ (x : Entry). x.pair) there.2) (assigned_by es there.0 e there.1 (ap (λ (x : Entry). is_assigned x.fate) there.2 ∙ assigned))
 
-pub held_clear : (g : Grounds) (bans : List Ban) (held : List Pair) (pair : Pair) → AllPairs AreApart held → Contains held pair → HaveNoBan bans held → HaveNoSwapMismatch g.graphs.now (decided g) held → HaveNoFacts g.graphs.now (decided g) (pair ∷ held) → IsClear g bans held pair
-held_clear g bans held pair apart there no_ban no_swap nothing = record {
-  possible = held_possible held pair apart there;
-  clean = record { no_ban = no_ban_beside bans held pair there no_ban; no_facts = nothing; no_swap = no_swap_beside g.graphs.now (decided g) held pair apart there no_swap };
+pub assigned_clear : (g : Grounds) (bans : List Ban) (assigned : List Pair) (pair : Pair) → AllPairs AreApart assigned → Contains assigned pair → HaveNoBan bans assigned → HaveNoSwapMismatch g.graphs.now (decided g) assigned → HaveNoFacts g.graphs.now (decided g) (pair ∷ assigned) → IsClear g bans assigned pair
+assigned_clear g bans assigned pair apart there no_ban no_swap nothing = record {
+  possible = assigned_possible assigned pair apart there;
+  clean = record { no_ban = no_ban_beside bans assigned pair there no_ban; no_facts = nothing; no_swap = no_swap_beside g.graphs.now (decided g) assigned pair apart there no_swap };
 }
 
 -- and so is one that is deleted
-pub entry_settled : (g : Grounds) (bans : List Ban) (d : Domained) (pair : Pair) (fate : Fate) → AllPairs AreApart (held_in d.entries) → HaveNoBan bans (held_in d.entries) → HaveNoSwapMismatch g.graphs.now (decided g) (held_in d.entries) → (Contains (held_in d.entries) pair → HaveNoFacts g.graphs.now (decided g) (pair ∷ held_in d.entries)) → Contains d.entries (record { pair = pair; fate = fate }) → IsSettled g bans d pair
-entry_settled g bans d pair (Held cause) apart no_ban no_swap nothing there =
-    let held = held_entry d.entries pair (Held cause) there refl in
-    inr (held_clear g bans (held_in d.entries) pair apart held no_ban no_swap (nothing held))
+pub entry_settled : (g : Grounds) (bans : List Ban) (d : Domained) (pair : Pair) (fate : Fate) → AllPairs AreApart (assigned_in d.entries) → HaveNoBan bans (assigned_in d.entries) → HaveNoSwapMismatch g.graphs.now (decided g) (assigned_in d.entries) → (Contains (assigned_in d.entries) pair → HaveNoFacts g.graphs.now (decided g) (pair ∷ assigned_in d.entries)) → Contains d.entries (record { pair = pair; fate = fate }) → IsSettled g bans d pair
+entry_settled g bans d pair (Assigned cause) apart no_ban no_swap nothing there =
+    let assigned = assigned_entry d.entries pair (Assigned cause) there refl in
+    inr (assigned_clear g bans (assigned_in d.entries) pair apart assigned no_ban no_swap (nothing assigned))
 entry_settled g bans d pair (Deleted why) apart no_ban no_swap nothing there = inl (why, there)
 
 -- the first ways of a port of the first circuit, and the pairs of the first ports of a kind

@@ -6,7 +6,7 @@ use Rattle.claim_core.specs.declared.claims.Claim.{Claim}
 use Rattle.claim_core.specs.contracts.claims.ClaimPartialEq.TheImpl.{eq-value as claim_eq}
 use Rattle.claim_core.proofs.EqualLemmas.{claim_decides}
 use Rattle.account_core.specs.Given.{Decided, fact_at, given_of}
-use Rattle.ban_book.specs.Told.{IsToldAs}
+use Rattle.ban_book.specs.DecidedClaims.{IsDecidedAs}
 use Rattle.class_refine.specs.Stable.{HasTwoInputs}
 use Rattle.class_refine.specs.Swaps.{IsIndexOfFirst, IsSwapIndex, SaysOf, number_in}
 use borrow.Author.Count.{below_more}
@@ -69,11 +69,11 @@ module _ (facts : List Decided) where
   found_in entries claim number index is = subst (λ r. IfSome r (IsOf claim)) is (index.each claim)
 
   -- one that a fact is of: no other one is
-  pub says_one : (claim : Claim) (holds told_holds : Bool) (number : ℕ) → AllPairs (λ (one other : Decided). one.claim ≢ other.claim) facts → IsToldAs facts claim told_holds number → told_holds ≡ holds → (k : ℕ) → k < length facts → SaysOf facts claim holds k
-  says_one claim holds told_holds number distinct told says k below same =
-      let of_claim : claim_at number ≡ claim = ap (λ (fact : Decided). fact.claim) told.says in
+  pub says_one : (claim : Claim) (holds decided_holds : Bool) (number : ℕ) → AllPairs (λ (one other : Decided). one.claim ≢ other.claim) facts → IsDecidedAs facts claim decided_holds number → decided_holds ≡ holds → (k : ℕ) → k < length facts → SaysOf facts claim holds k
+  says_one claim holds decided_holds number distinct decided_one says k below same =
+      let of_claim : claim_at number ≡ claim = ap (λ (fact : Decided). fact.claim) decided_one.says in
       elim (cases_order k number) [
-        | inl one ↦ subst (λ n. (fact_at (given_of facts []) n).holds ≡ holds) (sym one) (ap (λ (fact : Decided). fact.holds) told.says ∙ says)
-        | inr (inl less) ↦ absurd (distinct k number _ less told.within (same ∙ sym of_claim))
+        | inl one ↦ subst (λ n. (fact_at (given_of facts []) n).holds ≡ holds) (sym one) (ap (λ (fact : Decided). fact.holds) decided_one.says ∙ says)
+        | inr (inl less) ↦ absurd (distinct k number _ less decided_one.within (same ∙ sym of_claim))
         | inr (inr more) ↦ absurd (distinct number k _ more below (of_claim ∙ sym same))
       ]

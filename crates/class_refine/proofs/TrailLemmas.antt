@@ -14,18 +14,18 @@ use Rattle.ban_book.proofs.BookLemmas.{valid_push}
 use Rattle.ban_book.proofs.VectorLemmas.{last_resorts_push_other, no_vector_more, no_vector_none, no_vector_one}
 use Rattle.oracle_core.specs.Oracles.{Grows, Known}
 use Rattle.fact_bans.specs.Serving.{AreValid, HasServed, OnlyAdds}
-use Rattle.fact_bans.proofs.HoldingLemmas.{HasHeld}
+use Rattle.fact_bans.proofs.MakingLemmas.{HasMadeBans}
 use Rattle.fact_bans.proofs.ServeLemmas.{valid_grows}
 use Rattle.ban_book.specs.Shown.{IsShownBan}
 use Rattle.pair_domains.specs.declared.entry.Entry.{Entry}
 use Rattle.pair_domains.specs.declared.entry.Fate.TheVariants.{Deleted}
 use Rattle.pair_domains.specs.declared.entry.Reason.{Reason}
-use Rattle.pair_domains.specs.Trails.{AreDomains, Domained, IsOpen, IsPairOf, held_in, ports_of}
+use Rattle.pair_domains.specs.Trails.{AreDomains, Domained, IsOpen, IsPairOf, assigned_in, ports_of}
 use Rattle.pair_search.specs.Grounded.{AreGrounded, IsGrounded, LearnsMore}
 use Rattle.pair_search.specs.Justified.{IsTrail}
 use Rattle.pair_search.specs.Named.{AreNamed, deleted}
 use Rattle.pair_search.proofs.GroundedLemmas.{grounded_later, grounded_push}
-use Rattle.pair_search.proofs.JustifiedLemmas.{held_append, justified_later}
+use Rattle.pair_search.proofs.JustifiedLemmas.{assigned_append, justified_later}
 use Rattle.pair_search.proofs.StepLemmas.{HasOneMore, justified_one, less_one, one_more_of, trail_on}
 use Rattle.class_refine.specs.Refining.{AddsShown, IsShownTrail, OnlyDeletes, Refines}
 pub use Rattle.pair_search.proofs.ConflictLemmas.{known_of}
@@ -87,7 +87,7 @@ shown_learned graphs facts es before after shown learns = record {
 }
 
 pub deletes_none : (d : Domained) → OnlyDeletes d d
-deletes_none d = record { inputs = refl; outputs = refl; added = []; more = sym (append-nil d.entries); held = refl; less = omega arith }
+deletes_none d = record { inputs = refl; outputs = refl; added = []; more = sym (append-nil d.entries); assigned = refl; less = omega arith }
 
 deletes_then : (first second third : Domained) → OnlyDeletes first second → OnlyDeletes second third → OnlyDeletes first third
 deletes_then first second third one other = record {
@@ -95,7 +95,7 @@ deletes_then first second third one other = record {
   outputs = other.outputs ∙ one.outputs;
   added = one.added ++ other.added;
   more = other.more ∙ (ap (λ l. l ++ other.added) one.more ∙ append_assoc first.entries one.added other.added);
-  held = other.held ∙ one.held;
+  assigned = other.assigned ∙ one.assigned;
   less = omega (arith, one.less, other.less);
 }
 
@@ -119,11 +119,11 @@ refines_bans graphs facts bans more d adds = record {
   shown = λ are. are;
 }
 
-pub refines_held : (graphs : Graphs) (facts : List Decided) (pairs : List Pair) (bans after : List Ban) (ban : Ban) (d : Domained) → after ≡ bans ++ ban ∷ [] → IsShownBan graphs facts pairs ban → Refines graphs facts bans after d d
-refines_held graphs facts pairs bans after ban d more shown = refines_bans graphs facts bans after d (shown_one graphs facts pairs bans after ban more shown)
+pub refines_assigned : (graphs : Graphs) (facts : List Decided) (pairs : List Pair) (bans after : List Ban) (ban : Ban) (d : Domained) → after ≡ bans ++ ban ∷ [] → IsShownBan graphs facts pairs ban → Refines graphs facts bans after d d
+refines_assigned graphs facts pairs bans after ban d more shown = refines_bans graphs facts bans after d (shown_one graphs facts pairs bans after ban more shown)
 
 -- a pair is deleted, for what assigned pairs show
-pub refines_one : (graphs : Graphs) (facts : List Decided) (bans : List Ban) (before after : Domained) (way : Pair) (why : Reason) → after ≡ record before { entries = before.entries ++ deleted way why ∷ [] } → AreDomains before → IsPairOf before.inputs before.outputs way → IsOpen before.entries way → AreNamed bans (held_in before.entries) way why → IsGrounded graphs facts way (Deleted why) → Refines graphs facts bans bans before after
+pub refines_one : (graphs : Graphs) (facts : List Decided) (bans : List Ban) (before after : Domained) (way : Pair) (why : Reason) → after ≡ record before { entries = before.entries ++ deleted way why ∷ [] } → AreDomains before → IsPairOf before.inputs before.outputs way → IsOpen before.entries way → AreNamed bans (assigned_in before.entries) way why → IsGrounded graphs facts way (Deleted why) → Refines graphs facts bans bans before after
 refines_one graphs facts bans before after way why after_is lawful known open' named grounded =
     let e : Entry = deleted way why in
     let more : HasOneMore before after e = one_more_of before after e after_is in
@@ -135,7 +135,7 @@ refines_one graphs facts bans before after way why after_is lawful known open' n
         outputs = more.outputs;
         added = e ∷ [];
         more = more.entries;
-        held = ap held_in more.entries ∙ (held_append before.entries (e ∷ []) ∙ append-nil (held_in before.entries));
+        assigned = ap assigned_in more.entries ∙ (assigned_append before.entries (e ∷ []) ∙ append-nil (assigned_in before.entries));
         less = omega (arith, fewer);
       };
       trail = λ is. trail_on graphs bans before after is more.inputs more.outputs (justified_one bans before after e more is.justified named);
@@ -143,8 +143,8 @@ refines_one graphs facts bans before after way why after_is lawful known open' n
     }
 
 -- a call that refines in view of the facts that an oracle has come to know, which it lends
-pub held_refined : (graphs : Graphs) (old new : Known) (lent : List Fact) (a b : Ledgered) (bans more : List Ban) (before after : Domained) → AreValid graphs old bans → HasServed old new a b → lent ≡ new.facts → Refines graphs (map decided_by lent) bans more before after → HasHeld graphs old new a b bans more
-held_refined graphs old new lent a b bans more before after valid served same refines_lent =
+pub assigned_refined : (graphs : Graphs) (old new : Known) (lent : List Fact) (a b : Ledgered) (bans more : List Ban) (before after : Domained) → AreValid graphs old bans → HasServed old new a b → lent ≡ new.facts → Refines graphs (map decided_by lent) bans more before after → HasMadeBans graphs old new a b bans more
+assigned_refined graphs old new lent a b bans more before after valid served same refines_lent =
     let refines = subst (λ (l : List Fact). Refines graphs (map decided_by l) bans more before after) same refines_lent in
     let grown = valid_grows old new graphs bans served.grows valid in
     record {

@@ -3,7 +3,7 @@ pub mod Stable
 pub mod Swaps
 pub mod Refining
 pub mod Settling
-pub use Rattle.account_core.specs.Held
+pub use Rattle.account_core.specs.Assigned
 pub use Rattle.pair_search.specs.Grounded
 pub use Rattle.pair_search.specs.Justified
 pub use Rattle.pair_domains.specs.Trails

@@ -6,7 +6,7 @@ use Rattle.account_core.specs.Given.{Decided, decided_by}
 use Rattle.account_core.specs.Steps.{AreValidBans}
 use Rattle.ban_book.specs.Vectors.{AddsNoVector}
 use Rattle.pair_domains.specs.declared.entry.Entry.{Entry}
-use Rattle.pair_domains.specs.Trails.{Domained, held_in}
+use Rattle.pair_domains.specs.Trails.{Domained, assigned_in}
 use Rattle.pair_search.specs.Grounded.{AreGrounded}
 use Rattle.pair_search.specs.Justified.{IsTrail}
 use Rattle.oracle_core.specs.Oracles.{Known}
@@ -23,7 +23,7 @@ pub record OnlyDeletes (before after : Domained) : Type 0 where
   pub outputs : after.outputs ≡ before.outputs
   pub added : List Entry
   pub more : after.entries ≡ before.entries ++ added
-  pub held : held_in after.entries ≡ held_in before.entries
+  pub assigned : assigned_in after.entries ≡ assigned_in before.entries
   pub less : left after ≤ left before
 
 -- Bans came after those that were kept, none by a vector. Where those before were valid in view of these facts, all are.

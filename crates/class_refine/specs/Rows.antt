@@ -1,4 +1,4 @@
--- What is told of all outputs of two circuits (unateness and support of functions, as in textbooks of logic synthesis).
+-- The decided claims of all outputs of two circuits (unateness and support of functions, as in textbooks of logic synthesis).
 use Rattle.std.specs.Prelude.{◌≡◌, ℕ, List, ◌∷◌, [], ◌++◌, length, map, All, Contains}
 use Rattle.circuits.specs.Literals.{EachAt}
 use Rattle.circuits.specs.declared.port.Pair.{Pair}
@@ -12,7 +12,7 @@ use Rattle.account_core.specs.Ports.{AreOrdered, IsKnown}
 use Rattle.ban_book.specs.Vectors.{HaveNoFacts}
 use Rattle.ban_book.specs.declared.input_claims.InputClaims.{InputClaims}
 use Rattle.ban_book.specs.Rows.{IsRow}
-use Rattle.account_core.specs.Held.{IsPart}
+use Rattle.account_core.specs.Assigned.{IsPart}
 use Rattle.class_refine.specs.declared.grounds.Grounds.{Grounds}
 use Rattle.class_refine.specs.declared.rows.Rows.{Rows}
 use Rattle.class_refine.specs.Swaps.{IsSwapIndex}
@@ -49,12 +49,12 @@ pub record AreInputs (graphs : Graphs) (pairs : List Pair) : Type 0 where
   pub inputs : All (λ pair. pair.kind ≡ Input) pairs
 
 -- The assigned pairs of inputs, in order.
-pub record AreInputsOf (held pairs : List Pair) : Type 0 where
-  pub part : IsPart held pairs
+pub record AreInputsOf (assigned pairs : List Pair) : Type 0 where
+  pub part : IsPart assigned pairs
   pub inputs : All (λ pair. pair.kind ≡ Input) pairs
-  pub all : All (λ pair. pair.kind ≡ Input → Contains pairs pair) held
+  pub all : All (λ pair. pair.kind ≡ Input → Contains pairs pair) assigned
 
 -- facts show nothing of pairs of inputs and of any one of some outputs' pairs
 abbrev pub ShowNothingAt : Graphs → List Decided → List Pair → List Pair → Type 0
-ShowNothingAt graphs facts inputs held =
-    All (λ output. output.kind ≡ Output → HaveNoFacts graphs facts (inputs ++ output ∷ [])) held
+ShowNothingAt graphs facts inputs assigned =
+    All (λ output. output.kind ≡ Output → HaveNoFacts graphs facts (inputs ++ output ∷ [])) assigned

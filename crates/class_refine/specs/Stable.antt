@@ -14,8 +14,8 @@ use Rattle.account_core.specs.declared.step.Ban.{Ban}
 use Rattle.account_core.specs.declared.step.Step.TheVariants as step
 use Rattle.ban_book.specs.Covering.{Covers, IsWithin}
 use Rattle.ban_book.specs.Vectors.{AreInputsDecided, HaveNoFacts, IsShownBy}
-use Rattle.account_core.specs.Held.{IsOf}
-use Rattle.pair_domains.specs.Trails.{Domained, IsDeleted, IsPairOf, held_in, ports_of}
+use Rattle.account_core.specs.Assigned.{IsOf}
+use Rattle.pair_domains.specs.Trails.{Domained, IsDeleted, IsPairOf, assigned_in, ports_of}
 use Rattle.class_refine.specs.declared.refined.Refined.{Refined}
 use Rattle.class_refine.specs.declared.refined.Refined.TheVariants as refined
 
@@ -68,9 +68,9 @@ pub record HasLeft (domains : Domained) (side : Side) (kind : PortKind) (port : 
 -- it beside them. Each port has one.
 pub record IsStable (graphs : Graphs) (facts : List Decided) (bans : List Ban) (domains : Domained) : Type 0 where
   pub decided : AreOutputsDecided graphs facts
-  pub alone : AreClean graphs facts bans (held_in domains.entries)
-  pub possible : (pair : Pair) → Remains domains pair → IsImpossible (held_in domains.entries) pair → ⊥
-  pub beside : (pair : Pair) → Remains domains pair → AreClean graphs facts bans (pair ∷ held_in domains.entries)
+  pub alone : AreClean graphs facts bans (assigned_in domains.entries)
+  pub possible : (pair : Pair) → Remains domains pair → IsImpossible (assigned_in domains.entries) pair → ⊥
+  pub beside : (pair : Pair) → Remains domains pair → AreClean graphs facts bans (pair ∷ assigned_in domains.entries)
   pub ports : (side : Side) (kind : PortKind) (port : ℕ)
       → port < ports_of domains.inputs domains.outputs kind
       → HasLeft domains side kind port
@@ -78,4 +78,4 @@ pub record IsStable (graphs : Graphs) (facts : List Decided) (bans : List Ban) (
 -- it is stable, or a ban is within the assigned pairs
 abbrev pub IsRefined : Graphs → List Decided → List Ban → Domained → Refined → Type 0
 IsRefined graphs facts bans domains refined.Stable = IsStable graphs facts bans domains
-IsRefined graphs facts bans domains (refined.Dead number) = Covers bans (held_in domains.entries) number
+IsRefined graphs facts bans domains (refined.Dead number) = Covers bans (assigned_in domains.entries) number

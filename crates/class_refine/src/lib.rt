@@ -15,6 +15,5 @@ mod swap_index;
 mod swaps;
 
 pub use pair_domains::{Cause, Domains, Entry, Fate, Reason};
-pub use pair_search::{Deletion, Mismatches, deletion_of};
 pub use refined::Refined;
 pub use refining::refine;

@@ -4,19 +4,19 @@ ghost use Rattle.std.specs.Prelude.{◌≡◌, ◌<◌, ℕ, IfNone, IfOk, IfSom
 ghost use Rattle.net_core.specs.declared.graphs.Side.{Side as AnySide};
 ghost use Rattle.circuits.specs.declared.port.PortKind.{PortKind as AnyKind};
 ghost use Rattle.ban_book.specs.Covering.{Covers};
-ghost use Rattle.pair_domains.specs.Trails.{held_in, ports_of};
+ghost use Rattle.pair_domains.specs.Trails.{assigned_in, ports_of};
 ghost use Rattle.pair_search.specs.Grounded.{LearnsMore};
 ghost use Rattle.pair_search.specs.Justified.{IsTrail};
 ghost use Rattle.pair_search.specs.Named.{IsPortOf};
 ghost use Rattle.pair_search.specs.Conflicts.{HasNoWay};
 ghost use Rattle.class_refine.specs.Stable.{HasLeft};
 
-use account_core::PairableGraphs;
+use account_core::{PairableGraphs, Port};
 use ban_book::BanBook;
 use circuits::PortKind;
 use net_core::Side;
 use pair_domains::Domains;
-use pair_search::{Conflict, Mismatches, Port, conflict_set_of, way_of};
+use pair_search::{Conflict, Mismatches, conflict_set_of, way_of};
 use std::alloc::{AllocError, Global};
 
 /// Makes the ban that says that a port has no way left beside the assigned pairs, if there is such a port, and answers
@@ -29,7 +29,7 @@ pub(crate) fn cover_empty(
 ) -> Result<Option<u64>, AllocError>
     requires trail { IsTrail graphs.now book.old domains.now }
     ensures more { LearnsMore graphs.now domains.now.entries book.old book.new }
-    ensures found { IfOk result (λ dead. IfSome dead (Covers book.new (held_in domains.now.entries))) }
+    ensures found { IfOk result (λ dead. IfSome dead (Covers book.new (assigned_in domains.now.entries))) }
     ensures same { IfOk result (λ dead. IfNone dead (book.new ≡ book.old)) }
     ensures left { IfOk result (λ dead. IfNone dead ((side : AnySide) (kind : AnyKind) (port : ℕ)
         → port < ports_of domains.now.inputs domains.now.outputs kind
@@ -52,7 +52,7 @@ fn cover(
     requires trail { IsTrail graphs.now book.old domains.now }
     requires none { HasNoWay domains.now port }
     ensures more { LearnsMore graphs.now domains.now.entries book.old book.new }
-    ensures found { IfOk result (λ dead. IfSome dead (Covers book.new (held_in domains.now.entries))) }
+    ensures found { IfOk result (λ dead. IfSome dead (Covers book.new (assigned_in domains.now.entries))) }
     ensures some { IfOk result (λ dead. IfNone dead ⊥) }
 {
     let mut made = Mismatches::new(alloc);

@@ -4,10 +4,10 @@ ghost use Rattle.std.specs.Prelude.{◌≡◌, IfNone, IfOk, IfSome, map};
 ghost use Rattle.account_core.specs.Facts.{AreFacts};
 ghost use Rattle.account_core.specs.Given.{decided_by};
 ghost use Rattle.ban_book.specs.Covering.{Covers};
-ghost use Rattle.pair_domains.specs.Trails.{held_in};
+ghost use Rattle.pair_domains.specs.Trails.{assigned_in};
 ghost use Rattle.pair_search.specs.Grounded.{AreGrounded};
 ghost use Rattle.pair_search.specs.Justified.{IsTrail};
-ghost use Rattle.fact_bans.specs.Asking.{AreSame, HoldsBy, MayHoldBy, loans};
+ghost use Rattle.fact_bans.specs.Asking.{AreSame, MakesBy, MayMakeBy, loans};
 ghost use Rattle.class_refine.specs.Refining.{IsShownTrail, Refines};
 ghost use Rattle.class_refine.specs.Rows.{AreAllRows, AreGrounds, AreInputsOf, decided};
 ghost use Rattle.class_refine.specs.Settling.{MaySettle};
@@ -49,10 +49,10 @@ pub fn refine<O: Oracle>(
     domains: &mut Domains,
     book: &mut BanBook,
 ) -> Result<Refined, Stop>
-    requires may { MayHoldBy graphs.now (loans O.known asker.old) book.old }
+    requires may { MayMakeBy graphs.now (loans O.known asker.old) book.old }
     requires trail { IsShownTrail graphs.now (O.known asker.old.oracle.now) book.old domains.old }
     ensures same { AreSame (loans O.known asker.old) (loans O.known asker.new) }
-    ensures holds { HoldsBy graphs.now (loans O.known asker.old) (loans O.known asker.new) book.old book.new result }
+    ensures makes { MakesBy graphs.now (loans O.known asker.old) (loans O.known asker.new) book.old book.new result }
     ensures refines { Refines graphs.now (map decided_by (O.known asker.new.oracle.now).facts) book.old book.new
         domains.old domains.new }
     ensures trail { IsShownTrail graphs.now (O.known asker.new.oracle.now) book.new domains.new }
@@ -112,9 +112,9 @@ fn exclude(
     requires grounds { AreGrounds grounds.now }
     requires trail { IsTrail grounds.now.graphs.now book.old domains.old }
     requires shown { AreGrounded grounds.now.graphs.now (decided grounds.now) domains.old.entries }
-    requires inputs { AreInputsOf (held_in domains.old.entries) grounds.now.inputs.now }
+    requires inputs { AreInputsOf (assigned_in domains.old.entries) grounds.now.inputs.now }
     ensures refines { Refines grounds.now.graphs.now (decided grounds.now) book.old book.new domains.old domains.new }
-    ensures dead { IfOk result (λ dead. IfSome dead (Covers book.new (held_in domains.new.entries))) }
+    ensures dead { IfOk result (λ dead. IfSome dead (Covers book.new (assigned_in domains.new.entries))) }
     ensures stable { IfOk result (λ dead. IfNone dead
         (IsStable grounds.now.graphs.now (decided grounds.now) book.new domains.new)) }
 {
@@ -137,7 +137,7 @@ fn exclude_beside(
     requires may { MaySettle grounds.now book.old domains.old }
     requires shown { AreGrounded grounds.now.graphs.now (decided grounds.now) domains.old.entries }
     ensures refines { Refines grounds.now.graphs.now (decided grounds.now) book.old book.new domains.old domains.new }
-    ensures dead { IfOk result (λ dead. IfSome dead (Covers book.new (held_in domains.new.entries))) }
+    ensures dead { IfOk result (λ dead. IfSome dead (Covers book.new (assigned_in domains.new.entries))) }
     ensures stable { IfOk result (λ dead. IfNone dead
         (IsStable grounds.now.graphs.now (decided grounds.now) book.new domains.new)) }
 {

@@ -17,7 +17,7 @@ use items::Items;
 use net_core::Side;
 use oracle_core::Oracle;
 
-/// What is told of each output of both circuits: a row with its claims of one input, in the order of the outputs.
+/// The decided claims of each output of both circuits: a row with those of one input, in the order of the outputs.
 pub(crate) struct Rows {
     pub(crate) first: Items<Items<InputClaims>>,
     pub(crate) second: Items<Items<InputClaims>>,

@@ -5,7 +5,7 @@ ghost use Rattle.account_core.specs.declared.step.Ban.{Ban as AnyBan};
 ghost use Rattle.ban_book.specs.Covering.{Covers};
 ghost use Rattle.ban_book.specs.Shown.{IsShownBan};
 ghost use Rattle.pair_domains.specs.declared.entry.Fate.TheVariants.{Deleted};
-ghost use Rattle.pair_domains.specs.Trails.{IsOpen, IsPairOf, held_in, ports_of};
+ghost use Rattle.pair_domains.specs.Trails.{IsOpen, IsPairOf, assigned_in, ports_of};
 ghost use Rattle.pair_search.specs.Grounded.{IsGrounded};
 ghost use Rattle.pair_search.specs.Named.{AreNamed};
 ghost use Rattle.class_refine.specs.declared.grounds.Grounds.{Grounds as AnyGrounds};
@@ -16,13 +16,13 @@ ghost use Rattle.class_refine.specs.Stable.{HaveNoBan};
 use crate::grounds::Grounds;
 use crate::shown::way_ban;
 use crate::swaps::swap_ban;
-use account_core::Ban;
+use account_core::{Ban, Port};
 use ban_book::BanBook;
 use ban_book::clash::clashing;
 use circuits::{Pair, PortKind};
 use net_core::Side;
 use pair_domains::{Domains, Reason};
-use pair_search::{Port, way_of};
+use pair_search::way_of;
 use std::alloc::{AllocError, Global};
 
 /// What excludes a pair beside the assigned ones.
@@ -156,21 +156,21 @@ fn exclusion_of(
     requires may { MaySettle grounds.now book.now domains.now }
     requires known { IsPairOf domains.now.inputs domains.now.outputs way }
     ensures found { IfOk result (λ found. IfSome found
-        (Excludes grounds.now book.now (held_in domains.now.entries) way)) }
+        (Excludes grounds.now book.now (assigned_in domains.now.entries) way)) }
     ensures none { IfOk result (λ found. IfNone found
-        (IsClear grounds.now book.now (held_in domains.now.entries) way)) }
+        (IsClear grounds.now book.now (assigned_in domains.now.entries) way)) }
 {
     // assigned pairs are of ports that exist, and share none
     let _lawful = domains.entries();
-    let held = domains.pairs();
-    if let Some(with) = clashing(held, way) {
+    let assigned = domains.pairs();
+    if let Some(with) = clashing(assigned, way) {
         return Ok(Some(Exclusion::Known(Reason::Clash(with))));
     }
-    let pairs = beside(alloc, held, way)?;
+    let pairs = beside(alloc, assigned, way)?;
     if let Some(number) = book.covering(&pairs) {
         return Ok(Some(Exclusion::Known(Reason::Ban(number))));
     }
-    if let Some(ban) = way_ban(alloc, grounds, held, way)? {
+    if let Some(ban) = way_ban(alloc, grounds, assigned, way)? {
         return Ok(Some(Exclusion::Shown(ban)));
     }
     match swap_ban(alloc, grounds, &pairs)? {
@@ -190,7 +190,7 @@ fn delete_by(
     requires known { IsPairOf domains.old.inputs domains.old.outputs way }
     requires open { IsOpen domains.old.entries way }
     ensures { (grounds : AnyGrounds)
-        → IsShownBan grounds.graphs.now (decided grounds) (way ∷ held_in domains.old.entries) ban
+        → IsShownBan grounds.graphs.now (decided grounds) (way ∷ assigned_in domains.old.entries) ban
         → Settles grounds book.old book.new domains.old domains.new (λ pair. pair ≡ way) result }
 {
     // no pair has two entries
@@ -208,8 +208,8 @@ fn delete(domains: &mut Domains, way: Pair, reason: Reason) -> Result<Option<u64
     requires known { IsPairOf domains.old.inputs domains.old.outputs way }
     requires open { IsOpen domains.old.entries way }
     ensures { (grounds : AnyGrounds) (bans : List AnyBan)
-        → HaveNoBan bans (held_in domains.old.entries)
-        → AreNamed bans (held_in domains.old.entries) way reason
+        → HaveNoBan bans (assigned_in domains.old.entries)
+        → AreNamed bans (assigned_in domains.old.entries) way reason
         → IsGrounded grounds.graphs.now (decided grounds) way (Deleted reason)
         → Settles grounds bans bans domains.old domains.new (λ pair. pair ≡ way) result }
 {
@@ -220,11 +220,11 @@ fn delete(domains: &mut Domains, way: Pair, reason: Reason) -> Result<Option<u64
 }
 
 // A pair, and some after it.
-fn beside(alloc: Global, held: &[Pair], way: Pair) -> Result<Vec<Pair>, AllocError>
-    ensures { IfOk result (λ pairs. pairs.items ≡ way ∷ held.now) }
+fn beside(alloc: Global, assigned: &[Pair], way: Pair) -> Result<Vec<Pair>, AllocError>
+    ensures { IfOk result (λ pairs. pairs.items ≡ way ∷ assigned.now) }
 {
     let mut pairs = Vec::new(alloc);
     pairs.push(way)?;
-    pairs.extend_from_slice(held)?;
+    pairs.extend_from_slice(assigned)?;
     Ok(pairs)
 }

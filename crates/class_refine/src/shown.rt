@@ -5,7 +5,7 @@ ghost use Rattle.circuits.specs.declared.port.PortKind.TheVariants as AnyKind;
 ghost use Rattle.account_core.specs.Ports.{IsKnown};
 ghost use Rattle.ban_book.specs.Vectors.{HaveNoFacts};
 ghost use Rattle.ban_book.specs.Shown.{IsShownBan};
-ghost use Rattle.account_core.specs.Held.{AreHeld};
+ghost use Rattle.account_core.specs.Assigned.{AreAssignable};
 ghost use Rattle.class_refine.specs.Rows.{AreGrounds, AreInputs, AreInputsOf, ShowNothingAt, decided};
 
 use crate::grounds::Grounds;
@@ -20,41 +20,41 @@ use std::alloc::{AllocError, Global};
 pub(crate) fn way_ban(
     alloc: Global,
     grounds: &Grounds<'_>,
-    held: &[Pair],
+    assigned: &[Pair],
     way: Pair,
 ) -> Result<Option<Ban>, AllocError>
     requires grounds { AreGrounds grounds.now }
-    requires held { AreHeld grounds.now.graphs.now held.now }
-    requires inputs { AreInputsOf held.now grounds.now.inputs.now }
-    requires alone { ShowNothingAt grounds.now.graphs.now (decided grounds.now) grounds.now.inputs.now held.now }
+    requires assigned { AreAssignable grounds.now.graphs.now assigned.now }
+    requires inputs { AreInputsOf assigned.now grounds.now.inputs.now }
+    requires alone { ShowNothingAt grounds.now.graphs.now (decided grounds.now) grounds.now.inputs.now assigned.now }
     requires known { IsKnown grounds.now.graphs.now way }
     ensures shown { IfOk result
-        (λ found. IfSome found (IsShownBan grounds.now.graphs.now (decided grounds.now) (way ∷ held.now))) }
+        (λ found. IfSome found (IsShownBan grounds.now.graphs.now (decided grounds.now) (way ∷ assigned.now))) }
     ensures none { IfOk result
-        (λ found. IfNone found (HaveNoFacts grounds.now.graphs.now (decided grounds.now) (way ∷ held.now))) }
+        (λ found. IfNone found (HaveNoFacts grounds.now.graphs.now (decided grounds.now) (way ∷ assigned.now))) }
 {
     match way.kind {
-        PortKind::Input => held_ban(alloc, grounds, held, &[way]),
+        PortKind::Input => ban_of_assigned(alloc, grounds, assigned, &[way]),
         PortKind::Output => output_ban(alloc, grounds, grounds.inputs, way),
     }
 }
 
 /// The ban that decided claims show of pairs of inputs and one of some outputs.
-pub(crate) fn held_ban(
+pub(crate) fn ban_of_assigned(
     alloc: Global,
     grounds: &Grounds<'_>,
-    held: &[Pair],
+    assigned: &[Pair],
     inputs: &[Pair],
 ) -> Result<Option<Ban>, AllocError>
     requires grounds { AreGrounds grounds.now }
     requires inputs { AreInputs grounds.now.graphs.now inputs.now }
-    requires held { All (IsKnown grounds.now.graphs.now) held.now }
+    requires assigned { All (IsKnown grounds.now.graphs.now) assigned.now }
     ensures shown { IfOk result (λ found. IfSome found
-        (IsShownBan grounds.now.graphs.now (decided grounds.now) (inputs.now ++ held.now))) }
+        (IsShownBan grounds.now.graphs.now (decided grounds.now) (inputs.now ++ assigned.now))) }
     ensures none { IfOk result (λ found. IfNone found
-        (ShowNothingAt grounds.now.graphs.now (decided grounds.now) inputs.now held.now)) }
+        (ShowNothingAt grounds.now.graphs.now (decided grounds.now) inputs.now assigned.now)) }
 {
-    for pair in held.iter() {
+    for pair in assigned.iter() {
         if let Some(ban) = pair_ban(alloc, grounds, inputs, *pair)? {
             return Ok(Some(ban));
         }

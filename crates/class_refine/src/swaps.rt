@@ -6,7 +6,7 @@ ghost use Rattle.account_core.specs.Given.{decided_by, fact_at, given_of};
 ghost use Rattle.account_core.specs.Mismatches.{IsImage};
 ghost use Rattle.account_core.specs.Ports.{IsKnown};
 ghost use Rattle.ban_book.specs.Shown.{IsShownBan};
-ghost use Rattle.ban_book.specs.Told.{IsToldAs};
+ghost use Rattle.ban_book.specs.DecidedClaims.{IsDecidedAs};
 ghost use Rattle.class_refine.specs.Rows.{AreGrounds, decided};
 ghost use Rattle.class_refine.specs.Stable.{HasTwoInputs, HaveNoSwapMismatch};
 ghost use Rattle.class_refine.specs.Swaps.{AgreesAt, IsExchange, IsSwapIndex, SaysOf, carried_to};
@@ -14,9 +14,9 @@ ghost use Rattle.class_refine.specs.Swaps.{AgreesAt, IsExchange, IsSwapIndex, Sa
 use crate::grounds::Grounds;
 use crate::swap_index::number_of;
 use account_core::{Ban, Evidence, Fact};
-use ban_book::{DecidedClaim, mismatch_ban, moved_value, two_inputs, unlike_of};
+use ban_book::{DecidedClaim, mismatch_ban, two_inputs, unlike_of};
 use circuits::{Pair, PortKind};
-use claim_core::{Claim, Shape, pair_of};
+use claim_core::{Claim, Shape, moved_value, pair_of};
 use indexmap::IndexMap;
 use net_core::Side;
 use std::alloc::{AllocError, Global};
@@ -54,7 +54,7 @@ pub(crate) fn swap_ban(
     Ok(None)
 }
 
-// The ban by the claim of a fact.
+// The ban that a fact and the fact of its image show, if the two differ.
 fn ban_at(
     alloc: Global,
     grounds: &Grounds<'_>,
@@ -69,7 +69,7 @@ fn ban_at(
     ensures none { IfOk result (λ found. IfNone found (AgreesAt (decided grounds.now) pairs.now number)) }
 {
     let facts = grounds.facts;
-    let fact = told_at(facts, number);
+    let fact = decided_at(facts, number);
     let Some(exchange) = exchange_of(pairs, claim_at(facts, number)) else {
         return Ok(None);
     };
@@ -86,11 +86,11 @@ fn ban_at(
     Ok(Some(ban))
 }
 
-// What a fact tells of its claim.
-fn told_at(facts: &[Fact], number: usize) -> DecidedClaim
+// A fact's claim, decided.
+fn decided_at(facts: &[Fact], number: usize) -> DecidedClaim
     requires below { number < length facts.now }
-    ensures told { IsToldAs (map decided_by facts.now) (fact_at (given_of (map decided_by facts.now) []) number).claim
-        result.holds result.number }
+    ensures decided { IsDecidedAs (map decided_by facts.now)
+        (fact_at (given_of (map decided_by facts.now) []) number).claim result.holds result.number }
     ensures number { result.number ≡ number }
 {
     let holds = match &facts[number].evidence {
@@ -144,16 +144,16 @@ fn otherwise(
     requires distinct { AllPairs (λ one other. one.claim ≢ other.claim) (map decided_by facts.now) }
     requires index { IsSwapIndex (map decided_by facts.now) swaps.now.entries }
     requires two { HasTwoInputs claim.shape }
-    ensures found { IfSome result (λ told. IsToldAs (map decided_by facts.now) claim told.holds told.number) }
-    ensures differ { IfSome result (λ told. told.holds ≡ holds → ⊥) }
+    ensures found { IfSome result (λ fact. IsDecidedAs (map decided_by facts.now) claim fact.holds fact.number) }
+    ensures differ { IfSome result (λ fact. fact.holds ≡ holds → ⊥) }
     ensures none { IfNone result ((k : ℕ) → k < length facts.now → SaysOf (map decided_by facts.now) claim holds k) }
 {
     let number = number_of(swaps, claim)?;
-    let told = told_at(facts, number as usize);
-    if told.holds == holds {
+    let fact = decided_at(facts, number as usize);
+    if fact.holds == holds {
         return None;
     }
-    Some(told)
+    Some(fact)
 }
 
 // The pairs that carry a claim of two inputs of the first circuit to one of the second. None where it is another claim,

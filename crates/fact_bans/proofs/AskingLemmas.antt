@@ -5,9 +5,9 @@ use Rattle.fact_bans.specs.Asking.{AreSame, Loans}
 pub same_then : {old mid new : Loans} → AreSame old mid → AreSame mid new → AreSame old new
 same_then one other = record {
   oracle = other.oracle ∙ one.oracle;
-  seen = other.seen ∙ one.seen;
+  broken = other.broken ∙ one.broken;
   ledger = other.ledger ∙ one.ledger;
 }
 
 pub same_none : {lent : Loans} → AreSame lent lent
-same_none = record { oracle = refl; seen = refl; ledger = refl }
+same_none = record { oracle = refl; broken = refl; ledger = refl }

@@ -13,10 +13,10 @@ use Rattle.oracle_core.specs.Oracles.{Grows, Known, Suits}
 use Rattle.account_core.specs.Facts.{AreFacts}
 use Rattle.std.proofs.lemmas.Result.{IfOk-weaker}
 use Rattle.ban_book.specs.declared.input_claims.InputClaims.{InputClaims}
-use Rattle.ban_book.specs.Rows.{IsRow, IsTold}
-use Rattle.ban_book.specs.Told.{AddsFact, IsToldAs}
+use Rattle.ban_book.specs.Rows.{IsRow, AreClaimsOf}
+use Rattle.ban_book.specs.DecidedClaims.{AddsFact, IsDecidedAs}
 use Rattle.ban_book.specs.Listed.{ListsOf}
-use Rattle.ban_book.proofs.ListedLemmas.{lists_both, lists_none, lists_one, lists_stay, told_stays}
+use Rattle.ban_book.proofs.ListedLemmas.{lists_both, lists_none, lists_one, lists_stay, decided_stays}
 use Rattle.ban_book.proofs.RowLemmas.{row_none, row_push, row_stays}
 use Rattle.fact_bans.specs.declared.lists.Wanted.{Wanted}
 use Rattle.fact_bans.specs.Serving.{HasServed}
@@ -30,9 +30,9 @@ pub wanted_grow : (old new : Known) (wanted : Wanted) (below : ℕ) (numbers : L
 wanted_grow old new wanted below numbers grows is =
     grown old new grows (λ facts. ListsOf (shaped_by wanted.both) facts wanted.holds wanted.side wanted.output below numbers) (λ added. lists_stay (map decided_by old.facts) added (shaped_by wanted.both) wanted.holds wanted.side wanted.output below numbers is)
 
-pub told_grows : (old new : Known) (claim : Claim) (holds : Bool) (number : ℕ) → Grows old new → IsToldAs (map decided_by old.facts) claim holds number → IsToldAs (map decided_by new.facts) claim holds number
-told_grows old new claim holds number grows is =
-    grown old new grows (λ facts. IsToldAs facts claim holds number) (λ added. told_stays (map decided_by old.facts) added claim holds number is)
+pub decided_grows : (old new : Known) (claim : Claim) (holds : Bool) (number : ℕ) → Grows old new → IsDecidedAs (map decided_by old.facts) claim holds number → IsDecidedAs (map decided_by new.facts) claim holds number
+decided_grows old new claim holds number grows is =
+    grown old new grows (λ facts. IsDecidedAs facts claim holds number) (λ added. decided_stays (map decided_by old.facts) added claim holds number is)
 
 pub row_grows : (old new : Known) (side : Side) (output : ℕ) (row : List InputClaims) → Grows old new → IsRow (map decided_by old.facts) side output row → IsRow (map decided_by new.facts) side output row
 row_grows old new side output row grows is =
@@ -54,7 +54,7 @@ both_added known wanted input up down before mid after result both up_is down_is
 pub adds_grow : (old new : Known) (claim : Claim) (holds : Bool) (before after : List ℕ) → Grows old new → AddsFact (map decided_by old.facts) claim holds before after → AddsFact (map decided_by new.facts) claim holds before after
 adds_grow old new claim holds before after grows adds = record {
   number = adds.number;
-  told = told_grows old new claim holds adds.number grows adds.told;
+  decided = decided_grows old new claim holds adds.number grows adds.decided;
   more = adds.more;
 }
 
@@ -73,22 +73,22 @@ listing_start known ledger wanted numbers lawful suits none = record {
   lists = lists_none (shaped_by wanted.both) (map decided_by known.facts) wanted.holds wanted.side wanted.output numbers none (shaped_none wanted.both);
 }
 
--- The calls so far were answered, and the claims of the inputs before the next one are told.
+-- The calls so far were answered, and the claims of the inputs before the next one are decided.
 pub record IsTelling (old now : Known) (before after : Ledgered) (side : Side) (output input : ℕ) (row : List InputClaims) : Type 0 where
   pub served : HasServed old now before after
-  pub told : IsRow (map decided_by now.facts) side output row
+  pub claims : IsRow (map decided_by now.facts) side output row
   pub size : length row ≡ input
 
 pub telling_start : (known : Known) (ledger : Ledgered) (side : Side) (output : ℕ) (row : List InputClaims) → AreFacts known.graphs known.facts → Suits known ledger → row ≡ [] → IsTelling known known ledger ledger side output 0 row
 telling_start known ledger side output row lawful suits none = record {
   served = served_same known ledger lawful suits;
-  told = subst (IsRow (map decided_by known.facts) side output) (sym none) (row_none (map decided_by known.facts) side output);
+  claims = subst (IsRow (map decided_by known.facts) side output) (sym none) (row_none (map decided_by known.facts) side output);
   size = ap length none;
 }
 
-pub telling_more : (old mid new : Known) (a b c : Ledgered) (side : Side) (output input : ℕ) (row after : List InputClaims) (told : InputClaims) → IsTelling old mid a b side output input row → HasServed mid new b c → IsTold (map decided_by new.facts) side output input told → after ≡ row ++ told ∷ [] → IsTelling old new a c side output (input + 1) after
-telling_more old mid new a b c side output input row after told telling served is after_is = record {
+pub telling_more : (old mid new : Known) (a b c : Ledgered) (side : Side) (output input : ℕ) (row after : List InputClaims) (claims : InputClaims) → IsTelling old mid a b side output input row → HasServed mid new b c → AreClaimsOf (map decided_by new.facts) side output input claims → after ≡ row ++ claims ∷ [] → IsTelling old new a c side output (input + 1) after
+telling_more old mid new a b c side output input row after claims telling served is after_is = record {
   served = served_then old mid new a b c telling.served served;
-  told = subst (IsRow (map decided_by new.facts) side output) (sym after_is) (row_push (map decided_by new.facts) side output row told (row_grows mid new side output row served.grows telling.told) (subst (λ (i : ℕ). IsTold (map decided_by new.facts) side output i told) (sym telling.size) is));
-  size = omega (arith, ap length after_is, length-append row (told ∷ []), telling.size);
+  claims = subst (IsRow (map decided_by new.facts) side output) (sym after_is) (row_push (map decided_by new.facts) side output row claims (row_grows mid new side output row served.grows telling.claims) (subst (λ (i : ℕ). AreClaimsOf (map decided_by new.facts) side output i claims) (sym telling.size) is));
+  size = omega (arith, ap length after_is, length-append row (claims ∷ []), telling.size);
 }

@@ -2,6 +2,6 @@ pub mod AskingLemmas
 pub mod CarryLemmas
 pub mod ServeLemmas
 pub mod FactLemmas
-pub mod HoldingLemmas
+pub mod MakingLemmas
 pub mod ReferLemmas
 pub mod WiderLemmas

@@ -17,8 +17,8 @@ use Rattle.ban_book.specs.Ways.{AreClosed, IsClosed}
 use Rattle.ban_book.proofs.BlockLemmas.{each_in}
 use Rattle.fact_bans.specs.Carrying.{IsPairOf}
 use Rattle.fact_bans.specs.Referred.{AreReferred, IsReferred}
-use Rattle.fact_bans.specs.Serving.{MayHold, OnlyAdds}
-use Rattle.fact_bans.proofs.HoldingLemmas.{held_same, held_then, HasHeld}
+use Rattle.fact_bans.specs.Serving.{MayMakeBans, OnlyAdds}
+use Rattle.fact_bans.proofs.MakingLemmas.{made_same, made_then, HasMadeBans}
 use Rattle.ban_book.specs.Covering.{Covers}
 use Rattle.ban_book.proofs.BookLemmas.{covers_later}
 use Rattle.ban_book.proofs.ListLemmas.{zip_map, zip_taken}
@@ -36,19 +36,19 @@ all_later bans more ways refs adds are = zip_map (IsReferred bans) (IsReferred m
 
 -- The calls so far were answered, and the first ways have their bans.
 pub record AreFound (graphs : Graphs) (old now : Known) (before after : Ledgered) (bans more : List Ban) (ways : List Pair) (refs : List (Option ℕ)) : Type 0 where
-  pub held : HasHeld graphs old now before after bans more
+  pub made : HasMadeBans graphs old now before after bans more
   pub are : AreReferred more ways refs
 
-pub found_none : (graphs : Graphs) (known : Known) (ledger : Ledgered) (bans : List Ban) (refs : List (Option ℕ)) → MayHold graphs known ledger bans → refs ≡ [] → AreFound graphs known known ledger ledger bans bans [] refs
+pub found_none : (graphs : Graphs) (known : Known) (ledger : Ledgered) (bans : List Ban) (refs : List (Option ℕ)) → MayMakeBans graphs known ledger bans → refs ≡ [] → AreFound graphs known known ledger ledger bans bans [] refs
 found_none graphs known ledger bans refs may none = record {
-  held = held_same graphs known ledger bans may;
+  made = made_same graphs known ledger bans may;
   are = subst (AreReferred bans []) (sym none) tt;
 }
 
-pub found_more : (graphs : Graphs) (old mid new : Known) (a b c : Ledgered) (bans first second : List Ban) (ways : List Pair) (k : ℕ) (d : Pair) (number : ℕ) (before after : List (Option ℕ)) → k < length ways → AreFound graphs old mid a b bans first (take k ways) before → HasHeld graphs mid new b c first second → Covers second (get_or ways k d ∷ []) number → after ≡ before ++ Some number ∷ [] → AreFound graphs old new a c bans second (take (k + 1) ways) after
-found_more graphs old mid new a b c bans first second ways k d number before after there found held covers after_is = record {
-  held = held_then graphs old mid new a b c bans first second found.held held;
-  are = subst (AreReferred second (take (k + 1) ways)) (sym after_is) (zip_taken (IsReferred second) ways k d before (Some number) there (all_later first second (take k ways) before held.adds found.are) (record { number = number; ref_is = refl; covers = covers }));
+pub found_more : (graphs : Graphs) (old mid new : Known) (a b c : Ledgered) (bans first second : List Ban) (ways : List Pair) (k : ℕ) (d : Pair) (number : ℕ) (before after : List (Option ℕ)) → k < length ways → AreFound graphs old mid a b bans first (take k ways) before → HasMadeBans graphs mid new b c first second → Covers second (get_or ways k d ∷ []) number → after ≡ before ++ Some number ∷ [] → AreFound graphs old new a c bans second (take (k + 1) ways) after
+found_more graphs old mid new a b c bans first second ways k d number before after there found made covers after_is = record {
+  made = made_then graphs old mid new a b c bans first second found.made made;
+  are = subst (AreReferred second (take (k + 1) ways)) (sym after_is) (zip_taken (IsReferred second) ways k d before (Some number) there (all_later first second (take k ways) before made.adds found.are) (record { number = number; ref_is = refl; covers = covers }));
 }
 
 -- the ways to pair outputs with outputs
@@ -66,7 +66,7 @@ reference_of : (facts : List Decided) (bans : List Ban) (pair : Pair) (ref : Opt
 reference_of facts bans pair ref is =
     subst (IsReference (given_of facts bans) [] pair) (sym is.ref_is) (
       λ impossible. absurd (omega (arith, impossible.2)),
-      subst (All (Contains (pair ∷ []))) (sym (get_or-map (λ (b : Ban). b.pairs) bans is.number no_ban [] is.covers.held)) (is.covers.within no_ban).among,
+      subst (All (Contains (pair ∷ []))) (sym (get_or-map (λ (b : Ban). b.pairs) bans is.number no_ban [] is.covers.kept)) (is.covers.within no_ban).among,
     )
   where
     no_ban : Ban
@@ -79,7 +79,7 @@ closed_of bans ways refs are = zip_map (IsReferred bans) (IsClosed bans []) ways
     one : (pair : Pair) (ref : Option ℕ) → IsReferred bans pair ref → IsClosed bans [] pair ref
     one pair ref is = record {
       refers = reference_of [] bans pair ref is;
-      held = λ ban same. subst (λ n. n < length bans) (same_Some is.number ban (sym is.ref_is ∙ same)) is.covers.held;
+      kept = λ ban same. subst (λ n. n < length bans) (same_Some is.number ban (sym is.ref_is ∙ same)) is.covers.kept;
     }
 
 pub nothing_known : (graphs : Graphs) → All (IsKnown graphs) []

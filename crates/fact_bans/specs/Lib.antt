@@ -11,4 +11,4 @@ pub use Rattle.ban_book.specs.Covering
 pub use Rattle.ban_book.specs.Vectors
 pub use Rattle.ban_book.specs.Listed
 pub use Rattle.ban_book.specs.Mismatched
-pub use Rattle.ban_book.specs.Told
+pub use Rattle.ban_book.specs.DecidedClaims

@@ -29,14 +29,14 @@ pub record MayAsk (graphs : Graphs) (known : Known) (ledger : Ledgered) : Type 0
   pub suits : Suits known ledger
 
 -- Claims may be asked, and bans made: the oracle is of these circuits, the ledger suits it, and the bans are valid.
-pub record MayHold (graphs : Graphs) (known : Known) (ledger : Ledgered) (bans : List Ban) : Type 0 where
+pub record MayMakeBans (graphs : Graphs) (known : Known) (ledger : Ledgered) (bans : List Ban) : Type 0 where
   pub graphs_are : graphs ≡ known.graphs
   pub lawful : AreFacts graphs known.facts
   pub suits : Suits known ledger
   pub valid : AreValid graphs known bans
 
 -- What a call does that has claims decided and makes bans by their facts, whatever it answers.
-pub record HoldsBans {X : Type 0} (graphs : Graphs) (old new : Known) (before after : Ledgered) (bans more : List Ban)
+pub record MakesBans {X : Type 0} (graphs : Graphs) (old new : Known) (before after : Ledgered) (bans more : List Ban)
     (result : Result X Stop) : Type 0 where
   pub serves : Serves old new before after result
   pub valid : AreValid graphs new more

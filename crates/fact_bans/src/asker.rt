@@ -9,6 +9,6 @@ use std::alloc::Global;
 pub struct Asker<'a, O: Oracle> {
     pub alloc: Global,
     pub oracle: &'a mut O,
-    pub seen: &'a mut BrokenClaims,
+    pub broken: &'a mut BrokenClaims,
     pub ledger: &'a mut Ledger,
 }

@@ -40,10 +40,10 @@ impl Classes {
     pub(crate) fn new(
         alloc: Global,
         outputs: u32,
-        seen: &BrokenClaims,
+        broken: &BrokenClaims,
     ) -> Result<Option<Classes>, AllocError> {
-        let first = keys(alloc, Side::First, outputs, seen)?;
-        let second = keys(alloc, Side::Second, outputs, seen)?;
+        let first = keys(alloc, Side::First, outputs, broken)?;
+        let second = keys(alloc, Side::Second, outputs, broken)?;
         let Some(key) = rarest(&first, &second) else {
             return Ok(None);
         };
@@ -59,13 +59,13 @@ fn keys(
     alloc: Global,
     side: Side,
     outputs: u32,
-    seen: &BrokenClaims,
+    broken: &BrokenClaims,
 ) -> Result<Vec<Key>, AllocError> {
     let mut keys = Vec::new(alloc);
     for output in 0..outputs {
         keys.push(Key {
-            support: seen.count(side, output, Tallied::Support),
-            binate: seen.count(side, output, Tallied::Binate),
+            support: broken.count(side, output, Tallied::Support),
+            binate: broken.count(side, output, Tallied::Binate),
         })?;
     }
     Ok(keys)

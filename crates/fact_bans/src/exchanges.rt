@@ -6,15 +6,15 @@ ghost use Rattle.ban_book.specs.Covering.{Covers};
 ghost use Rattle.claim_core.specs.declared.claims.Shape.TheVariants as AnyShape;
 ghost use Rattle.claim_core.specs.Images.{moved_value, two_inputs};
 ghost use Rattle.fact_bans.specs.Carrying.{AreSwapPairs, all_of};
-ghost use Rattle.fact_bans.specs.Asking.{AreSame, HoldsBy, MayHoldBy, loans};
+ghost use Rattle.fact_bans.specs.Asking.{AreSame, MakesBy, MayMakeBy, loans};
 
 use crate::asker::Asker;
 use crate::broken_claims::BrokenClaims;
-use crate::mismatched::hold_by;
+use crate::mismatched::keep_carried;
 use account_core::PairableGraphs;
-use ban_book::{BanBook, Carried, moved_value, two_inputs};
+use ban_book::{BanBook, Carried, two_inputs};
 use circuits::Pair;
-use claim_core::{Claim, Shape};
+use claim_core::{Claim, Shape, moved_value};
 use cnf_core::Stop;
 use net_core::Side;
 use oracle_core::Oracle;
@@ -42,10 +42,10 @@ pub fn swap_mismatch<O: Oracle>(
     pairs: SwapPairs,
     book: &mut BanBook,
 ) -> Result<Option<u64>, Stop>
-    requires may { MayHoldBy graphs.now (loans O.known asker.old) book.old }
+    requires may { MayMakeBy graphs.now (loans O.known asker.old) book.old }
     requires pairs { AreSwapPairs graphs.now pairs }
     ensures same { AreSame (loans O.known asker.old) (loans O.known asker.new) }
-    ensures holds { HoldsBy graphs.now (loans O.known asker.old) (loans O.known asker.new) book.old book.new result }
+    ensures makes { MakesBy graphs.now (loans O.known asker.old) (loans O.known asker.new) book.old book.new result }
     ensures covers { IfOk result (λ found. IfSome found (Covers book.new (all_of pairs))) }
 {
     let SwapPairs { one, other, output } = pairs;
@@ -70,21 +70,21 @@ fn by_values<O: Oracle>(
     pairs: SwapPairs,
     book: &mut BanBook,
 ) -> Result<Option<u64>, Stop>
-    requires may { MayHoldBy graphs.now (loans O.known asker.old) book.old }
+    requires may { MayMakeBy graphs.now (loans O.known asker.old) book.old }
     requires pairs { AreSwapPairs graphs.now pairs }
     requires before { pairs.one.from < pairs.other.from }
     requires apart { pairs.one.to ≢ pairs.other.to }
     ensures same { AreSame (loans O.known asker.old) (loans O.known asker.new) }
-    ensures holds { HoldsBy graphs.now (loans O.known asker.old) (loans O.known asker.new) book.old book.new result }
+    ensures makes { MakesBy graphs.now (loans O.known asker.old) (loans O.known asker.new) book.old book.new result }
     ensures covers { IfOk result (λ found. IfSome found (Covers book.new (all_of pairs))) }
 {
-    asker.seen.look_at_swaps(asker.alloc, graphs)?;
-    let Some(values) = values_to_ask(pairs, asker.seen) else {
+    asker.broken.look_at_swaps(asker.alloc, graphs)?;
+    let Some(values) = values_to_ask(pairs, asker.broken) else {
         return Ok(None);
     };
     let carried = carried(pairs, values);
     let pairs = [pairs.one, pairs.other, pairs.output];
-    hold_by(graphs, asker, &pairs, carried, book)
+    keep_carried(graphs, asker, &pairs, carried, book)
 }
 
 /// All values of two inputs.
@@ -92,22 +92,22 @@ static VALUES: [(bool, bool); 4] = [(false, true), (true, false), (false, false)
 
 // The values whose claim vectors break for one circuit and not for the other one, for which it isn't unateness that
 // keeps it.
-fn values_to_ask(pairs: SwapPairs, seen: &BrokenClaims) -> Option<(bool, bool)> {
+fn values_to_ask(pairs: SwapPairs, broken: &BrokenClaims) -> Option<(bool, bool)> {
     for values in VALUES.iter() {
-        if is_worth(carried(pairs, *values), seen) {
+        if is_worth(carried(pairs, *values), broken) {
             return Some(*values);
         }
     }
     None
 }
 
-fn is_worth(carried: Carried, seen: &BrokenClaims) -> bool {
+fn is_worth(carried: Carried, broken: &BrokenClaims) -> bool {
     match (
-        seen.is_swap_broken(carried.claim),
-        seen.is_swap_broken(carried.image),
+        broken.is_swap_broken(carried.claim),
+        broken.is_swap_broken(carried.image),
     ) {
-        (Some(true), Some(false)) => !seen.is_by_unateness(carried.image),
-        (Some(false), Some(true)) => !seen.is_by_unateness(carried.claim),
+        (Some(true), Some(false)) => !broken.is_by_unateness(carried.image),
+        (Some(false), Some(true)) => !broken.is_by_unateness(carried.claim),
         _ => false,
     }
 }

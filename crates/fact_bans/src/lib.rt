@@ -4,6 +4,7 @@
 mod asker;
 mod broken_claims;
 mod classes;
+mod deciding;
 mod exchanges;
 mod lists;
 mod mismatched;
@@ -14,7 +15,6 @@ mod rows;
 mod sampling;
 mod swaps;
 mod tallies;
-mod told;
 
 pub use asker::Asker;
 pub use ban_book::Unlike;

@@ -9,7 +9,7 @@ ghost use Rattle.fact_bans.specs.Asking.{AreSame, ServesBy, loans};
 ghost use Rattle.fact_bans.specs.Wanted.{ListsWanted, MayList};
 
 use crate::asker::Asker;
-use crate::told::add_fact;
+use crate::deciding::add_fact;
 use ban_book::one_input;
 use claim_core::Claim;
 use cnf_core::Stop;

@@ -9,10 +9,10 @@ ghost use Rattle.ban_book.specs.Covering.{Covers};
 ghost use Rattle.oracle_core.specs.Oracles.{Suits};
 ghost use Rattle.ban_book.specs.Mismatched.{IsBanBy, mismatch_of};
 ghost use Rattle.fact_bans.specs.Carrying.{Carry};
-ghost use Rattle.fact_bans.specs.Asking.{AreSame, HoldsBy, MayHoldBy, ServesBy, loans};
+ghost use Rattle.fact_bans.specs.Asking.{AreSame, MakesBy, MayMakeBy, ServesBy, loans};
 
 use crate::asker::Asker;
-use crate::told::decide;
+use crate::deciding::decide;
 use account_core::PairableGraphs;
 use ban_book::{BanBook, Carried, Unlike, mismatch_ban, unlike_of};
 use circuits::Pair;
@@ -21,17 +21,17 @@ use oracle_core::Oracle;
 
 /// Has both claims decided, and makes the ban of the pairs where one fails and the other one holds. Answers its number;
 /// None where both fail, or both hold.
-pub(crate) fn hold_by<O: Oracle>(
+pub(crate) fn keep_carried<O: Oracle>(
     graphs: &PairableGraphs<'_>,
     asker: &mut Asker<'_, O>,
     pairs: &[Pair],
     carried: Carried,
     book: &mut BanBook,
 ) -> Result<Option<u64>, Stop>
-    requires may { MayHoldBy graphs.now (loans O.known asker.old) book.old }
+    requires may { MayMakeBy graphs.now (loans O.known asker.old) book.old }
     requires carry { Carry graphs.now pairs.now carried }
     ensures same { AreSame (loans O.known asker.old) (loans O.known asker.new) }
-    ensures holds { HoldsBy graphs.now (loans O.known asker.old) (loans O.known asker.new) book.old book.new result }
+    ensures makes { MakesBy graphs.now (loans O.known asker.old) (loans O.known asker.new) book.old book.new result }
     ensures covers { IfOk result (λ found. IfSome found (Covers book.new pairs.now)) }
 {
     let Some(unlike) = unlike_by(asker, carried)? else {

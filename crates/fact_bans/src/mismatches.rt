@@ -7,14 +7,15 @@ ghost use Rattle.ban_book.specs.Covering.{Covers};
 ghost use Rattle.oracle_core.specs.Oracles.{Suits};
 ghost use Rattle.ban_book.specs.Mismatched.{IsBanBy, mismatch_of};
 ghost use Rattle.fact_bans.specs.Carrying.{IsPairOf};
-ghost use Rattle.fact_bans.specs.Asking.{AreSame, HoldsBy, MayHoldBy, ServesBy, loans};
+ghost use Rattle.fact_bans.specs.Asking.{AreSame, MakesBy, MayMakeBy, ServesBy, loans};
 
 use crate::asker::Asker;
 use crate::broken_claims::BrokenClaims;
-use crate::mismatched::{hold_by, unlike_by};
+use crate::mismatched::{keep_carried, unlike_by};
 use account_core::PairableGraphs;
-use ban_book::{BanBook, Unlike, carry, moved_value};
+use ban_book::{BanBook, Unlike, carry};
 use circuits::Pair;
+use claim_core::moved_value;
 use cnf_core::Stop;
 use net_core::Side;
 use oracle_core::Oracle;
@@ -33,18 +34,18 @@ pub fn mismatch<O: Oracle>(
     output: Pair,
     book: &mut BanBook,
 ) -> Result<Option<u64>, Stop>
-    requires may { MayHoldBy graphs.now (loans O.known asker.old) book.old }
+    requires may { MayMakeBy graphs.now (loans O.known asker.old) book.old }
     requires input { IsPairOf graphs.now Input input }
     requires output { IsPairOf graphs.now Output output }
     ensures same { AreSame (loans O.known asker.old) (loans O.known asker.new) }
-    ensures holds { HoldsBy graphs.now (loans O.known asker.old) (loans O.known asker.new) book.old book.new result }
+    ensures makes { MakesBy graphs.now (loans O.known asker.old) (loans O.known asker.new) book.old book.new result }
     ensures covers { IfOk result (λ found. IfSome found (Covers book.new (input ∷ output ∷ []))) }
 {
-    let Some(value) = value_to_ask(input, output, asker.seen) else {
+    let Some(value) = value_to_ask(input, output, asker.broken) else {
         return Ok(None);
     };
     let carried = carry(input, output, value);
-    hold_by(graphs, asker, &[input, output], carried, book)
+    keep_carried(graphs, asker, &[input, output], carried, book)
 }
 
 /// The facts by which the pairs of an input and an output have a ban, where a claim of the one circuit fails that holds
@@ -70,7 +71,7 @@ pub fn tell_apart<O: Oracle>(
 {
     // the facts of an oracle are of its circuits
     let _facts = asker.oracle.facts();
-    let Some(value) = value_to_ask(input, output, asker.seen) else {
+    let Some(value) = value_to_ask(input, output, asker.broken) else {
         return Ok(None);
     };
     let carried = carry(input, output, value);
@@ -78,18 +79,18 @@ pub fn tell_apart<O: Oracle>(
 }
 
 // The value for which vectors break the claim of one circuit, and not that of the other one.
-fn value_to_ask(input: Pair, output: Pair, seen: &BrokenClaims) -> Option<bool> {
-    if are_unlike(input, output, false, seen) {
+fn value_to_ask(input: Pair, output: Pair, broken: &BrokenClaims) -> Option<bool> {
+    if are_unlike(input, output, false, broken) {
         Some(false)
-    } else if are_unlike(input, output, true, seen) {
+    } else if are_unlike(input, output, true, broken) {
         Some(true)
     } else {
         None
     }
 }
 
-fn are_unlike(input: Pair, output: Pair, value: bool, seen: &BrokenClaims) -> bool {
+fn are_unlike(input: Pair, output: Pair, value: bool, broken: &BrokenClaims) -> bool {
     let image = moved_value(output.flip, input, value);
-    seen.is_broken(Side::First, output.from, input.from, value)
-        != seen.is_broken(Side::Second, output.to, input.to, image)
+    broken.is_broken(Side::First, output.from, input.from, value)
+        != broken.is_broken(Side::Second, output.to, input.to, image)
 }

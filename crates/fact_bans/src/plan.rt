@@ -37,24 +37,24 @@ impl Plan {
         alloc: Global,
         pair: Pair,
         inputs: u32,
-        seen: &BrokenClaims,
+        broken: &BrokenClaims,
     ) -> Result<Option<Plan>, AllocError> {
         let support = Tallied::Support;
-        if let Some(side) = more_on(pair, support, seen) {
-            return Ok(Some(by_kind(alloc, pair, side, support, inputs, seen)?));
+        if let Some(side) = more_on(pair, support, broken) {
+            return Ok(Some(by_kind(alloc, pair, side, support, inputs, broken)?));
         }
         let binate = Tallied::Binate;
-        match more_on(pair, binate, seen) {
-            Some(side) => Ok(Some(by_kind(alloc, pair, side, binate, inputs, seen)?)),
+        match more_on(pair, binate, broken) {
+            Some(side) => Ok(Some(by_kind(alloc, pair, side, binate, inputs, broken)?)),
             None => Ok(None),
         }
     }
 }
 
 // The side whose output is of a kind in more inputs.
-fn more_on(pair: Pair, kind: Tallied, seen: &BrokenClaims) -> Option<Side> {
-    let first = seen.count(Side::First, pair.from, kind);
-    let second = seen.count(Side::Second, pair.to, kind);
+fn more_on(pair: Pair, kind: Tallied, broken: &BrokenClaims) -> Option<Side> {
+    let first = broken.count(Side::First, pair.from, kind);
+    let second = broken.count(Side::Second, pair.to, kind);
     if first > second {
         Some(Side::First)
     } else if second > first {
@@ -73,16 +73,16 @@ fn by_kind(
     side: Side,
     kind: Tallied,
     inputs: u32,
-    seen: &BrokenClaims,
+    broken: &BrokenClaims,
 ) -> Result<Plan, AllocError> {
     let other = other_side(side);
     let mut have = Vec::new(alloc);
-    for flips in seen.row(side, port_on(side, pair)).iter() {
+    for flips in broken.row(side, port_on(side, pair)).iter() {
         have.push(broken_value(*flips, kind))?;
     }
-    let having = seen.count(side, port_on(side, pair), kind);
+    let having = broken.count(side, port_on(side, pair), kind);
     let wanted = inputs.saturating_sub(having).saturating_add(1);
-    let lack = without(alloc, seen.row(other, port_on(other, pair)), kind, wanted)?;
+    let lack = without(alloc, broken.row(other, port_on(other, pair)), kind, wanted)?;
     match kind {
         Tallied::Support => Ok(Plan {
             side,

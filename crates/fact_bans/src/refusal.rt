@@ -7,7 +7,7 @@ ghost use Rattle.account_core.specs.Ports.{ports_in};
 ghost use Rattle.ban_book.specs.Covering.{Covers};
 ghost use Rattle.fact_bans.specs.Carrying.{IsPairOf};
 ghost use Rattle.fact_bans.specs.Referred.{AreReferred};
-ghost use Rattle.fact_bans.specs.Asking.{AreSame, HoldsBy, MayHoldBy, loans};
+ghost use Rattle.fact_bans.specs.Asking.{AreSame, MakesBy, MayMakeBy, loans};
 ghost use Rattle.ban_book.specs.Ways.{IsBlock, ways_in};
 
 use crate::asker::Asker;
@@ -16,7 +16,7 @@ use crate::tallies::tally;
 use account_core::PairableGraphs;
 use ban_book::BanBook;
 use ban_book::block::{Block, marked, ways_in};
-use ban_book::cover::hold_cover;
+use ban_book::cover::keep_cover;
 use circuits::{Pair, PortKind};
 use cnf_core::Stop;
 use items::Items;
@@ -41,14 +41,14 @@ pub fn refuse<O: Oracle>(
     tries: u32,
     book: &mut BanBook,
 ) -> Result<Option<u64>, Stop>
-    requires may { MayHoldBy graphs.now (loans O.known asker.old) book.old }
+    requires may { MayMakeBy graphs.now (loans O.known asker.old) book.old }
     ensures same { AreSame (loans O.known asker.old) (loans O.known asker.new) }
-    ensures holds { HoldsBy graphs.now (loans O.known asker.old) (loans O.known asker.new) book.old book.new result }
+    ensures makes { MakesBy graphs.now (loans O.known asker.old) (loans O.known asker.new) book.old book.new result }
     ensures empty { IfOk result (λ found. IfSome found (IsEmptyBan book.new)) }
 {
     for _try in 0..tries {
         let outputs = graphs.ports(PortKind::Output);
-        let Some(classes) = Classes::new(asker.alloc, outputs, asker.seen)? else {
+        let Some(classes) = Classes::new(asker.alloc, outputs, asker.broken)? else {
             return Ok(None);
         };
         if let Some(number) = refuse_by(graphs, asker, &classes, book)? {
@@ -65,9 +65,9 @@ fn refuse_by<O: Oracle>(
     classes: &Classes,
     book: &mut BanBook,
 ) -> Result<Option<u64>, Stop>
-    requires may { MayHoldBy graphs.now (loans O.known asker.old) book.old }
+    requires may { MayMakeBy graphs.now (loans O.known asker.old) book.old }
     ensures same { AreSame (loans O.known asker.old) (loans O.known asker.new) }
-    ensures holds { HoldsBy graphs.now (loans O.known asker.old) (loans O.known asker.new) book.old book.new result }
+    ensures makes { MakesBy graphs.now (loans O.known asker.old) (loans O.known asker.new) book.old book.new result }
     ensures empty { IfOk result (λ found. IfSome found (IsEmptyBan book.new)) }
 {
     let Some(block) = block_of(asker.alloc, graphs, classes)? else {
@@ -103,17 +103,17 @@ fn refuse_block<O: Oracle>(
     block: Block,
     book: &mut BanBook,
 ) -> Result<Option<u64>, Stop>
-    requires may { MayHoldBy graphs.now (loans O.known asker.old) book.old }
+    requires may { MayMakeBy graphs.now (loans O.known asker.old) book.old }
     requires block { IsBlock (ports_in graphs.now.second block.kind) block }
     requires outputs { All (IsPairOf graphs.now Output) (ways_in block) }
     ensures same { AreSame (loans O.known asker.old) (loans O.known asker.new) }
-    ensures holds { HoldsBy graphs.now (loans O.known asker.old) (loans O.known asker.new) book.old book.new result }
+    ensures makes { MakesBy graphs.now (loans O.known asker.old) (loans O.known asker.new) book.old book.new result }
     ensures empty { IfOk result (λ found. IfSome found (IsEmptyBan book.new)) }
 {
     let Some(refs) = bans_in(graphs, asker, &block, book)? else {
         return Ok(None);
     };
-    let number = hold_cover(asker.alloc, graphs, &[], block, refs, book)?;
+    let number = keep_cover(asker.alloc, graphs, &[], block, refs, book)?;
     Ok(Some(number))
 }
 
@@ -124,10 +124,10 @@ fn bans_in<O: Oracle>(
     block: &Block,
     book: &mut BanBook,
 ) -> Result<Option<Items<Option<u64>>>, Stop>
-    requires may { MayHoldBy graphs.now (loans O.known asker.old) book.old }
+    requires may { MayMakeBy graphs.now (loans O.known asker.old) book.old }
     requires outputs { All (IsPairOf graphs.now Output) (ways_in block.now) }
     ensures same { AreSame (loans O.known asker.old) (loans O.known asker.new) }
-    ensures holds { HoldsBy graphs.now (loans O.known asker.old) (loans O.known asker.new) book.old book.new result }
+    ensures makes { MakesBy graphs.now (loans O.known asker.old) (loans O.known asker.new) book.old book.new result }
     ensures referred { IfOk result (λ found. IfSome found (AreReferred book.new (ways_in block.now))) }
 {
     let ways = ways_in(asker.alloc, block)?;
@@ -141,10 +141,10 @@ fn bans_of<O: Oracle>(
     ways: &[Pair],
     book: &mut BanBook,
 ) -> Result<Option<Items<Option<u64>>>, Stop>
-    requires may { MayHoldBy graphs.now (loans O.known asker.old) book.old }
+    requires may { MayMakeBy graphs.now (loans O.known asker.old) book.old }
     requires outputs { All (IsPairOf graphs.now Output) ways.now }
     ensures same { AreSame (loans O.known asker.old) (loans O.known asker.new) }
-    ensures holds { HoldsBy graphs.now (loans O.known asker.old) (loans O.known asker.new) book.old book.new result }
+    ensures makes { MakesBy graphs.now (loans O.known asker.old) (loans O.known asker.new) book.old book.new result }
     ensures referred { IfOk result (λ found. IfSome found (AreReferred book.new ways.now)) }
 {
     let mut refs = Items::new(asker.alloc);
@@ -164,10 +164,10 @@ fn ban_of<O: Oracle>(
     pair: Pair,
     book: &mut BanBook,
 ) -> Result<Option<u64>, Stop>
-    requires may { MayHoldBy graphs.now (loans O.known asker.old) book.old }
+    requires may { MayMakeBy graphs.now (loans O.known asker.old) book.old }
     requires outputs { IsPairOf graphs.now Output pair }
     ensures same { AreSame (loans O.known asker.old) (loans O.known asker.new) }
-    ensures holds { HoldsBy graphs.now (loans O.known asker.old) (loans O.known asker.new) book.old book.new result }
+    ensures makes { MakesBy graphs.now (loans O.known asker.old) (loans O.known asker.new) book.old book.new result }
     ensures covers { IfOk result (λ found. IfSome found (Covers book.new (pair ∷ []))) }
 {
     if let Some(number) = book.covering(&[pair]) {

@@ -4,11 +4,11 @@ ghost use Rattle.std.specs.Prelude.{◌≡◌, ◌<◌, IfOk, length, map};
 ghost use Rattle.net_core.specs.Sides.{graph_of};
 ghost use Rattle.account_core.specs.Given.{decided_by};
 ghost use Rattle.oracle_core.specs.Oracles.{Suits};
-ghost use Rattle.ban_book.specs.Rows.{IsRow, IsTold};
+ghost use Rattle.ban_book.specs.Rows.{IsRow, AreClaimsOf};
 ghost use Rattle.fact_bans.specs.Asking.{AreSame, MayAskBy, ServesBy, loans};
 
 use crate::asker::Asker;
-use crate::told::decide;
+use crate::deciding::decide;
 use account_core::PairableGraphs;
 use ban_book::InputClaims;
 use claim_core::{Claim, Shape};
@@ -18,7 +18,7 @@ use net_core::Side;
 use oracle_core::Oracle;
 
 /// Has both claims of each input of an output decided: that it never falls where the input goes up, and that it never
-/// falls where the input goes down. Answers what is told of them, in the order of the inputs. A claim whose number is
+/// falls where the input goes down. Answers the decided claims, in the order of the inputs. A claim whose number is
 /// noted is not asked again.
 ///
 /// # Errors
@@ -42,8 +42,8 @@ pub fn claims_of<O: Oracle>(
     let inputs = graphs.side(side).inputs();
     let mut row = Items::new(asker.alloc);
     for input in 0..inputs {
-        let told = decide_both(asker, side, output, input)?;
-        row.push(told)?;
+        let claims = decide_both(asker, side, output, input)?;
+        row.push(claims)?;
     }
     Ok(row)
 }
@@ -60,7 +60,8 @@ fn decide_both<O: Oracle>(
     requires suits { Suits (O.known asker.old.oracle.now) asker.old.ledger.now }
     ensures same { AreSame (loans O.known asker.old) (loans O.known asker.new) }
     ensures serves { ServesBy (loans O.known asker.old) (loans O.known asker.new) result }
-    ensures told { IfOk result (IsTold (map decided_by (O.known asker.new.oracle.now).facts) side output input) }
+    ensures decided { IfOk result
+        (AreClaimsOf (map decided_by (O.known asker.new.oracle.now).facts) side output input) }
 {
     let goes_up = Claim {
         side,

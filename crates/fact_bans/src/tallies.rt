@@ -7,7 +7,7 @@ ghost use Rattle.account_core.specs.Tallies.{port_on};
 ghost use Rattle.ban_book.specs.Covering.{Covers};
 ghost use Rattle.ban_book.specs.Listed.{AreLists};
 ghost use Rattle.fact_bans.specs.Carrying.{IsPairOf};
-ghost use Rattle.fact_bans.specs.Asking.{AreSame, HoldsBy, MayAskBy, MayHoldBy, ServesBy, loans};
+ghost use Rattle.fact_bans.specs.Asking.{AreSame, MakesBy, MayAskBy, MayMakeBy, ServesBy, loans};
 
 use crate::asker::Asker;
 use crate::lists::{Wanted, list};
@@ -32,14 +32,14 @@ pub fn tally<O: Oracle>(
     pair: Pair,
     book: &mut BanBook,
 ) -> Result<Option<u64>, Stop>
-    requires may { MayHoldBy graphs.now (loans O.known asker.old) book.old }
+    requires may { MayMakeBy graphs.now (loans O.known asker.old) book.old }
     requires outputs { IsPairOf graphs.now Output pair }
     ensures same { AreSame (loans O.known asker.old) (loans O.known asker.new) }
-    ensures holds { HoldsBy graphs.now (loans O.known asker.old) (loans O.known asker.new) book.old book.new result }
+    ensures makes { MakesBy graphs.now (loans O.known asker.old) (loans O.known asker.new) book.old book.new result }
     ensures covers { IfOk result (λ found. IfSome found (Covers book.new (pair ∷ []))) }
 {
     let inputs = graphs.first().inputs();
-    let Some(plan) = Plan::new(asker.alloc, pair, inputs, asker.seen)? else {
+    let Some(plan) = Plan::new(asker.alloc, pair, inputs, asker.broken)? else {
         return Ok(None);
     };
     tally_by(graphs, asker, pair, &plan, book)
@@ -53,17 +53,17 @@ fn tally_by<O: Oracle>(
     plan: &Plan,
     book: &mut BanBook,
 ) -> Result<Option<u64>, Stop>
-    requires may { MayHoldBy graphs.now (loans O.known asker.old) book.old }
+    requires may { MayMakeBy graphs.now (loans O.known asker.old) book.old }
     requires outputs { IsPairOf graphs.now Output pair }
     ensures same { AreSame (loans O.known asker.old) (loans O.known asker.new) }
-    ensures holds { HoldsBy graphs.now (loans O.known asker.old) (loans O.known asker.new) book.old book.new result }
+    ensures makes { MakesBy graphs.now (loans O.known asker.old) (loans O.known asker.new) book.old book.new result }
     ensures covers { IfOk result (λ found. IfSome found (Covers book.new (pair ∷ []))) }
 {
     let holds = plan.holds;
     let Some(lists) = ask(graphs, asker, pair, plan)? else {
         return Ok(None);
     };
-    if !are_many(graphs.first().inputs(), &lists.one, &lists.both) {
+    if !are_enough(graphs.first().inputs(), &lists.one, &lists.both) {
         return Ok(None);
     }
     let ban = tally_ban(asker.alloc, pair, holds, lists)?;
@@ -111,8 +111,9 @@ fn wanted_on(side: Side, pair: Pair, holds: bool, both: bool) -> Wanted
     }
 }
 
-// Whether facts of one input each, and facts in twos, are of more inputs than there are, and there are some of both.
-fn are_many(inputs: u32, one: &[u64], both: &[u64]) -> bool
+// Whether facts are enough for a tally: `one` has one fact an input and `both` has two, of more inputs together than a
+// circuit has, and neither is empty.
+fn are_enough(inputs: u32, one: &[u64], both: &[u64]) -> bool
     ensures some_one { IsTrue result → 0 < length one.now }
     ensures some_both { IsTrue result → 1 < length both.now }
     ensures many { IsTrue result → inputs < length one.now + length both.now / 2 }

@@ -84,12 +84,12 @@ impl Order {
     {
         self.heap.clear();
         for variable in variables.iter().rev() {
-            self.hold(*variable, focus);
+            self.insert(*variable, focus);
         }
     }
 
-    // A variable is to be decided, if it is one and a focus has it.
-    fn hold(&mut self, variable: u64, focus: &Focus)
+    // Puts a variable among those to be decided, if it is one and a focus has it.
+    fn insert(&mut self, variable: u64, focus: &Focus)
         requires { IsOrder (length self.old.heap) self.old }
         ensures { IsOrder (length self.old.heap) self.new }
     {
@@ -109,7 +109,7 @@ impl Order {
     {
         let variable = literal.variable();
         self.phases[variable as usize] = !literal.is_negated();
-        self.hold(variable, focus);
+        self.insert(variable, focus);
     }
 
     /// The next literal to decide, if there is one.

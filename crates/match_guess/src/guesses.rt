@@ -16,7 +16,7 @@ use std::alloc::{AllocError, Global};
 
 /// What a search for a match goes by. No answer rests on it.
 #[derive(Clone, Copy)]
-pub struct Hints<'a> {
+pub struct SearchStart<'a> {
     /// What vectors are drawn by.
     pub seed: u64,
     /// Matchings that may be a match, as the one that pairs ports of equal names.
@@ -56,16 +56,16 @@ impl<'a> Guesses<'a> {
     pub fn new(
         alloc: Global,
         graphs: &PairableGraphs<'a>,
-        hints: &Hints<'_>,
+        start: &SearchStart<'_>,
     ) -> Result<Guesses<'a>, AllocError> {
         let mut guesses = Guesses {
-            seed: hints.seed,
+            seed: start.seed,
             near: Vec::new(alloc),
             far: Vec::new(alloc),
             failed: Vec::new(alloc),
             guesser: None,
         };
-        guesses.add_all(alloc, graphs, hints)?;
+        guesses.add_all(alloc, graphs, start)?;
         Ok(guesses)
     }
 
@@ -75,14 +75,14 @@ impl<'a> Guesses<'a> {
         &mut self,
         alloc: Global,
         graphs: &PairableGraphs<'_>,
-        hints: &Hints<'_>,
+        start: &SearchStart<'_>,
     ) -> Result<(), AllocError> {
-        let trials = Trials::new(alloc, graphs.first(), hints.seed)?;
+        let trials = Trials::new(alloc, graphs.first(), start.seed)?;
         let plain = in_place(alloc, graphs)?;
-        if !hints.candidates.iter().any(|candidate| *candidate == plain) {
+        if !start.candidates.iter().any(|candidate| *candidate == plain) {
             self.add(alloc, graphs, &trials, plain)?;
         }
-        for candidate in hints.candidates.iter().rev() {
+        for candidate in start.candidates.iter().rev() {
             self.add(alloc, graphs, &trials, copied(candidate)?)?;
         }
         Ok(())

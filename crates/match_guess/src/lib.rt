@@ -17,4 +17,4 @@ mod signs;
 
 pub use effort::Effort;
 pub use guesser::Guesser;
-pub use guesses::{Guesses, Hints};
+pub use guesses::{Guesses, SearchStart};

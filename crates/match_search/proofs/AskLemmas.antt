@@ -22,16 +22,16 @@ use Rattle.ban_book.specs.Vectors.{AreLastResorts}
 use Rattle.ban_book.proofs.VectorLemmas.{last_resorts_push_other}
 use Rattle.fact_bans.specs.declared.exchanges.SwapPairs.{SwapPairs}
 use Rattle.fact_bans.specs.Carrying.{IsPairOf as IsOfKind}
-use Rattle.fact_bans.proofs.HoldingLemmas.{HasHeld, adds_then}
+use Rattle.fact_bans.proofs.MakingLemmas.{HasMadeBans, adds_then}
 use Rattle.pair_domains.specs.declared.entry.Entry.{Entry}
 use Rattle.pair_domains.specs.declared.entry.Fate.TheVariants.{Deleted}
 use Rattle.pair_domains.specs.declared.entry.Reason.TheVariants.{Mismatch}
-use Rattle.pair_domains.specs.Trails.{AreEntries, Domained, IsOpen, IsPairOf, held_in}
+use Rattle.pair_domains.specs.Trails.{AreEntries, Domained, IsOpen, IsPairOf, assigned_in}
 use Rattle.pair_search.specs.Grounded.{AreGrounded, IsGrounded, LearnsMore, StayGrounded, in_order}
 use Rattle.pair_search.specs.Named.{deleted}
 use Rattle.pair_search.proofs.GroundedLemmas.{grounded_push}
 use Rattle.pair_search.specs.Justified.{AreJustified}
-use Rattle.pair_search.proofs.JustifiedLemmas.{held_append}
+use Rattle.pair_search.proofs.JustifiedLemmas.{assigned_append}
 use Rattle.pair_search.specs.Progress.{IsTrail, Propagates, StaysJustified, left}
 use Rattle.pair_search.proofs.StepLemmas.{HasOneMore, justified_one, less_one, one_more_of, trail_on}
 pub use Rattle.class_refine.proofs.TrailLemmas.{known_of, shown_adds, trail_adds}
@@ -58,19 +58,19 @@ pub shown_stays : (graphs : Graphs) (known : Known) (bans lent : List Ban) (befo
 shown_stays graphs known bans lent before after same is stays = shown_beside graphs known bans lent before after same is stays.inputs stays.outputs stays.justified stays.grounded
 
 -- bans come that are learned from a trail that is shown
-pub held_learned : (graphs : Graphs) (old new : Known) (a b : Ledgered) (first second third : List Ban) (es : List Entry) → HasHeld graphs old new a b first second → AreGrounded graphs (map decided_by new.facts) es → LearnsMore graphs es second third → HasHeld graphs old new a b first third
-held_learned graphs old new a b first second third es held shown more = record {
-  served = held.served;
+pub made_learned : (graphs : Graphs) (old new : Known) (a b : Ledgered) (first second third : List Ban) (es : List Entry) → HasMadeBans graphs old new a b first second → AreGrounded graphs (map decided_by new.facts) es → LearnsMore graphs es second third → HasMadeBans graphs old new a b first third
+made_learned graphs old new a b first second third es made shown more = record {
+  served = made.served;
   valid = record {
-    graphs_are = held.valid.graphs_are;
-    each = more.valid (map decided_by new.facts) shown held.valid.each;
-    last_resorts = subst (AreLastResorts graphs (map decided_by new.facts)) (sym more.more) (last_resorts_push_other graphs (map decided_by new.facts) second more.added more.no_vector held.valid.last_resorts);
+    graphs_are = made.valid.graphs_are;
+    each = more.valid (map decided_by new.facts) shown made.valid.each;
+    last_resorts = subst (AreLastResorts graphs (map decided_by new.facts)) (sym more.more) (last_resorts_push_other graphs (map decided_by new.facts) second more.added more.no_vector made.valid.last_resorts);
   };
-  adds = adds_then first second third held.adds (record { added = more.added; more = more.more });
+  adds = adds_then first second third made.adds (record { added = more.added; more = more.more });
 }
 
 -- one more way is deleted, by a mismatch with an assigned pair
-pub shown_one : (graphs : Graphs) (known : Known) (bans : List Ban) (before after : Domained) (pair way : Pair) (fails holds : ℕ) → after ≡ record before { entries = before.entries ++ deleted way (Mismatch pair fails holds) ∷ [] } → IsShownTrail graphs known bans before → Contains (held_in before.entries) pair → IsGrounded graphs (map decided_by known.facts) way (Deleted (Mismatch pair fails holds)) → IsShownTrail graphs known bans after
+pub shown_one : (graphs : Graphs) (known : Known) (bans : List Ban) (before after : Domained) (pair way : Pair) (fails holds : ℕ) → after ≡ record before { entries = before.entries ++ deleted way (Mismatch pair fails holds) ∷ [] } → IsShownTrail graphs known bans before → Contains (assigned_in before.entries) pair → IsGrounded graphs (map decided_by known.facts) way (Deleted (Mismatch pair fails holds)) → IsShownTrail graphs known bans after
 shown_one graphs known bans before after pair way fails holds after_is is there shown =
     let e : Entry = deleted way (Mismatch pair fails holds) in
     let more : HasOneMore before after e = one_more_of before after e after_is in
@@ -79,13 +79,13 @@ shown_one graphs known bans before after pair way fails holds after_is is there 
       shown = subst (AreGrounded graphs (map decided_by known.facts)) (sym more.entries) (grounded_push graphs (map decided_by known.facts) before.entries e is.shown shown);
     }
 
-pub deletes_one : (before after : Domained) (pair way : Pair) (fails holds : ℕ) → after ≡ record before { entries = before.entries ++ deleted way (Mismatch pair fails holds) ∷ [] } → Contains (held_in before.entries) pair → AreEntries before.inputs before.outputs before.entries → IsPairOf before.inputs before.outputs way → IsOpen before.entries way → Deletes pair before after
+pub deletes_one : (before after : Domained) (pair way : Pair) (fails holds : ℕ) → after ≡ record before { entries = before.entries ++ deleted way (Mismatch pair fails holds) ∷ [] } → Contains (assigned_in before.entries) pair → AreEntries before.inputs before.outputs before.entries → IsPairOf before.inputs before.outputs way → IsOpen before.entries way → Deletes pair before after
 deletes_one before after pair way fails holds after_is there lawful known open' =
     let e : Entry = deleted way (Mismatch pair fails holds) in
     let more : HasOneMore before after e = one_more_of before after e after_is in
     let less = less_one before after e more lawful known open' refl in
     record {
-      held = subst (λ (l : List Pair). Contains l pair) (sym (ap held_in more.entries ∙ held_append before.entries (e ∷ []))) (Contains-append_left (held_in before.entries) (held_in (e ∷ [])) pair there);
+      assigned = subst (λ (l : List Pair). Contains l pair) (sym (ap assigned_in more.entries ∙ assigned_append before.entries (e ∷ []))) (Contains-append_left (assigned_in before.entries) (assigned_in (e ∷ [])) pair there);
       less = omega (arith, less);
     }
 
@@ -126,7 +126,7 @@ shown_of graphs facts pair way pairs (Err stop) order is = is
 -- Bans were kept, while pairs were assigned and deleted as it follows.
 pub record IsUnderWay (graphs : Graphs) (old now : Lent) (domains : Domained) : Type 0 where
   pub same : AreSameLoans old now
-  pub held : HasHeld graphs old.known now.known old.ledger now.ledger old.bans now.bans
+  pub made : HasMadeBans graphs old.known now.known old.ledger now.ledger old.bans now.bans
   pub trail : IsShownTrail graphs now.known now.bans domains
   pub trials : AreTrials graphs.first now.vectors
 

@@ -12,8 +12,8 @@ use Rattle.account_core.specs.Ports.{HaveAsMany}
 use Rattle.ban_book.proofs.VectorLemmas.{last_resorts_none}
 use Rattle.oracle_core.specs.Enough.{enough}
 use Rattle.oracle_core.specs.Oracles.{IsSpentWork, IsStopped, Known, Serves}
-use Rattle.fact_bans.specs.Serving.{HoldsBans, MayHold}
-use Rattle.fact_bans.proofs.HoldingLemmas.{held_same, holds_no_more}
+use Rattle.fact_bans.specs.Serving.{MakesBans, MayMakeBans}
+use Rattle.fact_bans.proofs.MakingLemmas.{made_same, makes_no_more}
 use Rattle.fact_bans.proofs.ServeLemmas.{served_one, served_then, serves_err, serves_last, serves_memory, serves_ok, valid_grows}
 use Rattle.sim_patterns.specs.Trials.{AreTrials}
 use Rattle.match_search.specs.declared.found.Found.{Found}
@@ -30,7 +30,7 @@ none_valid graphs known bans are none =
     })
 
 -- nothing was asked yet
-pub may_start : {graphs : Graphs} {known : Known} {ledger : Ledgered} {bans : List Ban} → MayBegin graphs known ledger bans → AreFacts known.graphs known.facts → MayHold graphs known ledger bans
+pub may_start : {graphs : Graphs} {known : Known} {ledger : Ledgered} {bans : List Ban} → MayBegin graphs known ledger bans → AreFacts known.graphs known.facts → MayMakeBans graphs known ledger bans
 may_start {graphs} {known} {ledger} {bans} may lawful = record {
   graphs_are = may.graphs_are;
   lawful = subst (λ (g : Graphs). AreFacts g known.facts) (sym may.graphs_are) lawful;
@@ -38,8 +38,8 @@ may_start {graphs} {known} {ledger} {bans} may lawful = record {
   valid = none_valid graphs known bans may.graphs_are may.none;
 }
 
--- bans may be held, and so claims may be asked
-pub may_ask : {graphs : Graphs} {known : Known} {ledger : Ledgered} {bans : List Ban} → MayHold graphs known ledger bans → MayCompare graphs known ledger
+-- bans may be made, and so claims may be asked
+pub may_ask : {graphs : Graphs} {known : Known} {ledger : Ledgered} {bans : List Ban} → MayMakeBans graphs known ledger bans → MayCompare graphs known ledger
 may_ask may = record { graphs_are = may.graphs_are; lawful = may.lawful; suits = may.suits }
 
 -- a search that found a match, or a ban without pairs
@@ -51,10 +51,10 @@ searches_ok served valid found = record {
 }
 
 -- that ended without an answer
-pub searches_err : {X : Type 0} {graphs : Graphs} {old mid new : Known} {a b c : Ledgered} {bans more : List Ban} {result : Result Found Stop} {stop : Stop} → IsErrAnd result (λ e. e ≡ stop) → HasServed old mid a b → HoldsBans {X = X} graphs mid new b c bans more (Err stop) → Searches graphs old new a c more result
-searches_err is served holds = record {
-  serves = serves_err _ _ _ _ _ _ _ _ is served holds.serves;
-  valid = holds.valid;
+pub searches_err : {X : Type 0} {graphs : Graphs} {old mid new : Known} {a b c : Ledgered} {bans more : List Ban} {result : Result Found Stop} {stop : Stop} → IsErrAnd result (λ e. e ≡ stop) → HasServed old mid a b → MakesBans {X = X} graphs mid new b c bans more (Err stop) → Searches graphs old new a c more result
+searches_err is served makes = record {
+  serves = serves_err _ _ _ _ _ _ _ _ is served makes.serves;
+  valid = makes.valid;
   found = never_if _ _ _ is;
 }
 
@@ -90,7 +90,7 @@ pub record IsSearching (graphs : Graphs) (old now : Lent) : Type 0 where
 pub searching_start : {graphs : Graphs} {s : Lent} → MaySearch graphs s → IsSearching graphs s s
 searching_start may = record {
   same = same_loans;
-  served = (held_same _ _ _ _ may.may).served;
+  served = (made_same _ _ _ _ may.may).served;
   valid = may.may.valid;
   trials = may.trials;
 }
@@ -99,12 +99,12 @@ searching_start may = record {
 pub searching_more : {X : Type 0} {graphs : Graphs} {old mid new : Lent} {x : X} → IsSearching graphs old mid → Explores graphs mid new (Ok x) → IsSearching graphs old new
 searching_more is explores = record {
   same = same_then is.same explores.same;
-  served = served_then _ _ _ _ _ _ is.served (served_one _ _ _ _ _ explores.holds.serves);
-  valid = explores.holds.valid;
+  served = served_then _ _ _ _ _ _ is.served (served_one _ _ _ _ _ explores.makes.serves);
+  valid = explores.makes.valid;
   trials = explores.trials;
 }
 
--- claims were asked, and no ban held
+-- claims were asked, and no ban made
 pub searching_asked : {X : Type 0} {graphs : Graphs} {old mid : Lent} {known : Known} {ledger : Ledgered} {x : X} → IsSearching graphs old mid → Serves mid.known known mid.ledger ledger (Ok x) → IsSearching graphs old (record mid { known = known; ledger = ledger })
 searching_asked is serves = record {
   same = same_then is.same same_loans;
@@ -132,14 +132,14 @@ search_found is found = record { same = is.same; searches = searches_ok is.serve
 pub search_failed : {X : Type 0} {graphs : Graphs} {old mid new : Lent} {result : Result Found Stop} {stop : Stop} → IsErrAnd result (λ e. e ≡ stop) → IsSearching graphs old mid → Explores {X = X} graphs mid new (Err stop) → SearchesBy graphs old new result
 search_failed is searching explores = record {
   same = same_then searching.same explores.same;
-  searches = searches_err is searching.served explores.holds;
+  searches = searches_err is searching.served explores.makes;
 }
 
 -- and ended while claims were asked
 pub search_ended : {X : Type 0} {graphs : Graphs} {old mid : Lent} {known : Known} {ledger : Ledgered} {result : Result Found Stop} {stop : Stop} → IsErrAnd result (λ e. e ≡ stop) → IsSearching graphs old mid → Serves {X = X} mid.known known mid.ledger ledger (Err stop) → SearchesBy graphs old (record mid { known = known; ledger = ledger }) result
 search_ended is searching serves = record {
   same = same_then searching.same same_loans;
-  searches = searches_err is searching.served (holds_no_more _ _ _ _ _ _ _ searching.valid serves);
+  searches = searches_err is searching.served (makes_no_more _ _ _ _ _ _ _ searching.valid serves);
 }
 
 -- and went on to its end

@@ -1,6 +1,6 @@
 pub mod States
 pub mod Founds
-pub use Rattle.account_core.specs.Held
+pub use Rattle.account_core.specs.Assigned
 pub use Rattle.ban_book.specs.Ways
 pub use Rattle.pair_search.specs.Progress
 pub use Rattle.pair_search.specs.Conflicts

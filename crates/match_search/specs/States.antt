@@ -11,9 +11,9 @@ use Rattle.account_core.specs.Facts.{AreFacts}
 use Rattle.account_core.specs.Given.{decided_by}
 use Rattle.account_core.specs.Shown.{IsShownMatch}
 use Rattle.ban_book.specs.Covering.{Covers}
-use Rattle.pair_domains.specs.Trails.{Domained, held_in}
+use Rattle.pair_domains.specs.Trails.{Domained, assigned_in}
 use Rattle.fact_bans.specs.declared.exchanges.SwapPairs.{SwapPairs}
-use Rattle.fact_bans.specs.Serving.{HoldsBans, MayHold}
+use Rattle.fact_bans.specs.Serving.{MakesBans, MayMakeBans}
 use Rattle.oracle_core.specs.Oracles.{Known, Serves, Suits}
 use Rattle.sim_patterns.specs.declared.trials.Trials.{Trials}
 use Rattle.sim_patterns.specs.Trials.{AreTrials}
@@ -38,7 +38,7 @@ pub record Lent : Type 0 where
   pub bans : List Ban
   pub vectors : Trials
   pub oracle_name : GName
-  pub seen_name : GName
+  pub broken_name : GName
   pub heuristics_name : GName
   pub book_name : GName
   pub ledger_name : GName
@@ -50,7 +50,7 @@ lent known s = record {
   bans = s.book.now;
   vectors = s.heuristics.now.trials;
   oracle_name = s.asker.oracle.ghost_name;
-  seen_name = s.asker.seen.ghost_name;
+  broken_name = s.asker.broken.ghost_name;
   heuristics_name = s.heuristics.ghost_name;
   book_name = s.book.ghost_name;
   ledger_name = s.asker.ledger.ghost_name;
@@ -59,19 +59,19 @@ lent known s = record {
 -- They are the same loans.
 pub record AreSameLoans (old new : Lent) : Type 0 where
   pub oracle : new.oracle_name ≡ old.oracle_name
-  pub seen : new.seen_name ≡ old.seen_name
+  pub broken : new.broken_name ≡ old.broken_name
   pub heuristics : new.heuristics_name ≡ old.heuristics_name
   pub book : new.book_name ≡ old.book_name
   pub ledger : new.ledger_name ≡ old.ledger_name
 
 -- claims may be asked, and bans made
 abbrev pub MayGoOn : Graphs → Lent → Type 0
-MayGoOn graphs lent = MayHold graphs lent.known lent.ledger lent.bans
+MayGoOn graphs lent = MayMakeBans graphs lent.known lent.ledger lent.bans
 
 -- What a call does that assigns and deletes no pair: claims were decided and bans made by their facts, whatever it answers, and the trials stay.
 pub record GoesOn {X : Type 0} (graphs : Graphs) (old new : Lent) (result : Result X Stop) : Type 0 where
   pub same : AreSameLoans old new
-  pub holds : HoldsBans graphs old.known new.known old.ledger new.ledger old.bans new.bans result
+  pub makes : MakesBans graphs old.known new.known old.ledger new.ledger old.bans new.bans result
   pub trials : new.vectors ≡ old.vectors
 
 -- Claims may be asked and outputs compared: the oracle is of these circuits, and the ledger suits it.
@@ -101,14 +101,14 @@ pub record MayStep (graphs : Graphs) (lent : Lent) (domains : Domained) : Type 0
 -- assigned and deleted.
 pub record Steps {X : Type 0} (graphs : Graphs) (old new : Lent) (domains : Domained) (result : Result X Stop) : Type 0 where
   pub same : AreSameLoans old new
-  pub holds : HoldsBans graphs old.known new.known old.ledger new.ledger old.bans new.bans result
+  pub makes : MakesBans graphs old.known new.known old.ledger new.ledger old.bans new.bans result
   pub trail : OnOk result (IsShownTrail graphs new.known new.bans domains)
   pub trials : OnOk result (AreTrials graphs.first new.vectors)
 
 -- What a search of some rounds does: the same, without a trail that is left.
 pub record Explores {X : Type 0} (graphs : Graphs) (old new : Lent) (result : Result X Stop) : Type 0 where
   pub same : AreSameLoans old new
-  pub holds : HoldsBans graphs old.known new.known old.ledger new.ledger old.bans new.bans result
+  pub makes : MakesBans graphs old.known new.known old.ledger new.ledger old.bans new.bans result
   pub trials : OnOk result (AreTrials graphs.first new.vectors)
 
 -- What a search does: claims were decided, and the bans are valid by their facts, whatever it answers; and a match that it
@@ -131,13 +131,13 @@ pub record IsFoundBy (graphs : Graphs) (lent : Lent) (found : Found) : Type 0 wh
 
 -- More pairs may be deleted beside one that stays assigned, and no more is left than before.
 pub record Deletes (pair : Pair) (before after : Domained) : Type 0 where
-  pub held : Contains (held_in after.entries) pair
+  pub assigned : Contains (assigned_in after.entries) pair
   pub less : left after ≤ left before
 
 -- What a call does that makes a ban of assigned pairs, if it finds one, and assigns no pair.
-pub record Excludes (graphs : Graphs) (old new : Lent) (held : List Pair) (result : Result (Option ℕ) Stop) : Type 0 where
+pub record Excludes (graphs : Graphs) (old new : Lent) (assigned : List Pair) (result : Result (Option ℕ) Stop) : Type 0 where
   pub goes_on : GoesOn graphs old new result
-  pub covers : IfOk result (λ found. IfSome found (Covers new.bans held))
+  pub covers : IfOk result (λ found. IfSome found (Covers new.bans assigned))
 
 -- A pair of an input and one of an output are these two, in some order.
 pub record AreOfBothKinds (pair other : Pair) (both : Pair × Pair) : Type 0 where
@@ -166,5 +166,5 @@ IsAhead graphs lent before after (ahead.Conflict conflict) = IsStuck lent.bans b
 
 -- a whole matching is a match, or has all pairs of a ban
 abbrev pub IsWholeCompared : Graphs → List Ban → List Pair → WholeCompared → Type 0
-IsWholeCompared graphs bans held (compared.Match matching logs) = IsShownMatch graphs matching logs
-IsWholeCompared graphs bans held (compared.Ban number) = Covers bans held number
+IsWholeCompared graphs bans assigned (compared.Match matching logs) = IsShownMatch graphs matching logs
+IsWholeCompared graphs bans assigned (compared.Ban number) = Covers bans assigned number

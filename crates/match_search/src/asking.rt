@@ -2,19 +2,19 @@
 
 ghost use Rattle.std.specs.Prelude.{◌<◌, Contains, IfSome};
 ghost use Rattle.account_core.specs.Ports.{IsKnown};
-ghost use Rattle.pair_domains.specs.Trails.{held_in};
+ghost use Rattle.pair_domains.specs.Trails.{assigned_in};
 ghost use Rattle.pair_search.specs.ConflictSets.{FitPorts};
 ghost use Rattle.match_search.specs.States.{GoesOn, MayGoOn, MayStep, Steps, lent, AreOfBothKinds};
 
 use crate::session::Session;
-use account_core::PairableGraphs;
+use account_core::{PairableGraphs, Port};
 use circuits::{Pair, PortKind};
 use class_refine::Domains;
 use cnf_core::Stop;
 use fact_bans::{mismatch, tally};
 use net_core::Side;
 use oracle_core::Oracle;
-use pair_search::{Port, way_of};
+use pair_search::way_of;
 
 /// Makes the tallies of an output of the first circuit and each of the second.
 pub(crate) fn ask_output<O: Oracle>(
@@ -50,7 +50,7 @@ pub(crate) fn ask_assigned<O: Oracle>(
     pair: Pair,
 ) -> Result<bool, Stop>
     requires may { MayStep graphs.now (lent O.known session.old) domains.now }
-    requires held { Contains (held_in domains.now.entries) pair }
+    requires assigned { Contains (assigned_in domains.now.entries) pair }
     ensures steps { Steps graphs.now (lent O.known session.old) (lent O.known session.new) domains.now result }
 {
     // assigned pairs are of ports that exist, and share none

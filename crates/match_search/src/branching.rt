@@ -4,8 +4,8 @@ ghost use Rattle.std.specs.Prelude.{◌≡◌, ◌<◌, false, IfNone, IfOk, IfS
 ghost use Rattle.account_core.specs.Given.{decided_by};
 ghost use Rattle.account_core.specs.Shown.{IsShownMatch};
 ghost use Rattle.match_search.specs.Founds.{IsDecidedFound};
-ghost use Rattle.account_core.specs.Held.{IsWhole};
-ghost use Rattle.pair_domains.specs.Trails.{held_in};
+ghost use Rattle.account_core.specs.Assigned.{IsWhole};
+ghost use Rattle.pair_domains.specs.Trails.{assigned_in};
 ghost use Rattle.pair_search.specs.Progress.{left};
 ghost use Rattle.match_search.specs.States.{Explores, IsAhead, IsFoundBy, MaySearch, MayStep, SearchesBy, Steps, lent};
 
@@ -205,7 +205,7 @@ fn compare_assigned<O: Oracle>(
     domains: &mut Domains,
 ) -> Result<Ahead, Stop>
     requires may { MayStep graphs.now (lent O.known session.old) domains.old }
-    requires whole { IsWhole graphs.now (held_in domains.old.entries) }
+    requires whole { IsWhole graphs.now (assigned_in domains.old.entries) }
     ensures steps { Steps graphs.now (lent O.known session.old) (lent O.known session.new) domains.new result }
     ensures ahead { IfOk result (IsAhead graphs.now (lent O.known session.new) domains.old domains.new) }
 {

@@ -5,10 +5,10 @@ ghost use Rattle.oracle_core.specs.Oracles.{Serves, Suits};
 ghost use Rattle.circuits.specs.Matches.{HavePorts};
 ghost use Rattle.account_core.specs.Shown.{AreLogs};
 ghost use Rattle.match_search.specs.Founds.{IsComparison};
-ghost use Rattle.account_core.specs.Held.{IsWhole};
+ghost use Rattle.account_core.specs.Assigned.{IsWhole};
 ghost use Rattle.match_search.specs.States.{IsWholeCompared, MayCompare, MayStep, Steps, lent};
 ghost use Rattle.vector_bans.specs.Differences.{Differs};
-ghost use Rattle.pair_domains.specs.Trails.{held_in};
+ghost use Rattle.pair_domains.specs.Trails.{assigned_in};
 
 use crate::ahead::WholeCompared;
 use crate::matching::matching_of;
@@ -33,9 +33,9 @@ pub(crate) fn compare_whole<O: Oracle>(
     domains: &Domains,
 ) -> Result<WholeCompared, Stop>
     requires may { MayStep graphs.now (lent O.known session.old) domains.now }
-    requires whole { IsWhole graphs.now (held_in domains.now.entries) }
+    requires whole { IsWhole graphs.now (assigned_in domains.now.entries) }
     ensures steps { Steps graphs.now (lent O.known session.old) (lent O.known session.new) domains.now result }
-    ensures compared { IfOk result (IsWholeCompared graphs.now session.new.book.now (held_in domains.now.entries)) }
+    ensures compared { IfOk result (IsWholeCompared graphs.now session.new.book.now (assigned_in domains.now.entries)) }
 {
     // the gates of a graph are in order
     let _first = graphs.first();

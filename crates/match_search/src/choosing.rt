@@ -3,16 +3,16 @@
 ghost use Rattle.std.specs.Prelude.{ℕ, ◌≡◌, ◌<◌, false, IfNone, IfOk, IfSome, IsTrue};
 ghost use Rattle.net_core.specs.Sides.{Graphs as AnyGraphs};
 ghost use Rattle.net_core.specs.declared.graphs.Side.TheVariants as AnySide;
-ghost use Rattle.account_core.specs.Held.{IsTaken, IsWhole};
-ghost use Rattle.pair_domains.specs.Trails.{IsFreePort, held_in, ports_of};
+ghost use Rattle.account_core.specs.Assigned.{IsTaken, IsWhole};
+ghost use Rattle.pair_domains.specs.Trails.{IsFreePort, assigned_in, ports_of};
 ghost use Rattle.pair_search.specs.ConflictSets.{FitPorts};
 
 use crate::fewest::fewest_ways;
 use crate::guide::Guide;
+use account_core::Port;
 use circuits::PortKind;
+use class_refine::Domains;
 use net_core::Side;
-use pair_domains::Domains;
-use pair_search::Port;
 use std::alloc::{AllocError, Global};
 
 /// The next port that is in no pair: the urgent one, or that of either circuit which has the fewest ways left for its
@@ -32,7 +32,7 @@ pub fn next_port(
         (λ port. IsFreePort domains.now.entries port.side port.kind port.number)) }
     ensures none { IfOk result (λ next. IfNone next ((graphs : AnyGraphs)
         → FitPorts graphs domains.now.inputs domains.now.outputs
-        → IsWhole graphs (held_in domains.now.entries))) }
+        → IsWhole graphs (assigned_in domains.now.entries))) }
 {
     if let Some(port) = preferred(alloc, guide, domains)? {
         if is_free(domains, port) {
@@ -59,7 +59,7 @@ fn first_free(domains: &Domains) -> Option<Port>
     ensures free { IfSome result (λ port. IsFreePort domains.now.entries port.side port.kind port.number) }
     ensures none { IfNone result ((graphs : AnyGraphs)
         → FitPorts graphs domains.now.inputs domains.now.outputs
-        → IsWhole graphs (held_in domains.now.entries)) }
+        → IsWhole graphs (assigned_in domains.now.entries)) }
 {
     if let Some(port) = first_of(domains, PortKind::Output) {
         return Some(port);
@@ -72,7 +72,7 @@ fn first_of(domains: &Domains, kind: PortKind) -> Option<Port>
     ensures port { IfSome result (λ port. port.number < ports_of domains.now.inputs domains.now.outputs port.kind) }
     ensures free { IfSome result (λ port. IsFreePort domains.now.entries port.side port.kind port.number) }
     ensures none { IfNone result ((port : ℕ) → port < ports_of domains.now.inputs domains.now.outputs kind
-        → IsTaken AnySide.First (held_in domains.now.entries) kind port) }
+        → IsTaken AnySide.First (assigned_in domains.now.entries) kind port) }
 {
     for number in 0..domains.ports(kind) {
         let port = Port {
@@ -93,12 +93,12 @@ fn is_free(domains: &Domains, port: Port) -> bool
     ensures free { IsTrue result → IsFreePort domains.now.entries port.side port.kind port.number }
     ensures taken { result ≡ false
         → port.number < ports_of domains.now.inputs domains.now.outputs port.kind
-        → IsTaken port.side (held_in domains.now.entries) port.kind port.number }
+        → IsTaken port.side (assigned_in domains.now.entries) port.kind port.number }
 {
     if port.number >= domains.ports(port.kind) {
         return false;
     }
-    match domains.held(port.side, port.kind, port.number) {
+    match domains.assigned(port.side, port.kind, port.number) {
         Some(_) => false,
         None => true,
     }

@@ -13,7 +13,7 @@ use ban_book::BanBook;
 use circuits::PortKind;
 use cnf_core::Stop;
 use fact_bans::{Asker, BrokenClaims};
-use match_guess::{Effort, Guesses, Hints};
+use match_guess::{Effort, Guesses, SearchStart};
 use oracle_core::Oracle;
 use query_core::Ledger;
 use std::alloc::Global;
@@ -52,7 +52,7 @@ pub fn decide<O: Oracle>(
     graphs: &PairableGraphs<'_>,
     oracle: &mut O,
     book: &mut BanBook,
-    hints: &Hints<'_>,
+    start: &SearchStart<'_>,
     ledger: &mut Ledger,
 ) -> Result<Found, Stop>
     requires may { MayBegin graphs.now (O.known oracle.old) ledger.old book.old }
@@ -61,7 +61,7 @@ pub fn decide<O: Oracle>(
 {
     // the facts of an oracle are of its circuits
     let _facts = oracle.facts();
-    let mut guesses = Guesses::new(alloc, graphs, hints)?;
+    let mut guesses = Guesses::new(alloc, graphs, start)?;
     let effort = first_effort(graphs);
     if let Some((matching, logs)) = compare_guesses(
         alloc,
@@ -73,13 +73,13 @@ pub fn decide<O: Oracle>(
     )? {
         return Ok(Found::Match(matching, logs));
     }
-    let mut seen = BrokenClaims::new(alloc, graphs, hints.seed)?;
-    let mut heuristics = Heuristics::new(alloc, graphs, hints.seed)?;
+    let mut broken = BrokenClaims::new(alloc, graphs, start.seed)?;
+    let mut heuristics = Heuristics::new(alloc, graphs, start.seed)?;
     let mut session = Session {
         asker: Asker {
             alloc,
             oracle,
-            seen: &mut seen,
+            broken: &mut broken,
             ledger,
         },
         heuristics: &mut heuristics,

@@ -5,12 +5,11 @@ ghost use Rattle.pair_domains.specs.Trails.{ports_of};
 
 use crate::reads::Reads;
 use crate::weights::Weights;
-use account_core::port_on;
+use account_core::{Port, port_on};
 use circuits::{Pair, PortKind};
+use class_refine::Domains;
 use items::Items;
 use net_core::Side;
-use pair_domains::Domains;
-use pair_search::Port;
 use std::alloc::{AllocError, Global};
 
 // A port, how many ways it has left, and its weight.
@@ -125,7 +124,7 @@ fn candidate_at(
 ) -> Option<WeighedPort>
     requires { number < ports_of domains.now.inputs domains.now.outputs kind }
 {
-    if let Some(_) = domains.held(side, kind, number) {
+    if let Some(_) = domains.assigned(side, kind, number) {
         return None;
     }
     let ways = (domains.ports(kind) as usize).saturating_mul(2);

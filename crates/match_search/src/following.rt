@@ -2,13 +2,13 @@
 
 ghost use Rattle.std.specs.Prelude.{◌≤◌, Contains, IfOk, IfSome, OnOk};
 ghost use Rattle.pair_search.specs.Conflicts.{IsConflict};
-ghost use Rattle.pair_domains.specs.Trails.{held_in};
+ghost use Rattle.pair_domains.specs.Trails.{assigned_in};
 ghost use Rattle.pair_search.specs.Progress.{left};
 ghost use Rattle.match_search.specs.States.{Deletes, MayStep, Steps, lent};
 
 use crate::asking::{ask_assigned, ask_output};
-use crate::exchanged::exclude_by_swaps;
 use crate::session::Session;
+use crate::swap_bans::exclude_by_swaps;
 use crate::trail::PairTrail;
 use crate::unlike::{delete_unlike, list_unlike};
 use account_core::PairableGraphs;
@@ -41,8 +41,8 @@ pub(crate) fn follow<O: Oracle>(
         return Ok(None);
     }
     let domains = &trail.domains;
-    if let Some(exchanged) = exchange_assigned(graphs, session, domains)? {
-        return Ok(Some(exchanged));
+    if let Some(excluded) = compare_by_swaps(graphs, session, domains)? {
+        return Ok(Some(excluded));
     }
     try_assigned(graphs, session, domains)
 }
@@ -72,7 +72,7 @@ fn try_assigned<O: Oracle>(
 }
 
 // Compares each assigned pair that wasn't compared yet with claims of two inputs, beside all other assigned pairs.
-fn exchange_assigned<O: Oracle>(
+fn compare_by_swaps<O: Oracle>(
     graphs: &PairableGraphs<'_>,
     session: &mut Session<'_, O>,
     domains: &Domains,
@@ -84,13 +84,13 @@ fn exchange_assigned<O: Oracle>(
     // assigned pairs are of ports that exist, and share none
     let _lawful = domains.entries();
     let assigned = domains.pairs();
-    for place in session.heuristics.guide.exchanged..assigned.len() {
-        session.heuristics.guide.exchanged = place;
+    for place in session.heuristics.guide.compared_by_swaps..assigned.len() {
+        session.heuristics.guide.compared_by_swaps = place;
         if let Some(ban) = exclude_by_swaps(graphs, session, assigned, assigned[place])? {
             return Ok(Some(Conflict::Ban(ban)));
         }
     }
-    session.heuristics.guide.exchanged = assigned.len();
+    session.heuristics.guide.compared_by_swaps = assigned.len();
     Ok(None)
 }
 
@@ -171,7 +171,7 @@ fn ask_next_pair<O: Oracle>(
 
 // The assigned pair of a place.
 fn next_assigned(domains: &Domains, place: usize) -> Option<Pair>
-    ensures { IfSome result (Contains (held_in domains.now.entries)) }
+    ensures { IfSome result (Contains (assigned_in domains.now.entries)) }
 {
     domains.pairs().get(place).copied()
 }
@@ -184,7 +184,7 @@ fn delete_beside<O: Oracle>(
     pair: Pair,
 ) -> Result<(), Stop>
     requires may { MayStep graphs.now (lent O.known session.old) domains.old }
-    requires held { Contains (held_in domains.old.entries) pair }
+    requires assigned { Contains (assigned_in domains.old.entries) pair }
     ensures steps { Steps graphs.now (lent O.known session.old) (lent O.known session.new) domains.new result }
     ensures deletes { OnOk result (Deletes pair domains.old domains.new) }
 {
@@ -200,5 +200,5 @@ fn ways_beside<O: Oracle>(
     pair: Pair,
     again: bool,
 ) -> Result<Vec<Pair>, AllocError> {
-    list_unlike(asker.alloc, domains, asker.seen, pair, again)
+    list_unlike(asker.alloc, domains, asker.broken, pair, again)
 }

@@ -7,9 +7,9 @@ use crate::reads::{Reads, by_count};
 use crate::room::BanRoom;
 use crate::rounds::Rounds;
 use crate::weights::Weights;
-use account_core::{Ban, PairableGraphs};
+use account_core::{Ban, PairableGraphs, Port};
 use circuits::Pair;
-use pair_search::{Conflict, Port};
+use pair_search::Conflict;
 use std::alloc::{AllocError, Global};
 
 /// The most that tallies of all signed pairs of outputs may ask: the pairs times the inputs. Each pair's ban lists up
@@ -31,7 +31,7 @@ pub struct Guide {
     /// How many of the assigned pairs were compared with claims of one input.
     pub asked: usize,
     /// How many of the assigned pairs were compared with claims of two inputs.
-    pub exchanged: usize,
+    pub compared_by_swaps: usize,
     compared: ComparedPairs,
     /// The port that was decided last, and the one that comes first as long as it is in no pair.
     decided: Option<Port>,
@@ -59,7 +59,7 @@ impl Guide {
             order,
             tallied: 0,
             asked: 0,
-            exchanged: 0,
+            compared_by_swaps: 0,
             compared,
             decided: None,
             urgent: None,
@@ -75,7 +75,7 @@ impl Guide {
     /// Notes that only this many pairs are assigned now, the earliest ones.
     pub fn go_back_to(&mut self, assigned: usize) {
         self.asked = self.asked.min(assigned);
-        self.exchanged = self.exchanged.min(assigned);
+        self.compared_by_swaps = self.compared_by_swaps.min(assigned);
     }
 
     /// Notes that a round begins, with this many assigned pairs, the earliest ones.

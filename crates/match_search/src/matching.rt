@@ -4,7 +4,7 @@ ghost use Rattle.std.specs.Prelude.{◌≡◌, ◌<◌, All, AllPairs, IfOk, len
 ghost use Rattle.circuits.specs.declared.port.Pair.{Pair as AnyPair};
 ghost use Rattle.circuits.specs.Matches.{HavePorts};
 ghost use Rattle.claim_core.specs.Images.{Extends};
-ghost use Rattle.account_core.specs.Held.{AreApart, AreHeld, IsEntryOf, IsWhole};
+ghost use Rattle.account_core.specs.Assigned.{AreApart, AreAssignable, IsEntryOf, IsWhole};
 
 use account_core::PairableGraphs;
 use circuits::{Pair, PortKind};
@@ -18,7 +18,7 @@ pub(crate) fn matching_of(
     graphs: &PairableGraphs<'_>,
     assigned: &[Pair],
 ) -> Result<Matching, AllocError>
-    requires held { AreHeld graphs.now assigned.now }
+    requires assigned { AreAssignable graphs.now assigned.now }
     requires whole { IsWhole graphs.now assigned.now }
     ensures ports { IfOk result
         (λ matching. HavePorts graphs.now.first graphs.now.second matching.inputs matching.outputs) }

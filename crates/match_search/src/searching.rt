@@ -80,13 +80,13 @@ fn search_all<O: Oracle>(
 {
     // the facts of an oracle are of its circuits
     let _facts = oracle.facts();
-    let mut seen = BrokenClaims::new(alloc, graphs, seed)?;
+    let mut broken = BrokenClaims::new(alloc, graphs, seed)?;
     let mut heuristics = Heuristics::new(alloc, graphs, seed)?;
     let mut session = Session {
         asker: Asker {
             alloc,
             oracle,
-            seen: &mut seen,
+            broken: &mut broken,
             ledger,
         },
         heuristics: &mut heuristics,

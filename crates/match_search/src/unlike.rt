@@ -5,7 +5,7 @@ ghost use Rattle.account_core.specs.Given.{decided_by};
 ghost use Rattle.account_core.specs.Ports.{IsKnown};
 ghost use Rattle.pair_domains.specs.declared.entry.Fate.TheVariants.{Deleted};
 ghost use Rattle.pair_domains.specs.declared.entry.Reason.TheVariants.{Mismatch};
-ghost use Rattle.pair_domains.specs.Trails.{held_in};
+ghost use Rattle.pair_domains.specs.Trails.{assigned_in};
 ghost use Rattle.pair_search.specs.Grounded.{IsGrounded};
 ghost use Rattle.match_search.specs.States.{Deletes, GoesOn, MayGoOn, MayStep, Steps, lent};
 
@@ -41,13 +41,13 @@ struct Beside {
 pub(crate) fn list_unlike(
     alloc: Global,
     domains: &Domains,
-    seen: &BrokenClaims,
+    claims: &BrokenClaims,
     pair: Pair,
     again: bool,
 ) -> Result<Vec<Pair>, AllocError> {
     let mut ways = Vec::new(alloc);
-    let first = free_ports(alloc, domains, seen, pair, Side::First)?;
-    let second = free_ports(alloc, domains, seen, pair, Side::Second)?;
+    let first = free_ports(alloc, domains, claims, pair, Side::First)?;
+    let second = free_ports(alloc, domains, claims, pair, Side::Second)?;
     for one in first.iter() {
         list_port(domains, pair, *one, &second, &mut ways)?;
     }
@@ -61,15 +61,15 @@ pub(crate) fn list_unlike(
 fn free_ports(
     alloc: Global,
     domains: &Domains,
-    seen: &BrokenClaims,
+    claims: &BrokenClaims,
     pair: Pair,
     side: Side,
 ) -> Result<Vec<Beside>, AllocError> {
     let kind = other_kind(pair.kind);
     let mut ports = Vec::new(alloc);
     for port in 0..domains.ports(kind) {
-        if domains.held(side, kind, port).is_none() {
-            let broken = broken_beside(seen, pair, side, port);
+        if domains.assigned(side, kind, port).is_none() {
+            let broken = broken_beside(claims, pair, side, port);
             ports.push(Beside { port, broken })?;
         }
     }
@@ -84,11 +84,11 @@ fn other_kind(kind: PortKind) -> PortKind {
 }
 
 // What vectors break of the claims of a pair's port of a circuit and a port of the other kind.
-fn broken_beside(seen: &BrokenClaims, pair: Pair, side: Side, port: u32) -> u8 {
+fn broken_beside(claims: &BrokenClaims, pair: Pair, side: Side, port: u32) -> u8 {
     let own = port_on(side, pair);
     match pair.kind {
-        PortKind::Output => seen.broken(side, own, port),
-        PortKind::Input => seen.broken(side, port, own),
+        PortKind::Output => claims.broken(side, own, port),
+        PortKind::Input => claims.broken(side, port, own),
     }
 }
 
@@ -150,7 +150,7 @@ pub(crate) fn delete_unlike<O: Oracle>(
     ways: &[Pair],
 ) -> Result<(), Stop>
     requires may { MayStep graphs.now (lent O.known session.old) domains.old }
-    requires held { Contains (held_in domains.old.entries) pair }
+    requires assigned { Contains (assigned_in domains.old.entries) pair }
     ensures steps { Steps graphs.now (lent O.known session.old) (lent O.known session.new) domains.new result }
     ensures deletes { OnOk result (Deletes pair domains.old domains.new) }
 {
@@ -169,7 +169,7 @@ fn delete_way<O: Oracle>(
     way: Pair,
 ) -> Result<(), Stop>
     requires may { MayStep graphs.now (lent O.known session.old) domains.old }
-    requires held { Contains (held_in domains.old.entries) pair }
+    requires assigned { Contains (assigned_in domains.old.entries) pair }
     ensures steps { Steps graphs.now (lent O.known session.old) (lent O.known session.new) domains.new result }
     ensures deletes { OnOk result (Deletes pair domains.old domains.new) }
 {

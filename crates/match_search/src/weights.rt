@@ -1,9 +1,8 @@
 //! How often ports were in conflicts of late.
 
-use account_core::{Ban, Step};
+use account_core::{Ban, Port, Step};
 use circuits::{Pair, PortKind};
 use net_core::Side;
-use pair_search::Port;
 use std::alloc::{AllocError, Global};
 
 /// What a conflict adds at first: so much that little is lost where its sixteenth is rounded.

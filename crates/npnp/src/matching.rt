@@ -23,7 +23,7 @@ use check_steps::{Ending, Match, Outcome, Which, read_netlist, report_named};
 use cnf_core::{Log, Stop};
 use fact_tests::FactBook;
 use items::Items;
-use match_search::{Found, Hints, decide};
+use match_search::{Found, SearchStart, decide};
 use net_core::{Graphs, Matching};
 use net_file::Named;
 use query_core::Ledger;
@@ -93,12 +93,12 @@ fn solve<W: Watch>(
 ) -> Result<Solved, Outcome>
     ensures { Solves graphs.now asked.now.budget result }
 {
-    let hints = Hints {
+    let start = SearchStart {
         seed: asked.seed,
         candidates,
     };
     match PairableGraphs::new(graphs) {
-        Some(pairable) => solve_by_search(alloc, &pairable, &hints, asked.budget, watch),
+        Some(pairable) => solve_by_search(alloc, &pairable, &start, asked.budget, watch),
         None => Ok(other_ports(alloc, graphs)?),
     }
 }
@@ -107,14 +107,14 @@ fn solve<W: Watch>(
 pub(crate) fn solve_by_search<W: Watch>(
     alloc: Global,
     graphs: &PairableGraphs<'_>,
-    hints: &Hints<'_>,
+    start: &SearchStart<'_>,
     budget: u64,
     watch: &W,
 ) -> Result<Solved, Outcome>
     ensures { Solves graphs.now budget result }
 {
     let mut ledger = Ledger::new(alloc, budget);
-    match search_in(alloc, graphs, hints, &mut ledger, watch) {
+    match search_in(alloc, graphs, start, &mut ledger, watch) {
         Ok(solved) => Ok(solved),
         Err(Stop::Spent(_)) => Err(Outcome::Spent(ledger)),
         Err(Stop::Memory) => Err(Outcome::Memory),
@@ -125,7 +125,7 @@ pub(crate) fn solve_by_search<W: Watch>(
 fn search_in<'a, W: Watch>(
     alloc: Global,
     graphs: &'a PairableGraphs<'a>,
-    hints: &Hints<'_>,
+    start: &SearchStart<'_>,
     ledger: &mut Ledger,
     watch: &'a W,
 ) -> Result<Solved, Stop>
@@ -133,9 +133,9 @@ fn search_in<'a, W: Watch>(
     ensures answer { IfOk result (IsSolved graphs.now) }
     ensures spent { (learned : ℕ) → result ≡ Err (Spent learned) → IsSpentOf graphs.now ledger.old.budget ledger.new }
 {
-    let mut book = FactBook::watched(alloc, graphs.graphs(), hints.seed, watch)?;
+    let mut book = FactBook::watched(alloc, graphs.graphs(), start.seed, watch)?;
     let mut bans = BanBook::new(alloc);
-    let found = decide(alloc, graphs, &mut book, &mut bans, hints, ledger)?;
+    let found = decide(alloc, graphs, &mut book, &mut bans, start, ledger)?;
     Ok(answered(alloc, graphs, found, book.into_facts(), bans.into_bans())?)
 }
 

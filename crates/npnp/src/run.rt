@@ -11,13 +11,13 @@ ghost use Rattle.check_steps.specs.declared.outcome.Which.{Which as AnyFile};
 ghost use Rattle.check_steps.specs.Words.{AskForPair, AskNothing, AsksTrial, ReadFiles};
 ghost use Rattle.query_core.specs.Ledgers.{Ledgered};
 ghost use Rattle.check_steps.specs.Check.{IsAccepted, IsRejected, IsMatchOfFiles, LacksMatch};
-ghost use Rattle.run_steps.specs.Make.{HoldsPair, NamesPair, WriteFiles};
+ghost use Rattle.run_steps.specs.Make.{HasMadePair, NamesPair, WriteFiles};
 ghost use Rattle.run_steps.specs.Match.{HasNoMatch, IsAskedToMatch, IsMatchFound, IsProved, IsSpentOnTwo, NamesAccount};
 ghost use Rattle.check_steps.specs.Ends.{EndsEarly, IsAbsent};
 ghost use Rattle.run_steps.specs.Outcomes.{FollowsWords, IsAskedOf, IsDecided, IsOfMatch, IsOfTrial, IsRight};
 ghost use Rattle.run_steps.specs.Outcomes.{IsSettled};
 ghost use Rattle.run_steps.specs.Outcomes.{IsSoundAnswer, IsSpentOn, IsTold, Leaves, LeavesFiles, MayBeCut};
-ghost use Rattle.run_steps.specs.Restore.{AsChecked, HoldsRestored, IsRestorable, NamesRestored};
+ghost use Rattle.run_steps.specs.Restore.{AsChecked, HasRestored, IsRestorable, NamesRestored};
 ghost use Rattle.run_steps.specs.Report.{IsReport};
 ghost use Rattle.check_steps.specs.Lines.{line_of};
 ghost use Rattle.run_steps.specs.Steps.{Decides, TellsLine, PutsText, WritesPart};
@@ -146,7 +146,7 @@ pub fn run<S: Shelf, K: Sink>(
     // A pair is made exactly where the words ask for one, unless a write failed or memory ran out. The two files are
     // then the pair as it is printed, which is read as circuits of the pair's functions, and these have a match.
     ensures made { IsTold result → ((result ≡ Outcome.Made) ↔ AskForPair (bytes_of words.now)) }
-    ensures pair { IsTrue S.tells → result ≡ Outcome.Made → HoldsPair (S.state shelf.new).held (bytes_of words.now) }
+    ensures pair { IsTrue S.tells → result ≡ Outcome.Made → HasMadePair (S.state shelf.new).held (bytes_of words.now) }
 
     // A netlist is restored exactly where the words ask for it and a check by the first three names accepts the
     // account, which proves a match, unless a fault came or memory ran out. The new file has it then: it has the first
@@ -156,7 +156,7 @@ pub fn run<S: Shelf, K: Sink>(
         → ((result ≡ Outcome.Restored gates)
         ↔ IsRestorable (S.state shelf.old).held (bytes_of words.now) gates) }
     ensures restored_file { IsTrue S.tells → (gates : ℕ) → result ≡ Outcome.Restored gates
-        → HoldsRestored (S.state shelf.old).held (S.state shelf.new).held (bytes_of words.now) gates }
+        → HasRestored (S.state shelf.old).held (S.state shelf.new).held (bytes_of words.now) gates }
 
     // A pair was tried only where its number is that of the words and the account, which the outcome has, is accepted
     // for it: it proves a matching that is a match. Nothing else comes of a trial, but that the budget is spent on the

@@ -14,7 +14,7 @@ use account_write::{Account, last_line};
 use check_steps::{DEFAULT_BUDGET, DEFAULT_SEED, Ending, Outcome, Trial, report_line};
 use gen_pair::{GenPair, make};
 use items::Items;
-use match_search::Hints;
+use match_search::SearchStart;
 use net_core::Graphs;
 use std::alloc::{AllocError, Global};
 use text_core::put_all;
@@ -63,11 +63,11 @@ fn prove_match<W: Watch>(
     ensures account { IfOk result (λ account. IsProvedMatch graphs.now account.items) }
     ensures stopped { IfErr result (IsStopWithin graphs.now default_budget) }
 {
-    let hints = Hints {
+    let start = SearchStart {
         seed: DEFAULT_SEED,
         candidates: &[],
     };
-    let solved = solve_by_search(alloc, graphs, &hints, DEFAULT_BUDGET, watch)?;
+    let solved = solve_by_search(alloc, graphs, &start, DEFAULT_BUDGET, watch)?;
     let text = text_of(alloc, &solved.account)?;
     accept(alloc, graphs.graphs(), &text)?;
     Ok(text)

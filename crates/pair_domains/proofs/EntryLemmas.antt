@@ -10,9 +10,9 @@ use Rattle.net_core.specs.declared.graphs.Side.{Side}
 use Rattle.claim_core.specs.Images.{same_kind}
 use Rattle.account_core.specs.Tallies.{port_on}
 use Rattle.pair_domains.specs.declared.entry.Entry.{Entry}
-use Rattle.pair_domains.specs.declared.entry.Fate.TheVariants.{Held, Deleted}
+use Rattle.pair_domains.specs.declared.entry.Fate.TheVariants.{Assigned, Deleted}
 use Rattle.pair_domains.specs.declared.entry.Cause.{Cause}
-use Rattle.pair_domains.specs.Trails.{IsDeleted, gone_in, held_in, is_at, is_held}
+use Rattle.pair_domains.specs.Trails.{IsDeleted, gone_in, assigned_in, is_at, is_assigned}
 use Rattle.claim_core.proofs.ImageLemmas.{kind_same, kind_is}
 
 -- what a list without its last element is
@@ -43,16 +43,16 @@ of_at side kind port pair e =
     (kind_is pair.kind kind parts.0, eqb-true (port_on side pair) port parts.1)
 
 -- the assigned pairs with one entry more
-one_kept : (es : List Entry) (e : Entry) → held_in (es ++ e ∷ []) ≡ held_in es ++ map (λ (x : Entry). x.pair) (cond (is_held e.fate) (e ∷ []) [])
+one_kept : (es : List Entry) (e : Entry) → assigned_in (es ++ e ∷ []) ≡ assigned_in es ++ map (λ (x : Entry). x.pair) (cond (is_assigned e.fate) (e ∷ []) [])
 one_kept es e =
-    ap (map (λ (x : Entry). x.pair)) (filter-append (λ (x : Entry). is_held x.fate) es (e ∷ []))
-    ∙ map-append (λ (x : Entry). x.pair) (filter (λ (x : Entry). is_held x.fate) es) (cond (is_held e.fate) (e ∷ []) [])
+    ap (map (λ (x : Entry). x.pair)) (filter-append (λ (x : Entry). is_assigned x.fate) es (e ∷ []))
+    ∙ map-append (λ (x : Entry). x.pair) (filter (λ (x : Entry). is_assigned x.fate) es) (cond (is_assigned e.fate) (e ∷ []) [])
 
-pub held_more : (es : List Entry) (e : Entry) → is_held e.fate ≡ true → held_in (es ++ e ∷ []) ≡ held_in es ++ e.pair ∷ []
-held_more es e is = one_kept es e ∙ ap (λ b. held_in es ++ map (λ (x : Entry). x.pair) (cond b (e ∷ []) [])) is
+pub assigned_more : (es : List Entry) (e : Entry) → is_assigned e.fate ≡ true → assigned_in (es ++ e ∷ []) ≡ assigned_in es ++ e.pair ∷ []
+assigned_more es e is = one_kept es e ∙ ap (λ b. assigned_in es ++ map (λ (x : Entry). x.pair) (cond b (e ∷ []) [])) is
 
-pub held_same : (es : List Entry) (e : Entry) → is_held e.fate ≡ false → held_in (es ++ e ∷ []) ≡ held_in es
-held_same es e is = one_kept es e ∙ (ap (λ b. held_in es ++ map (λ (x : Entry). x.pair) (cond b (e ∷ []) [])) is ∙ append-nil (held_in es))
+pub assigned_same : (es : List Entry) (e : Entry) → is_assigned e.fate ≡ false → assigned_in (es ++ e ∷ []) ≡ assigned_in es
+assigned_same es e is = one_kept es e ∙ (ap (λ b. assigned_in es ++ map (λ (x : Entry). x.pair) (cond b (e ∷ []) [])) is ∙ append-nil (assigned_in es))
 
 -- one where a test passes
 abbrev pub one_if : Bool → ℕ
@@ -75,16 +75,16 @@ other_only true b is = absurd (false≢true (sym is))
 other_only false b is = refl
 
 -- the deleted pairs of a port with one entry more
-gone_push : (es : List Entry) (e : Entry) (side : Side) (kind : PortKind) (port : ℕ) → gone_in (es ++ e ∷ []) side kind port ≡ gone_in es side kind port + one_if (not (is_held e.fate) && is_at side kind port e.pair)
-gone_push es e side kind port = sum_by_push (λ (x : Entry). cond (not (is_held x.fate) && is_at side kind port x.pair) 1 0) es e
+gone_push : (es : List Entry) (e : Entry) (side : Side) (kind : PortKind) (port : ℕ) → gone_in (es ++ e ∷ []) side kind port ≡ gone_in es side kind port + one_if (not (is_assigned e.fate) && is_at side kind port e.pair)
+gone_push es e side kind port = sum_by_push (λ (x : Entry). cond (not (is_assigned x.fate) && is_at side kind port x.pair) 1 0) es e
 
-pub gone_held : (es : List Entry) (e : Entry) (side : Side) (kind : PortKind) (port : ℕ) → is_held e.fate ≡ true → gone_in (es ++ e ∷ []) side kind port ≡ gone_in es side kind port
-gone_held es e side kind port is =
-    omega (arith, gone_push es e side kind port, none_of_false (not (is_held e.fate) && is_at side kind port e.pair) (not_both (is_held e.fate) (is_at side kind port e.pair) is))
+pub gone_assigned : (es : List Entry) (e : Entry) (side : Side) (kind : PortKind) (port : ℕ) → is_assigned e.fate ≡ true → gone_in (es ++ e ∷ []) side kind port ≡ gone_in es side kind port
+gone_assigned es e side kind port is =
+    omega (arith, gone_push es e side kind port, none_of_false (not (is_assigned e.fate) && is_at side kind port e.pair) (not_both (is_assigned e.fate) (is_at side kind port e.pair) is))
 
-pub gone_deleted : (es : List Entry) (e : Entry) (side : Side) (kind : PortKind) (port : ℕ) → is_held e.fate ≡ false → gone_in (es ++ e ∷ []) side kind port ≡ gone_in es side kind port + one_if (is_at side kind port e.pair)
+pub gone_deleted : (es : List Entry) (e : Entry) (side : Side) (kind : PortKind) (port : ℕ) → is_assigned e.fate ≡ false → gone_in (es ++ e ∷ []) side kind port ≡ gone_in es side kind port + one_if (is_at side kind port e.pair)
 gone_deleted es e side kind port is =
-    gone_push es e side kind port ∙ ap (λ b. gone_in es side kind port + one_if b) (other_only (is_held e.fate) (is_at side kind port e.pair) is)
+    gone_push es e side kind port ∙ ap (λ b. gone_in es side kind port + one_if b) (other_only (is_assigned e.fate) (is_at side kind port e.pair) is)
 
 -- a pair has one entry at most
 pub one_entry : (es : List Entry) (e f : Entry) → AllPairs (λ (x y : Entry). x.pair ≢ y.pair) es → Contains es e → Contains es f → e.pair ≡ f.pair → e ≡ f
@@ -102,11 +102,11 @@ one_entry es e f distinct one other same = elim (cases_eq one.0 other.0) [
       | inr after ↦ distinct other.0 one.0 e (omega (arith, after, apart)) one.1 (ap (λ (x : Entry). x.pair) (get_or_default es other.0 e f other.1 ∙ other.2) ∙ (sym same ∙ ap (λ (x : Entry). x.pair) (sym one.2)))
     ]
 
-held_is_not_deleted : (c : Cause) (e f : Entry) → e.fate ≡ Held c → e ≡ f → is_held f.fate ≡ true
-held_is_not_deleted c e f is same = ap (λ (x : Entry). is_held x.fate) (sym same) ∙ ap is_held is
+assigned_is_not_deleted : (c : Cause) (e f : Entry) → e.fate ≡ Assigned c → e ≡ f → is_assigned f.fate ≡ true
+assigned_is_not_deleted c e f is same = ap (λ (x : Entry). is_assigned x.fate) (sym same) ∙ ap is_assigned is
 
-pub held_undeleted : (es : List Entry) (p : Pair) (c : Cause) → AllPairs (λ (x y : Entry). x.pair ≢ y.pair) es → Contains es (record { pair = p; fate = Held c }) → IsDeleted es p → ⊥
-held_undeleted es p c distinct held deleted =
-    let e : Entry = record { pair = p; fate = Held c } in
+pub assigned_undeleted : (es : List Entry) (p : Pair) (c : Cause) → AllPairs (λ (x y : Entry). x.pair ≢ y.pair) es → Contains es (record { pair = p; fate = Assigned c }) → IsDeleted es p → ⊥
+assigned_undeleted es p c distinct assigned deleted =
+    let e : Entry = record { pair = p; fate = Assigned c } in
     let f : Entry = record { pair = p; fate = Deleted deleted.0 } in
-    false≢true (held_is_not_deleted c e f refl (one_entry es e f distinct held deleted.1 refl))
+    false≢true (assigned_is_not_deleted c e f refl (one_entry es e f distinct assigned deleted.1 refl))

@@ -10,13 +10,13 @@ use Rattle.circuits.specs.declared.port.PortKind.{PortKind}
 use Rattle.net_core.specs.declared.graphs.Side.{Side}
 use Rattle.net_core.specs.declared.graphs.Side.TheVariants.{First, Second}
 use Rattle.account_core.specs.Tallies.{port_on}
-use Rattle.account_core.specs.Held.{AreApart}
+use Rattle.account_core.specs.Assigned.{AreApart}
 use Rattle.pair_domains.specs.declared.entry.Entry.{Entry}
 use Rattle.pair_domains.specs.Numbers.{at_ports, pair_number, port_number, put_at_ports}
-use Rattle.pair_domains.specs.Trails.{Domained, AreEntries, IsFreePort, IsOpen, IsPairOf, held_in, is_at, is_held, ports_of}
-use Rattle.pair_domains.specs.Kept.{AreCounts, AreHolders, ArePlaces, IsKept, TellsHeld, TellsPlace}
+use Rattle.pair_domains.specs.Trails.{Domained, AreEntries, IsFreePort, IsOpen, IsPairOf, assigned_in, is_at, is_assigned, ports_of}
+use Rattle.pair_domains.specs.Kept.{AreCounts, ArePairsAt, ArePlaces, IsKept, TellsAssigned, TellsPlace}
 use Rattle.pair_domains.proofs.NumberLemmas.{pair_number_below, pair_number_same}
-use Rattle.pair_domains.proofs.EntryLemmas.{All-front, All-last, AllPairs-front, AllPairs-last, at_of, gone_deleted, gone_held, held_more, held_same, none_of_false, of_at, one_of_true}
+use Rattle.pair_domains.proofs.EntryLemmas.{All-front, All-last, AllPairs-front, AllPairs-last, at_of, gone_deleted, gone_assigned, assigned_more, assigned_same, none_of_false, of_at, one_of_true}
 use Rattle.pair_domains.proofs.TableLemmas.{changed_at, changed_other, changed_size}
 
 -- the entries
@@ -26,27 +26,27 @@ apart_from x p first second = record {
   to = λ kind same. false≢true (sym second ∙ at_of Second p.kind p.to x kind same);
 }
 
-entries_held : (n m : ℕ) (es : List Entry) (e : Entry) → AreEntries n m es → is_held e.fate ≡ true → IsPairOf n m e.pair → IsOpen es e.pair → IsFreePort es First e.pair.kind e.pair.from → IsFreePort es Second e.pair.kind e.pair.to → AreEntries n m (es ++ e ∷ [])
-entries_held n m es e are is known free from to = record {
+entries_assigned : (n m : ℕ) (es : List Entry) (e : Entry) → AreEntries n m es → is_assigned e.fate ≡ true → IsPairOf n m e.pair → IsOpen es e.pair → IsFreePort es First e.pair.kind e.pair.from → IsFreePort es Second e.pair.kind e.pair.to → AreEntries n m (es ++ e ∷ [])
+entries_assigned n m es e are is known free from to = record {
   known = All-push (λ (x : Entry). IsPairOf n m x.pair) es e are.known known;
   distinct = all_pairs_push (λ (x y : Entry). x.pair ≢ y.pair) es e are.distinct free;
-  apart = subst (AllPairs AreApart) (sym (held_more es e is)) (all_pairs_push AreApart (held_in es) e.pair are.apart (λ k d below. apart_from (get_or (held_in es) k d) e.pair (from k d below) (to k d below)));
+  apart = subst (AllPairs AreApart) (sym (assigned_more es e is)) (all_pairs_push AreApart (assigned_in es) e.pair are.apart (λ k d below. apart_from (get_or (assigned_in es) k d) e.pair (from k d below) (to k d below)));
 }
 
-entries_deleted : (n m : ℕ) (es : List Entry) (e : Entry) → AreEntries n m es → is_held e.fate ≡ false → IsPairOf n m e.pair → IsOpen es e.pair → AreEntries n m (es ++ e ∷ [])
+entries_deleted : (n m : ℕ) (es : List Entry) (e : Entry) → AreEntries n m es → is_assigned e.fate ≡ false → IsPairOf n m e.pair → IsOpen es e.pair → AreEntries n m (es ++ e ∷ [])
 entries_deleted n m es e are is known free = record {
   known = All-push (λ (x : Entry). IsPairOf n m x.pair) es e are.known known;
   distinct = all_pairs_push (λ (x y : Entry). x.pair ≢ y.pair) es e are.distinct free;
-  apart = subst (AllPairs AreApart) (sym (held_same es e is)) are.apart;
+  apart = subst (AllPairs AreApart) (sym (assigned_same es e is)) are.apart;
 }
 
 entries_fewer : (n m : ℕ) (es : List Entry) (e : Entry) → AreEntries n m (es ++ e ∷ []) → AreEntries n m es
 entries_fewer n m es e are = record {
   known = All-front (λ (x : Entry). IsPairOf n m x.pair) es e are.known;
   distinct = AllPairs-front (λ (x y : Entry). x.pair ≢ y.pair) es e are.distinct;
-  apart = elim (cases_Bool (is_held e.fate)) [
-    | inl is ↦ AllPairs-front AreApart (held_in es) e.pair (subst (AllPairs AreApart) (held_more es e is) are.apart)
-    | inr is ↦ subst (AllPairs AreApart) (held_same es e is) are.apart
+  apart = elim (cases_Bool (is_assigned e.fate)) [
+    | inl is ↦ AllPairs-front AreApart (assigned_in es) e.pair (subst (AllPairs AreApart) (assigned_more es e is) are.apart)
+    | inr is ↦ subst (AllPairs AreApart) (assigned_same es e is) are.apart
   ];
 }
 
@@ -117,34 +117,34 @@ places_fewer n m es e ps entries are = record {
         let others = AllPairs-last (λ (x y : Entry). x.pair ≢ y.pair) es e entries.distinct in
         subst (TellsPlace es q) (sym slot) (record { found = tt; none = λ k d below at. others k d below (at ∙ is) })
 
--- the holders
-held_by : (es fs : List Entry) (side : Side) (kind : PortKind) (port : ℕ) (o : Option Pair) → held_in es ≡ held_in fs → TellsHeld es side kind port o → TellsHeld fs side kind port o
-held_by es fs side kind port (Some q) same tells = record { found = record { held = subst (λ l. Contains l q) same tells.found.held; at = tells.found.at }; none = tt }
-held_by es fs side kind port None same tells = record { found = tt; none = subst (All (λ pair. is_at side kind port pair ≡ false)) same tells.none }
+-- the assigned pairs of ports
+assigned_by : (es fs : List Entry) (side : Side) (kind : PortKind) (port : ℕ) (o : Option Pair) → assigned_in es ≡ assigned_in fs → TellsAssigned es side kind port o → TellsAssigned fs side kind port o
+assigned_by es fs side kind port (Some q) same tells = record { found = record { assigned = subst (λ l. Contains l q) same tells.found.assigned; at = tells.found.at }; none = tt }
+assigned_by es fs side kind port None same tells = record { found = tt; none = subst (All (λ pair. is_at side kind port pair ≡ false)) same tells.none }
 
-holders_by : (n m : ℕ) (es fs : List Entry) (hs : List (Option Pair)) → held_in es ≡ held_in fs → AreHolders n m es hs → AreHolders n m fs hs
-holders_by n m es fs hs same are = record {
+pairs_at_by : (n m : ℕ) (es fs : List Entry) (hs : List (Option Pair)) → assigned_in es ≡ assigned_in fs → ArePairsAt n m es hs → ArePairsAt n m fs hs
+pairs_at_by n m es fs hs same are = record {
   size = are.size;
-  tells = λ side kind port below. held_by es fs side kind port (get_or hs (port_number n m side kind port) None) same (are.tells side kind port below);
+  tells = λ side kind port below. assigned_by es fs side kind port (get_or hs (port_number n m side kind port) None) same (are.tells side kind port below);
 }
 
-held_stays : (es : List Entry) (e : Entry) (side : Side) (kind : PortKind) (port : ℕ) (o : Option Pair) → is_held e.fate ≡ true → is_at side kind port e.pair ≡ false → TellsHeld es side kind port o → TellsHeld (es ++ e ∷ []) side kind port o
-held_stays es e side kind port (Some q) is off tells = record {
+assigned_stays : (es : List Entry) (e : Entry) (side : Side) (kind : PortKind) (port : ℕ) (o : Option Pair) → is_assigned e.fate ≡ true → is_at side kind port e.pair ≡ false → TellsAssigned es side kind port o → TellsAssigned (es ++ e ∷ []) side kind port o
+assigned_stays es e side kind port (Some q) is off tells = record {
   found = record {
-    held = subst (λ l. Contains l q) (sym (held_more es e is)) (Contains-append_left (held_in es) (e.pair ∷ []) q tells.found.held);
+    assigned = subst (λ l. Contains l q) (sym (assigned_more es e is)) (Contains-append_left (assigned_in es) (e.pair ∷ []) q tells.found.assigned);
     at = tells.found.at;
   };
   none = tt;
 }
-held_stays es e side kind port None is off tells = record {
+assigned_stays es e side kind port None is off tells = record {
   found = tt;
-  none = subst (All (λ pair. is_at side kind port pair ≡ false)) (sym (held_more es e is)) (All-push (λ pair. is_at side kind port pair ≡ false) (held_in es) e.pair tells.none off);
+  none = subst (All (λ pair. is_at side kind port pair ≡ false)) (sym (assigned_more es e is)) (All-push (λ pair. is_at side kind port pair ≡ false) (assigned_in es) e.pair tells.none off);
 }
 
-held_before : (es : List Entry) (e : Entry) (side : Side) (kind : PortKind) (port : ℕ) (o : Option Pair) → is_held e.fate ≡ true → is_at side kind port e.pair ≡ false → TellsHeld (es ++ e ∷ []) side kind port o → TellsHeld es side kind port o
-held_before es e side kind port (Some q) is off tells = record {
+assigned_before : (es : List Entry) (e : Entry) (side : Side) (kind : PortKind) (port : ℕ) (o : Option Pair) → is_assigned e.fate ≡ true → is_at side kind port e.pair ≡ false → TellsAssigned (es ++ e ∷ []) side kind port o → TellsAssigned es side kind port o
+assigned_before es e side kind port (Some q) is off tells = record {
   found = record {
-    held = elim (Contains-push_cases (held_in es) e.pair q (subst (λ l. Contains l q) (held_more es e is) tells.found.held)) [
+    assigned = elim (Contains-push_cases (assigned_in es) e.pair q (subst (λ l. Contains l q) (assigned_more es e is) tells.found.assigned)) [
       | inl there ↦ there
       | inr same ↦ absurd (false≢true (sym off ∙ (ap (is_at side kind port) same ∙ tells.found.at)))
     ];
@@ -152,22 +152,22 @@ held_before es e side kind port (Some q) is off tells = record {
   };
   none = tt;
 }
-held_before es e side kind port None is off tells = record {
+assigned_before es e side kind port None is off tells = record {
   found = tt;
-  none = All-front (λ pair. is_at side kind port pair ≡ false) (held_in es) e.pair (subst (All (λ pair. is_at side kind port pair ≡ false)) (held_more es e is) tells.none);
+  none = All-front (λ pair. is_at side kind port pair ≡ false) (assigned_in es) e.pair (subst (All (λ pair. is_at side kind port pair ≡ false)) (assigned_more es e is) tells.none);
 }
 
-holders_more : (n m : ℕ) (es : List Entry) (e : Entry) (hs : List (Option Pair)) → IsPairOf n m e.pair → is_held e.fate ≡ true → AreHolders n m es hs → AreHolders n m (es ++ e ∷ []) (put_at_ports (Some e.pair) n m e.pair hs)
-holders_more n m es e hs known is are = record {
+pairs_at_more : (n m : ℕ) (es : List Entry) (e : Entry) (hs : List (Option Pair)) → IsPairOf n m e.pair → is_assigned e.fate ≡ true → ArePairsAt n m es hs → ArePairsAt n m (es ++ e ∷ []) (put_at_ports (Some e.pair) n m e.pair hs)
+pairs_at_more n m es e hs known is are = record {
   size = changed_size None (λ old. Some e.pair) n m e.pair hs ∙ are.size;
   tells = λ side kind port below. elim (cases_Bool (is_at side kind port e.pair)) [
     | inl on ↦
-        subst (TellsHeld (es ++ e ∷ []) side kind port) (sym (changed_at None (λ old. Some e.pair) n m e.pair hs side kind port known are.size on)) (record {
-          found = record { held = subst (λ l. Contains l e.pair) (sym (held_more es e is)) (Contains-push (held_in es) e.pair); at = on };
+        subst (TellsAssigned (es ++ e ∷ []) side kind port) (sym (changed_at None (λ old. Some e.pair) n m e.pair hs side kind port known are.size on)) (record {
+          found = record { assigned = subst (λ l. Contains l e.pair) (sym (assigned_more es e is)) (Contains-push (assigned_in es) e.pair); at = on };
           none = tt;
         })
     | inr off ↦
-        subst (TellsHeld (es ++ e ∷ []) side kind port) (sym (changed_other None (λ old. Some e.pair) n m e.pair hs side kind port known below off)) (held_stays es e side kind port (get_or hs (port_number n m side kind port) None) is off (are.tells side kind port below))
+        subst (TellsAssigned (es ++ e ∷ []) side kind port) (sym (changed_other None (λ old. Some e.pair) n m e.pair hs side kind port known below off)) (assigned_stays es e side kind port (get_or hs (port_number n m side kind port) None) is off (are.tells side kind port below))
   ];
 }
 
@@ -185,34 +185,34 @@ off_port x p side kind port apart on = elim (cases_Bool (is_at side kind port x)
     by_side First are kinds ports = are.from kinds ports
     by_side Second are kinds ports = are.to kinds ports
 
-holders_fewer : (n m : ℕ) (es : List Entry) (e : Entry) (hs : List (Option Pair)) → AreEntries n m (es ++ e ∷ []) → is_held e.fate ≡ true → AreHolders n m (es ++ e ∷ []) hs → AreHolders n m es (put_at_ports None n m e.pair hs)
-holders_fewer n m es e hs entries is are = record {
+pairs_at_fewer : (n m : ℕ) (es : List Entry) (e : Entry) (hs : List (Option Pair)) → AreEntries n m (es ++ e ∷ []) → is_assigned e.fate ≡ true → ArePairsAt n m (es ++ e ∷ []) hs → ArePairsAt n m es (put_at_ports None n m e.pair hs)
+pairs_at_fewer n m es e hs entries is are = record {
   size = let nothing : Option Pair = None in changed_size nothing (λ old. nothing) n m e.pair hs ∙ are.size;
   tells = λ side kind port below. elim (cases_Bool (is_at side kind port e.pair)) [
     | inl on ↦
-        subst (TellsHeld es side kind port) (sym (changed_at None (λ old. None) n m e.pair hs side kind port known are.size on)) (record {
+        subst (TellsAssigned es side kind port) (sym (changed_at None (λ old. None) n m e.pair hs side kind port known are.size on)) (record {
           found = tt;
-          none = λ k d within. off_port (get_or (held_in es) k d) e.pair side kind port (apart k d within) on;
+          none = λ k d within. off_port (get_or (assigned_in es) k d) e.pair side kind port (apart k d within) on;
         })
     | inr off ↦
-        subst (TellsHeld es side kind port) (sym (changed_other None (λ old. None) n m e.pair hs side kind port known below off)) (held_before es e side kind port (get_or hs (port_number n m side kind port) None) is off (are.tells side kind port below))
+        subst (TellsAssigned es side kind port) (sym (changed_other None (λ old. None) n m e.pair hs side kind port known below off)) (assigned_before es e side kind port (get_or hs (port_number n m side kind port) None) is off (are.tells side kind port below))
   ];
 }
   where
     known : IsPairOf n m e.pair
     known = All-last (λ (x : Entry). IsPairOf n m x.pair) es e entries.known
 
-    apart : All (λ x. AreApart x e.pair) (held_in es)
-    apart = AllPairs-last AreApart (held_in es) e.pair (subst (AllPairs AreApart) (held_more es e is) entries.apart)
+    apart : All (λ x. AreApart x e.pair) (assigned_in es)
+    apart = AllPairs-last AreApart (assigned_in es) e.pair (subst (AllPairs AreApart) (assigned_more es e is) entries.apart)
 
 -- the counts
-counts_held : (n m : ℕ) (es : List Entry) (e : Entry) (gs : List ℕ) → is_held e.fate ≡ true → AreCounts n m es gs → AreCounts n m (es ++ e ∷ []) gs
-counts_held n m es e gs is are = record { size = are.size; tells = λ side kind port below. are.tells side kind port below ∙ sym (gone_held es e side kind port is) }
+counts_assigned : (n m : ℕ) (es : List Entry) (e : Entry) (gs : List ℕ) → is_assigned e.fate ≡ true → AreCounts n m es gs → AreCounts n m (es ++ e ∷ []) gs
+counts_assigned n m es e gs is are = record { size = are.size; tells = λ side kind port below. are.tells side kind port below ∙ sym (gone_assigned es e side kind port is) }
 
-counts_unheld : (n m : ℕ) (es : List Entry) (e : Entry) (gs : List ℕ) → is_held e.fate ≡ true → AreCounts n m (es ++ e ∷ []) gs → AreCounts n m es gs
-counts_unheld n m es e gs is are = record { size = are.size; tells = λ side kind port below. are.tells side kind port below ∙ gone_held es e side kind port is }
+counts_unassigned : (n m : ℕ) (es : List Entry) (e : Entry) (gs : List ℕ) → is_assigned e.fate ≡ true → AreCounts n m (es ++ e ∷ []) gs → AreCounts n m es gs
+counts_unassigned n m es e gs is are = record { size = are.size; tells = λ side kind port below. are.tells side kind port below ∙ gone_assigned es e side kind port is }
 
-counts_more : (n m : ℕ) (es : List Entry) (e : Entry) (gs : List ℕ) → IsPairOf n m e.pair → is_held e.fate ≡ false → AreCounts n m es gs → AreCounts n m (es ++ e ∷ []) (at_ports 0 (λ count. count + 1) n m e.pair gs)
+counts_more : (n m : ℕ) (es : List Entry) (e : Entry) (gs : List ℕ) → IsPairOf n m e.pair → is_assigned e.fate ≡ false → AreCounts n m es gs → AreCounts n m (es ++ e ∷ []) (at_ports 0 (λ count. count + 1) n m e.pair gs)
 counts_more n m es e gs known is are = record {
   size = changed_size 0 (λ count. count + 1) n m e.pair gs ∙ are.size;
   tells = λ side kind port below. elim (cases_Bool (is_at side kind port e.pair)) [
@@ -225,7 +225,7 @@ counts_more n m es e gs known is are = record {
   ];
 }
 
-counts_fewer : (n m : ℕ) (es : List Entry) (e : Entry) (gs : List ℕ) → IsPairOf n m e.pair → is_held e.fate ≡ false → AreCounts n m (es ++ e ∷ []) gs → AreCounts n m es (at_ports 0 (λ count. count - 1) n m e.pair gs)
+counts_fewer : (n m : ℕ) (es : List Entry) (e : Entry) (gs : List ℕ) → IsPairOf n m e.pair → is_assigned e.fate ≡ false → AreCounts n m (es ++ e ∷ []) gs → AreCounts n m es (at_ports 0 (λ count. count - 1) n m e.pair gs)
 counts_fewer n m es e gs known is are = record {
   size = changed_size 0 (λ count. count - 1) n m e.pair gs ∙ are.size;
   tells = λ side kind port below. elim (cases_Bool (is_at side kind port e.pair)) [
@@ -238,21 +238,21 @@ counts_fewer n m es e gs known is are = record {
   ];
 }
 
-pub kept_held : (n m : ℕ) (es : List Entry) (e : Entry) (ws : List Pair) (ps : List (Option ℕ)) (hs : List (Option Pair)) (gs : List ℕ) (k : ℕ) → IsKept n m es ws ps hs gs → is_held e.fate ≡ true → IsPairOf n m e.pair → IsOpen es e.pair → IsFreePort es First e.pair.kind e.pair.from → IsFreePort es Second e.pair.kind e.pair.to → k ≡ length es → IsKept n m (es ++ e ∷ []) (ws ++ e.pair ∷ []) (set ps (pair_number n m e.pair) (Some k)) (put_at_ports (Some e.pair) n m e.pair hs) gs
-kept_held n m es e ws ps hs gs k are is known free from to last = record {
-  entries_are = entries_held n m es e are.entries_are is known free from to;
-  pairs_are = ap (λ l. l ++ e.pair ∷ []) are.pairs_are ∙ sym (held_more es e is);
+pub kept_assigned : (n m : ℕ) (es : List Entry) (e : Entry) (ws : List Pair) (ps : List (Option ℕ)) (hs : List (Option Pair)) (gs : List ℕ) (k : ℕ) → IsKept n m es ws ps hs gs → is_assigned e.fate ≡ true → IsPairOf n m e.pair → IsOpen es e.pair → IsFreePort es First e.pair.kind e.pair.from → IsFreePort es Second e.pair.kind e.pair.to → k ≡ length es → IsKept n m (es ++ e ∷ []) (ws ++ e.pair ∷ []) (set ps (pair_number n m e.pair) (Some k)) (put_at_ports (Some e.pair) n m e.pair hs) gs
+kept_assigned n m es e ws ps hs gs k are is known free from to last = record {
+  entries_are = entries_assigned n m es e are.entries_are is known free from to;
+  pairs_are = ap (λ l. l ++ e.pair ∷ []) are.pairs_are ∙ sym (assigned_more es e is);
   places_are = places_more n m es e ps k known last are.places_are;
-  holders_are = holders_more n m es e hs known is are.holders_are;
-  gone_are = counts_held n m es e gs is are.gone_are;
+  pairs_at_are = pairs_at_more n m es e hs known is are.pairs_at_are;
+  gone_are = counts_assigned n m es e gs is are.gone_are;
 }
 
-pub kept_deleted : (n m : ℕ) (es : List Entry) (e : Entry) (ws : List Pair) (ps : List (Option ℕ)) (hs : List (Option Pair)) (gs : List ℕ) (k : ℕ) → IsKept n m es ws ps hs gs → is_held e.fate ≡ false → IsPairOf n m e.pair → IsOpen es e.pair → k ≡ length es → IsKept n m (es ++ e ∷ []) ws (set ps (pair_number n m e.pair) (Some k)) hs (at_ports 0 (λ count. count + 1) n m e.pair gs)
+pub kept_deleted : (n m : ℕ) (es : List Entry) (e : Entry) (ws : List Pair) (ps : List (Option ℕ)) (hs : List (Option Pair)) (gs : List ℕ) (k : ℕ) → IsKept n m es ws ps hs gs → is_assigned e.fate ≡ false → IsPairOf n m e.pair → IsOpen es e.pair → k ≡ length es → IsKept n m (es ++ e ∷ []) ws (set ps (pair_number n m e.pair) (Some k)) hs (at_ports 0 (λ count. count + 1) n m e.pair gs)
 kept_deleted n m es e ws ps hs gs k are is known free last = record {
   entries_are = entries_deleted n m es e are.entries_are is known free;
-  pairs_are = are.pairs_are ∙ sym (held_same es e is);
+  pairs_are = are.pairs_are ∙ sym (assigned_same es e is);
   places_are = places_more n m es e ps k known last are.places_are;
-  holders_are = holders_by n m es (es ++ e ∷ []) hs (sym (held_same es e is)) are.holders_are;
+  pairs_at_are = pairs_at_by n m es (es ++ e ∷ []) hs (sym (assigned_same es e is)) are.pairs_at_are;
   gone_are = counts_more n m es e gs known is are.gone_are;
 }
 
@@ -262,28 +262,28 @@ without_last ws now hs p rest is =
     let size : length ws - 1 ≡ length hs = omega (arith, ap length is, length_push hs p) in
     rest ∙ (ap (λ k. take k ws) size ∙ (ap (take (length hs)) is ∙ take_at hs (p ∷ []) (length hs) refl))
 
-pub kept_unheld : (n m : ℕ) (es : List Entry) (e : Entry) (ws now : List Pair) (ps : List (Option ℕ)) (hs : List (Option Pair)) (gs : List ℕ) → IsKept n m (es ++ e ∷ []) ws ps hs gs → is_held e.fate ≡ true → now ≡ take (length ws - 1) ws → IsKept n m es now (set ps (pair_number n m e.pair) None) (put_at_ports None n m e.pair hs) gs
-kept_unheld n m es e ws now ps hs gs are is rest = record {
+pub kept_unassigned : (n m : ℕ) (es : List Entry) (e : Entry) (ws now : List Pair) (ps : List (Option ℕ)) (hs : List (Option Pair)) (gs : List ℕ) → IsKept n m (es ++ e ∷ []) ws ps hs gs → is_assigned e.fate ≡ true → now ≡ take (length ws - 1) ws → IsKept n m es now (set ps (pair_number n m e.pair) None) (put_at_ports None n m e.pair hs) gs
+kept_unassigned n m es e ws now ps hs gs are is rest = record {
   entries_are = entries_fewer n m es e are.entries_are;
-  pairs_are = without_last ws now (held_in es) e.pair rest (are.pairs_are ∙ held_more es e is);
+  pairs_are = without_last ws now (assigned_in es) e.pair rest (are.pairs_are ∙ assigned_more es e is);
   places_are = places_fewer n m es e ps are.entries_are are.places_are;
-  holders_are = holders_fewer n m es e hs are.entries_are is are.holders_are;
-  gone_are = counts_unheld n m es e gs is are.gone_are;
+  pairs_at_are = pairs_at_fewer n m es e hs are.entries_are is are.pairs_at_are;
+  gone_are = counts_unassigned n m es e gs is are.gone_are;
 }
 
-pub kept_undeleted : (n m : ℕ) (es : List Entry) (e : Entry) (ws : List Pair) (ps : List (Option ℕ)) (hs : List (Option Pair)) (gs : List ℕ) → IsKept n m (es ++ e ∷ []) ws ps hs gs → is_held e.fate ≡ false → IsKept n m es ws (set ps (pair_number n m e.pair) None) hs (at_ports 0 (λ count. count - 1) n m e.pair gs)
+pub kept_undeleted : (n m : ℕ) (es : List Entry) (e : Entry) (ws : List Pair) (ps : List (Option ℕ)) (hs : List (Option Pair)) (gs : List ℕ) → IsKept n m (es ++ e ∷ []) ws ps hs gs → is_assigned e.fate ≡ false → IsKept n m es ws (set ps (pair_number n m e.pair) None) hs (at_ports 0 (λ count. count - 1) n m e.pair gs)
 kept_undeleted n m es e ws ps hs gs are is = record {
   entries_are = entries_fewer n m es e are.entries_are;
-  pairs_are = are.pairs_are ∙ held_same es e is;
+  pairs_are = are.pairs_are ∙ assigned_same es e is;
   places_are = places_fewer n m es e ps are.entries_are are.places_are;
-  holders_are = holders_by n m (es ++ e ∷ []) es hs (held_same es e is) are.holders_are;
+  pairs_at_are = pairs_at_by n m (es ++ e ∷ []) es hs (assigned_same es e is) are.pairs_at_are;
   gone_are = counts_fewer n m es e gs (All-last (λ (x : Entry). IsPairOf n m x.pair) es e are.entries_are.known) is are.gone_are;
 }
 
 -- a count fits
 pub few_gone : (n m : ℕ) (es : List Entry) (gs : List ℕ) (side : Side) (kind : PortKind) (port : ℕ) → AreCounts n m es gs → length es < 2 ^ 63 → port < ports_of n m kind → get_or gs (port_number n m side kind port) 0 < 2 ^ 63
 few_gone n m es gs side kind port are few below =
-    omega (arith, are.tells side kind port below, count_by-le-length (λ (x : Entry). not (is_held x.fate) && is_at side kind port x.pair) es, few)
+    omega (arith, are.tells side kind port below, count_by-le-length (λ (x : Entry). not (is_assigned x.fate) && is_at side kind port x.pair) es, few)
 
 -- the last pair is known
 pub last_known : (n m : ℕ) (es : List Entry) (e : Entry) → AreEntries n m (es ++ e ∷ []) → IsPairOf n m e.pair

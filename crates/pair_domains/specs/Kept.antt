@@ -5,7 +5,7 @@ use Rattle.circuits.specs.declared.port.PortKind.{PortKind}
 use Rattle.net_core.specs.declared.graphs.Side.{Side}
 use Rattle.pair_domains.specs.declared.entry.Entry.{Entry}
 use Rattle.pair_domains.specs.Numbers.{pair_number, pairs_of_ports, port_number}
-use Rattle.pair_domains.specs.Trails.{AreEntries, IsFreePort, IsHeldAt, IsOpen, IsPairOf, IsPlace, gone_in, held_in, ports_of}
+use Rattle.pair_domains.specs.Trails.{AreEntries, IsFreePort, IsAssignedAt, IsOpen, IsPairOf, IsPlace, gone_in, assigned_in, ports_of}
 
 -- where the entry of a pair stands, if it has one
 pub record TellsPlace (entries : List Entry) (pair : Pair) (place : Option ℕ) : Type 0 where
@@ -13,8 +13,8 @@ pub record TellsPlace (entries : List Entry) (pair : Pair) (place : Option ℕ) 
   pub none : IfNone place (IsOpen entries pair)
 
 -- the pair of a port that is assigned, if there is one
-pub record TellsHeld (entries : List Entry) (side : Side) (kind : PortKind) (port : ℕ) (pair : Option Pair) : Type 0 where
-  pub found : IfSome pair (IsHeldAt entries side kind port)
+pub record TellsAssigned (entries : List Entry) (side : Side) (kind : PortKind) (port : ℕ) (pair : Option Pair) : Type 0 where
+  pub found : IfSome pair (IsAssignedAt entries side kind port)
   pub none : IfNone pair (IsFreePort entries side kind port)
 
 -- the place of each pair's entry
@@ -25,11 +25,11 @@ pub record ArePlaces (inputs outputs : ℕ) (entries : List Entry) (places : Lis
       → TellsPlace entries pair (slice_index_or places (pair_number inputs outputs pair) None)
 
 -- the assigned pair of each port
-pub record AreHolders (inputs outputs : ℕ) (entries : List Entry) (held : List (Option Pair)) : Type 0 where
-  pub size : length held ≡ 2 * inputs + 2 * outputs
+pub record ArePairsAt (inputs outputs : ℕ) (entries : List Entry) (assigned : List (Option Pair)) : Type 0 where
+  pub size : length assigned ≡ 2 * inputs + 2 * outputs
   pub tells : (side : Side) (kind : PortKind) (port : ℕ)
       → port < ports_of inputs outputs kind
-      → TellsHeld entries side kind port (slice_index_or held (port_number inputs outputs side kind port) None)
+      → TellsAssigned entries side kind port (slice_index_or assigned (port_number inputs outputs side kind port) None)
 
 -- how many pairs of each port are deleted
 pub record AreCounts (inputs outputs : ℕ) (entries : List Entry) (gone : List ℕ) : Type 0 where
@@ -39,9 +39,9 @@ pub record AreCounts (inputs outputs : ℕ) (entries : List Entry) (gone : List 
       → slice_index_or gone (port_number inputs outputs side kind port) 0 ≡ gone_in entries side kind port
 
 pub record IsKept (inputs outputs : ℕ) (entries : List Entry) (pairs : List Pair) (places : List (Option ℕ))
-    (holders : List (Option Pair)) (gone : List ℕ) : Type 0 where
+    (pairs_at : List (Option Pair)) (gone : List ℕ) : Type 0 where
   pub entries_are : AreEntries inputs outputs entries
-  pub pairs_are : pairs ≡ held_in entries
+  pub pairs_are : pairs ≡ assigned_in entries
   pub places_are : ArePlaces inputs outputs entries places
-  pub holders_are : AreHolders inputs outputs entries holders
+  pub pairs_at_are : ArePairsAt inputs outputs entries pairs_at
   pub gone_are : AreCounts inputs outputs entries gone

@@ -3,4 +3,4 @@ pub mod Numbers
 pub mod Kept
 pub use Rattle.account_core.specs.Ports
 pub use Rattle.account_core.specs.Tallies
-pub use Rattle.account_core.specs.Held
+pub use Rattle.account_core.specs.Assigned

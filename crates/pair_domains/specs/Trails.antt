@@ -8,11 +8,11 @@ use Rattle.circuits.specs.declared.port.PortKind.TheVariants.{Input, Output}
 use Rattle.net_core.specs.declared.graphs.Side.{Side}
 use Rattle.claim_core.specs.Images.{same_kind}
 use Rattle.account_core.specs.Tallies.{port_on}
-use Rattle.account_core.specs.Held.{AreApart}
+use Rattle.account_core.specs.Assigned.{AreApart}
 use Rattle.pair_domains.specs.declared.entry.Entry.{Entry}
 use Rattle.pair_domains.specs.declared.entry.Fate.{Fate}
 use Rattle.pair_domains.specs.declared.entry.Reason.{Reason}
-use Rattle.pair_domains.specs.declared.entry.Fate.TheVariants.{Held, Deleted}
+use Rattle.pair_domains.specs.declared.entry.Fate.TheVariants.{Assigned, Deleted}
 
 -- Two circuits with as many inputs and as many outputs, and what became of their signed pairs, in order.
 pub record Domained : Type 0 where
@@ -30,13 +30,13 @@ pub record IsPairOf (inputs outputs : ℕ) (pair : Pair) : Type 0 where
   pub from : pair.from < ports_of inputs outputs pair.kind
   pub to : pair.to < ports_of inputs outputs pair.kind
 
-abbrev pub is_held : Fate → Bool
-is_held (Held cause) = true
-is_held (Deleted reason) = false
+abbrev pub is_assigned : Fate → Bool
+is_assigned (Assigned cause) = true
+is_assigned (Deleted reason) = false
 
 -- the pairs that are assigned, in order
-abbrev pub held_in : List Entry → List Pair
-held_in entries = map (λ entry. entry.pair) (filter (λ entry. is_held entry.fate) entries)
+abbrev pub assigned_in : List Entry → List Pair
+assigned_in entries = map (λ entry. entry.pair) (filter (λ entry. is_assigned entry.fate) entries)
 
 -- whether a pair is of a port of a circuit
 abbrev pub is_at : Side → PortKind → ℕ → Pair → Bool
@@ -44,7 +44,7 @@ is_at side kind port pair = same_kind pair.kind kind && (port_on side pair == po
 
 -- how many pairs of a port of a circuit are deleted
 abbrev pub gone_in : List Entry → Side → PortKind → ℕ → ℕ
-gone_in entries side kind port = count_by (λ entry. not (is_held entry.fate) && is_at side kind port entry.pair) entries
+gone_in entries side kind port = count_by (λ entry. not (is_assigned entry.fate) && is_at side kind port entry.pair) entries
 
 -- a pair is neither assigned nor deleted
 abbrev pub IsOpen : List Entry → Pair → Type 0
@@ -56,7 +56,7 @@ IsDeleted entries pair = (reason : Reason) × Contains entries (record { pair = 
 
 -- no pair of a port of a circuit is assigned
 abbrev pub IsFreePort : List Entry → Side → PortKind → ℕ → Type 0
-IsFreePort entries side kind port = All (λ pair. is_at side kind port pair ≡ false) (held_in entries)
+IsFreePort entries side kind port = All (λ pair. is_at side kind port pair ≡ false) (assigned_in entries)
 
 -- an entry of this pair stands at a place
 pub record IsPlace (entries : List Entry) (pair : Pair) (place : ℕ) : Type 0 where
@@ -64,15 +64,15 @@ pub record IsPlace (entries : List Entry) (pair : Pair) (place : ℕ) : Type 0 w
   pub there : (d : Entry) → (slice_index_or entries place d).pair ≡ pair
 
 -- A pair of a port of a circuit is assigned.
-pub record IsHeldAt (entries : List Entry) (side : Side) (kind : PortKind) (port : ℕ) (pair : Pair) : Type 0 where
-  pub held : Contains (held_in entries) pair
+pub record IsAssignedAt (entries : List Entry) (side : Side) (kind : PortKind) (port : ℕ) (pair : Pair) : Type 0 where
+  pub assigned : Contains (assigned_in entries) pair
   pub at : is_at side kind port pair ≡ true
 
 -- The pairs are of ports that exist, none has two entries, and no two that are assigned share a port.
 pub record AreEntries (inputs outputs : ℕ) (entries : List Entry) : Type 0 where
   pub known : All (λ entry. IsPairOf inputs outputs entry.pair) entries
   pub distinct : AllPairs (λ one other. one.pair ≢ other.pair) entries
-  pub apart : AllPairs AreApart (held_in entries)
+  pub apart : AllPairs AreApart (assigned_in entries)
 
 abbrev pub AreDomains : Domained → Type 0
 AreDomains domains = AreEntries domains.inputs domains.outputs domains.entries

@@ -5,10 +5,10 @@ ghost use Rattle.std.specs.Prelude.{IfSome, IsTrue, None, OnErr, OnOk, Option, f
 ghost use Rattle.std.specs.Prelude.{slice_index_or, take};
 ghost use Rattle.circuits.specs.declared.port.Pair.{Pair as AnyPair};
 ghost use Rattle.net_core.specs.declared.graphs.Side.TheVariants.{First, Second};
-ghost use Rattle.pair_domains.specs.Kept.{TellsHeld, TellsPlace};
-ghost use Rattle.pair_domains.specs.Trails.{AreDomains, IsDeleted, IsFreePort, IsOpen, IsPairOf, gone_in, held_in};
+ghost use Rattle.pair_domains.specs.Kept.{TellsAssigned, TellsPlace};
+ghost use Rattle.pair_domains.specs.Trails.{AreDomains, IsDeleted, IsFreePort, IsOpen, IsPairOf, gone_in, assigned_in};
 ghost use Rattle.pair_domains.specs.Trails.{ports_of};
-ghost use Rattle.account_core.specs.Held.{AreApart};
+ghost use Rattle.account_core.specs.Assigned.{AreApart};
 
 use crate::entry::{Cause, Entry, Fate, Reason};
 use crate::numbers::{pair_number, pairs_of_ports, port_number};
@@ -33,7 +33,7 @@ pub struct Domains {
     /// The pairs that are assigned, in order.
     pairs: Vec<Pair>,
     /// The assigned pair of each port, by the port's number.
-    holders: Vec<Option<Pair>>,
+    pairs_at: Vec<Option<Pair>>,
     /// How many pairs of each port are deleted.
     gone: Vec<usize>,
 }
@@ -47,7 +47,7 @@ impl Model for Domains {
     ghost view = { λ a. record { inputs = a.inputs; outputs = a.outputs; entries = a.entries.items } };
 
     ghost invariant = { λ a. IsKept a.inputs a.outputs a.entries.items
-        a.pairs.items a.places.items a.holders.items a.gone.items };
+        a.pairs.items a.places.items a.pairs_at.items a.gone.items };
 }
 
 impl Domains {
@@ -64,7 +64,7 @@ impl Domains {
         };
         let ports = 2 * inputs as usize + 2 * outputs as usize;
         let places = no_places(alloc, count)?;
-        let holders = no_pairs(alloc, ports)?;
+        let pairs_at = no_pairs(alloc, ports)?;
         let gone = vec![in alloc; 0; ports]?;
         Ok(Domains {
             inputs,
@@ -72,7 +72,7 @@ impl Domains {
             entries: Vec::new(alloc),
             places,
             pairs: Vec::new(alloc),
-            holders,
+            pairs_at,
             gone,
         })
     }
@@ -97,7 +97,7 @@ impl Domains {
 
     /// The pairs that are assigned, in order.
     pub fn pairs(&self) -> &[Pair]
-        ensures value { result.now ≡ held_in self.now.entries }
+        ensures value { result.now ≡ assigned_in self.now.entries }
         ensures apart { AllPairs AreApart result.now }
     {
         self.pairs.as_slice()
@@ -132,7 +132,7 @@ impl Domains {
         let _lawful = self.entries();
         match self.fate(pair) {
             Some(Fate::Deleted(reason)) => Some(reason),
-            Some(Fate::Held(_)) => None,
+            Some(Fate::Assigned(_)) => None,
             None => None,
         }
     }
@@ -147,11 +147,11 @@ impl Domains {
     }
 
     /// The assigned pair of a port of a circuit, or None exactly where there is none.
-    pub fn held(&self, side: Side, kind: PortKind, port: u32) -> Option<Pair>
+    pub fn assigned(&self, side: Side, kind: PortKind, port: u32) -> Option<Pair>
         requires { port < ports_of self.now.inputs self.now.outputs kind }
-        ensures { TellsHeld self.now.entries side kind port result }
+        ensures { TellsAssigned self.now.entries side kind port result }
     {
-        self.holders[port_number(self.inputs, self.outputs, side, kind, port)]
+        self.pairs_at[port_number(self.inputs, self.outputs, side, kind, port)]
     }
 
     /// How many pairs of a port of a circuit are deleted.
@@ -163,13 +163,13 @@ impl Domains {
     }
 
     /// Assigns an open pair of two ports of which no pair is assigned. A refusal changes nothing.
-    pub fn hold(&mut self, pair: Pair, cause: Cause) -> Result<(), AllocError>
+    pub fn assign(&mut self, pair: Pair, cause: Cause) -> Result<(), AllocError>
         requires known { IsPairOf self.old.inputs self.old.outputs pair }
         requires open { IsOpen self.old.entries pair }
         requires from { IsFreePort self.old.entries First pair.kind pair.from }
         requires to { IsFreePort self.old.entries Second pair.kind pair.to }
-        ensures held { OnOk result (self.new ≡ record self.old {
-          entries = self.old.entries ++ record { pair = pair; fate = Fate.Held cause } ∷ [];
+        ensures assigned { OnOk result (self.new ≡ record self.old {
+          entries = self.old.entries ++ record { pair = pair; fate = Fate.Assigned cause } ∷ [];
         }) }
         ensures refused { OnErr result (self.new ≡ self.old) }
     {
@@ -178,12 +178,12 @@ impl Domains {
         let place = self.entries.len();
         self.entries.push_reserved(Entry {
             pair,
-            fate: Fate::Held(cause),
+            fate: Fate::Assigned(cause),
         });
         self.pairs.push_reserved(pair);
         self.places[pair_number(self.inputs, self.outputs, pair)] = Some(place);
         put_at_ports(
-            &mut self.holders,
+            &mut self.pairs_at,
             self.inputs,
             self.outputs,
             pair,
@@ -234,10 +234,10 @@ impl Domains {
         };
         self.places[pair_number(self.inputs, self.outputs, entry.pair)] = None;
         match entry.fate {
-            Fate::Held(_) => {
+            Fate::Assigned(_) => {
                 let _ = self.pairs.pop();
                 put_at_ports(
-                    &mut self.holders,
+                    &mut self.pairs_at,
                     self.inputs,
                     self.outputs,
                     entry.pair,

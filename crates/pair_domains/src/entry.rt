@@ -26,7 +26,7 @@ pub enum Reason {
 /// What became of a pair.
 #[derive(Clone, Copy, Debug, PartialEq, Eq)]
 pub enum Fate {
-    Held(Cause),
+    Assigned(Cause),
     Deleted(Reason),
 }
 

@@ -11,19 +11,19 @@ use net_core::Side;
 
 /// Writes a value for both ports of a pair.
 pub(crate) fn put_at_ports(
-    held: &mut [Option<Pair>],
+    assigned: &mut [Option<Pair>],
     inputs: u32,
     outputs: u32,
     pair: Pair,
     value: Option<Pair>,
 )
     requires known { IsPairOf inputs outputs pair }
-    requires size { length held.old ≡ 2 * inputs + 2 * outputs }
-    ensures { held.new ≡ put_at_ports value inputs outputs pair held.old }
+    requires size { length assigned.old ≡ 2 * inputs + 2 * outputs }
+    ensures { assigned.new ≡ put_at_ports value inputs outputs pair assigned.old }
 {
     let (first, second) = port_numbers(inputs, outputs, pair);
-    held[first] = value;
-    held[second] = value;
+    assigned[first] = value;
+    assigned[second] = value;
 }
 
 /// Counts one more for both ports of a pair.

@@ -10,10 +10,10 @@ use Rattle.net_core.specs.Sides.{Graphs}
 use Rattle.account_core.specs.declared.step.Ban.{Ban}
 use Rattle.account_core.specs.Ports.{ports_in, IsKnown}
 use Rattle.ban_book.specs.Covering.{Covers}
-use Rattle.account_core.specs.Held.{IsPart}
+use Rattle.account_core.specs.Assigned.{IsPart}
 use Rattle.ban_book.proofs.BlockListLemmas.{cons_more}
 use Rattle.pair_domains.specs.Trails.{IsPairOf, ports_of}
-use Rattle.pair_search.specs.declared.port.Resolved.{Resolved}
+use Rattle.pair_search.specs.declared.resolved.Resolved.{Resolved}
 use Rattle.pair_search.specs.ConflictSets.{FitPorts}
 use Rattle.pair_domains.specs.declared.entry.Entry.{Entry}
 use Rattle.pair_search.specs.Named.{AreAllGathered, IsLeftOutOr}
@@ -22,7 +22,7 @@ use Rattle.pair_search.specs.Resolutions.{left_out}
 -- a ban that is within a way and pairs is within it and more of them
 pub covers_among : (bans : List Ban) (way : Pair) (few more : List Pair) (number : ℕ) → All (Contains more) few → Covers bans (way ∷ few) number → Covers bans (way ∷ more) number
 covers_among bans way few more number stays is = record {
-  held = is.held;
+  kept = is.kept;
   within = λ d. record { among = λ k e below. cons_more way few more _ stays ((is.within d).among k e below) };
 }
 
@@ -46,7 +46,7 @@ ban_lent bans pairs lent number d covers is = subst (All (Contains pairs)) (sym 
 
 pub covers_lent : (bans : List Ban) (pairs lent : List Pair) (number : ℕ) (d : Ban) → number < length bans → lent ≡ (get_or bans number d).pairs → All (Contains pairs) lent → Covers bans pairs number
 covers_lent bans pairs lent number d below is all = record {
-  held = below;
+  kept = below;
   within = λ e. record { among = subst (All (Contains pairs)) (is ∙ ap (λ (b : Ban). b.pairs) (get_or_default bans number d e below)) all };
 }
 
@@ -66,12 +66,12 @@ known_of graphs n m pair fit is = record {
 }
 
 -- Some of the assigned pairs, among them the first of others.
-pub record IsAdding (held now first : List Pair) : Type 0 where
-  pub part : IsPart held now
+pub record IsAdding (assigned now first : List Pair) : Type 0 where
+  pub part : IsPart assigned now
   pub among : All (Contains now) first
 
-pub adding_more : (held few more pairs : List Pair) (index : ℕ) (d : Pair) → index < length pairs → IsAdding held few (take index pairs) → IsPart held more → All (Contains more) few → Contains more (get_or pairs index d) → IsAdding held more (take (index + 1) pairs)
-adding_more held few more pairs index d below is part stays here = record {
+pub adding_more : (assigned few more pairs : List Pair) (index : ℕ) (d : Pair) → index < length pairs → IsAdding assigned few (take index pairs) → IsPart assigned more → All (Contains more) few → Contains more (get_or pairs index d) → IsAdding assigned more (take (index + 1) pairs)
+adding_more assigned few more pairs index d below is part stays here = record {
   part = part;
   among = subst (All (Contains more)) (sym (take_more pairs index d below)) (All-push (Contains more) (take index pairs) (get_or pairs index d) (All-weaker (Contains few) (Contains more) (λ x there. All-contains (Contains more) few x stays there) (take index pairs) is.among) here);
 }

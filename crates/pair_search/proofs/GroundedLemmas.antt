@@ -16,14 +16,14 @@ use Rattle.ban_book.specs.Covering.{Covers}
 use Rattle.ban_book.proofs.BookLemmas.{covers_last, covers_later, valid_push}
 use Rattle.ban_book.proofs.ListLemmas.{zip_map}
 use Rattle.ban_book.proofs.VectorLemmas.{no_vector_more, no_vector_none, no_vector_one}
-use Rattle.ban_book.specs.Ways.{AreClosed, HoldsMore, IsClosed}
+use Rattle.ban_book.specs.Ways.{AreClosed, AddsBans, IsClosed}
 use Rattle.ban_book.proofs.ClosedLemmas.{ban_pairs}
 use Rattle.pair_domains.specs.declared.entry.Entry.{Entry}
 use Rattle.pair_domains.specs.declared.entry.Fate.{Fate}
-use Rattle.pair_domains.specs.declared.entry.Fate.TheVariants.{Held, Deleted}
+use Rattle.pair_domains.specs.declared.entry.Fate.TheVariants.{Assigned, Deleted}
 use Rattle.pair_domains.specs.declared.entry.Reason.TheVariants as reason
 use Rattle.pair_domains.specs.Trails.{Domained}
-use Rattle.pair_search.specs.declared.port.Resolved.{Resolved}
+use Rattle.pair_search.specs.declared.resolved.Resolved.{Resolved}
 use Rattle.pair_search.specs.Named.{IsGathered, IsLeftOutOr, deleted}
 use Rattle.pair_search.specs.Justified.{IsTrail}
 use Rattle.pair_search.specs.Grounded.{AreGrounded, IsGrounded, LearnsMore, MayAdd, StayGrounded, in_order, mismatch_ban}
@@ -42,8 +42,8 @@ learns_twice graphs es first second third one other = record {
 }
 
 -- bans that are valid whatever was deleted
-pub learns_holds : (graphs : Graphs) (es : List Entry) (before after : List Ban) → HoldsMore graphs before after → LearnsMore graphs es before after
-learns_holds graphs es before after more = record {
+pub learns_added : (graphs : Graphs) (es : List Entry) (before after : List Ban) → AddsBans graphs before after → LearnsMore graphs es before after
+learns_added graphs es before after more = record {
   added = more.added;
   more = more.more;
   no_vector = more.no_vector;
@@ -84,11 +84,11 @@ ban_later before added b below =
 closed_beside : (before added : List Ban) (pairs : List Pair) (way : Pair) (ref : Option ℕ) → IsClosed before pairs way ref → IsClosed (before ++ added) pairs way ref
 closed_beside before added pairs way None is = record {
   refers = is.refers;
-  held = λ ban same. omega (arith, is.held ban same, length-append before added);
+  kept = λ ban same. omega (arith, is.kept ban same, length-append before added);
 }
 closed_beside before added pairs way (Some b) is = record {
-  refers = (is.refers.0, subst (All (Contains (way ∷ pairs))) (sym (ban_later before added b (is.held b refl))) is.refers.1);
-  held = λ ban same. omega (arith, is.held ban same, length-append before added);
+  refers = (is.refers.0, subst (All (Contains (way ∷ pairs))) (sym (ban_later before added b (is.kept b refl))) is.refers.1);
+  kept = λ ban same. omega (arith, is.kept ban same, length-append before added);
 }
 
 pub closed_later : (before added after : List Ban) (pairs ways : List Pair) (refs : List (Option ℕ)) → after ≡ before ++ added → AreClosed before pairs ways refs → AreClosed after pairs ways refs
@@ -154,7 +154,7 @@ ban_valid_later graphs facts added bans ban valid =
     subst (λ (l : List (List Pair)). IsValidBan graphs (record { facts = facts ++ added; bans = l }) ban) (append-nil (pairs_of bans)) (ban_stays_valid (given_of facts bans) added [] graphs ban valid)
 
 fate_later : (graphs : Graphs) (facts added : List Decided) (pair : Pair) (fate : Fate) → IsGrounded graphs facts pair fate → IsGrounded graphs (facts ++ added) pair fate
-fate_later graphs facts added pair (Held cause) is = tt
+fate_later graphs facts added pair (Assigned cause) is = tt
 fate_later graphs facts added pair (Deleted (reason.Clash with)) is = tt
 fate_later graphs facts added pair (Deleted (reason.Ban number)) is = tt
 fate_later graphs facts added pair (Deleted (reason.Mismatch with fails holds)) is =

@@ -10,14 +10,14 @@ use Rattle.account_core.specs.declared.step.Ban.{Ban}
 use Rattle.account_core.specs.Ports.{Clash}
 use Rattle.ban_book.specs.Covering.{IsWithin}
 use Rattle.ban_book.proofs.ListLemmas.{zip_map, zip_taken}
-use Rattle.account_core.specs.Held.{IsPart}
+use Rattle.account_core.specs.Assigned.{IsPart}
 use Rattle.ban_book.specs.declared.block.Block.{Block}
 use Rattle.ban_book.specs.Ways.{nth_way, ways_in, IsBlock}
 use Rattle.ban_book.proofs.BlockLemmas.{each_in}
 use Rattle.ban_book.proofs.BlockListLemmas.{any_more, cons_more, among_more}
 use Rattle.pair_domains.specs.declared.entry.Entry.{Entry}
 use Rattle.pair_domains.specs.declared.entry.Fate.{Fate}
-use Rattle.pair_domains.specs.declared.entry.Fate.TheVariants.{Held, Deleted}
+use Rattle.pair_domains.specs.declared.entry.Fate.TheVariants.{Assigned, Deleted}
 use Rattle.pair_domains.specs.declared.entry.Reason.{Reason}
 use Rattle.pair_domains.specs.declared.entry.Reason.TheVariants as reason
 use Rattle.pair_domains.specs.Trails.{IsPairOf, ports_of}
@@ -31,7 +31,7 @@ within_more few more way ban stays is = record { among = All-weaker (Contains (w
 -- what is named among some pairs is named among more of them
 pub named_more : (bans : List Ban) (few more : List Pair) (way : Pair) (why : Reason) → All (Contains more) few → AreNamed bans few way why → AreNamed bans more way why
 named_more bans few more way (reason.Clash with) stays is = (All-contains (Contains more) few with stays is.0, is.1)
-named_more bans few more way (reason.Ban number) stays is = record { held = is.held; within = λ d. within_more few more way _ stays (is.within d) }
+named_more bans few more way (reason.Ban number) stays is = record { kept = is.kept; within = λ d. within_more few more way _ stays (is.within d) }
 named_more bans few more way (reason.Mismatch with fails holds) stays is = All-contains (Contains more) few with stays is
 
 pub gathered_more : (bans : List Ban) (entries : List Entry) (few more : List Pair) (way : Pair) (noted : Option ℕ) → All (Contains more) few → IsGathered bans entries few way noted → IsGathered bans entries more way noted
@@ -45,7 +45,7 @@ left_out_more bans entries few more skipped way noted stays (inr is) = inr (gath
 
 -- a deleted way has one reason
 abbrev named_by : List Ban → List Pair → Pair → Fate → Type 0
-named_by bans pairs way (Held cause) = ⊥
+named_by bans pairs way (Assigned cause) = ⊥
 named_by bans pairs way (Deleted why) = AreNamed bans pairs way why
 
 pub one_reason : (bans : List Ban) (entries : List Entry) (pairs : List Pair) (way : Pair) (why : Reason) → AllPairs (λ (x y : Entry). x.pair ≢ y.pair) entries → Contains entries (deleted way why) → IsNamedIn bans entries pairs way → AreNamed bans pairs way why
@@ -72,20 +72,20 @@ named_as es skipped other bans bans_now ways ways_now pairs one two three is =
     subst (λ (s : Option Pair). AreAllNamed bans_now es ways_now s pairs) one (subst (λ (bs : List Ban). AreAllNamed bs es ways_now skipped pairs) two (subst (λ (ws : List Pair). AreAllNamed bans es ws skipped pairs) three is))
 
 -- what is gathered of some ways
-pub record AreGathered (bans : List Ban) (entries : List Entry) (held before now ways : List Pair) (skipped : Option Pair) (noted : List (Option ℕ)) : Type 0 where
-  pub part : IsPart held now
+pub record AreGathered (bans : List Ban) (entries : List Entry) (assigned before now ways : List Pair) (skipped : Option Pair) (noted : List (Option ℕ)) : Type 0 where
+  pub part : IsPart assigned now
   pub stays : All (Contains now) before
   pub each : AreAllGathered bans entries ways skipped now noted
 
-pub gathered_none : (bans : List Ban) (entries : List Entry) (held before : List Pair) (skipped : Option Pair) (noted : List (Option ℕ)) → noted ≡ [] → IsPart held before → AreGathered bans entries held before before [] skipped noted
-gathered_none bans entries held before skipped noted none part = record {
+pub gathered_none : (bans : List Ban) (entries : List Entry) (assigned before : List Pair) (skipped : Option Pair) (noted : List (Option ℕ)) → noted ≡ [] → IsPart assigned before → AreGathered bans entries assigned before before [] skipped noted
+gathered_none bans entries assigned before skipped noted none part = record {
   part = part;
   stays = All-contains_itself before;
   each = subst (AreAllGathered bans entries [] skipped before) (sym none) tt;
 }
 
-pub gathered_one : (bans : List Ban) (entries : List Entry) (held before few more ways : List Pair) (skipped : Option Pair) (noted noted_now : List (Option ℕ)) (index : ℕ) (d : Pair) (number : Option ℕ) → index < length ways → noted_now ≡ noted ++ number ∷ [] → AreGathered bans entries held before few (take index ways) skipped noted → IsPart held more → All (Contains more) few → IsLeftOutOr skipped (get_or ways index d) (IsGathered bans entries more (get_or ways index d) number) → AreGathered bans entries held before more (take (index + 1) ways) skipped noted_now
-gathered_one bans entries held before few more ways skipped noted noted_now index d number below pushed are part stays here =
+pub gathered_one : (bans : List Ban) (entries : List Entry) (assigned before few more ways : List Pair) (skipped : Option Pair) (noted noted_now : List (Option ℕ)) (index : ℕ) (d : Pair) (number : Option ℕ) → index < length ways → noted_now ≡ noted ++ number ∷ [] → AreGathered bans entries assigned before few (take index ways) skipped noted → IsPart assigned more → All (Contains more) few → IsLeftOutOr skipped (get_or ways index d) (IsGathered bans entries more (get_or ways index d) number) → AreGathered bans entries assigned before more (take (index + 1) ways) skipped noted_now
+gathered_one bans entries assigned before few more ways skipped noted noted_now index d number below pushed are part stays here =
     let R : List Pair → Pair → Option ℕ → Type 0 = λ pairs way n. IsLeftOutOr skipped way (IsGathered bans entries pairs way n) in
     record {
       part = part;

@@ -6,17 +6,16 @@ use Rattle.std.proofs.lemmas.List.Elements.{All-contains}
 use Rattle.circuits.specs.declared.port.Pair.{Pair}
 use Rattle.circuits.specs.declared.port.PortKind.{PortKind}
 use Rattle.net_core.specs.declared.graphs.Side.{Side}
-use Rattle.account_core.specs.Tallies.{port_on}
+use Rattle.account_core.specs.Tallies.{port_of, port_on}
 use Rattle.ban_book.specs.Ways.{nth_way}
 use Rattle.pair_domains.specs.declared.entry.Entry.{Entry}
 use Rattle.pair_domains.specs.declared.entry.Fate.{Fate}
-use Rattle.pair_domains.specs.declared.entry.Fate.TheVariants.{Held, Deleted}
-use Rattle.pair_domains.specs.Trails.{IsDeleted, IsFreePort, IsOpen, held_in, is_at, is_held, ports_of}
+use Rattle.pair_domains.specs.declared.entry.Fate.TheVariants.{Assigned, Deleted}
+use Rattle.pair_domains.specs.Trails.{IsDeleted, IsFreePort, IsOpen, assigned_in, is_at, is_assigned, ports_of}
 use Rattle.pair_domains.proofs.EntryLemmas.{at_of}
-use Rattle.pair_search.specs.declared.port.Port.{Port}
-use Rattle.pair_search.specs.Justified.{port_of}
+use Rattle.account_core.specs.declared.ports.Port.{Port}
 use Rattle.pair_search.specs.Named.{EachWay, IsLeftOutOr}
-use Rattle.pair_search.proofs.PivotLemmas.{held_with}
+use Rattle.pair_search.proofs.PivotLemmas.{assigned_with}
 use Rattle.circuits.proofs.Lists.{contains_cons}
 
 -- one more way is deleted
@@ -43,28 +42,28 @@ last_way n m es port number way way_is kind_is port_is before after k below =
     by_order (inr (inl less)) = inr (before k (omega arith) less)
     by_order (inr (inr more)) = inr (after k (omega (arith, more)) inside)
 
-wider : (x : Entry) (es : List Entry) (p : Pair) (b : Bool) → Contains (held_in es) p → Contains (held_with x es b) p
-wider x es p true there = contains_cons (held_in es) x.pair p there
+wider : (x : Entry) (es : List Entry) (p : Pair) (b : Bool) → Contains (assigned_in es) p → Contains (assigned_with x es b) p
+wider x es p true there = contains_cons (assigned_in es) x.pair p there
 wider x es p false there = there
 
-first_of : (x : Entry) (es : List Entry) (b : Bool) → b ≡ true → Contains (held_with x es b) x.pair
-first_of x es true held = (0, omega arith, refl)
-first_of x es false held = absurd (false≢true held)
+first_of : (x : Entry) (es : List Entry) (b : Bool) → b ≡ true → Contains (assigned_with x es b) x.pair
+first_of x es true assigned = (0, omega arith, refl)
+first_of x es false assigned = absurd (false≢true assigned)
 
 -- the pair of an entry that assigns it is assigned
-pub held_by : (es : List Entry) (k : ℕ) (d : Entry) → k < length es → is_held (get_or es k d).fate ≡ true → Contains (held_in es) (get_or es k d).pair
-held_by [] k d below held = absurd (omega (arith, below))
-held_by (x ∷ es) zero d below held = first_of x es (is_held x.fate) held
-held_by (x ∷ es) (suc k) d below held = wider x es (get_or es k d).pair (is_held x.fate) (held_by es k d (omega (arith, below)) held)
+pub assigned_by : (es : List Entry) (k : ℕ) (d : Entry) → k < length es → is_assigned (get_or es k d).fate ≡ true → Contains (assigned_in es) (get_or es k d).pair
+assigned_by [] k d below assigned = absurd (omega (arith, below))
+assigned_by (x ∷ es) zero d below assigned = first_of x es (is_assigned x.fate) assigned
+assigned_by (x ∷ es) (suc k) d below assigned = wider x es (get_or es k d).pair (is_assigned x.fate) (assigned_by es k d (omega (arith, below)) assigned)
 
 -- a pair of a port of which none is assigned is open, if it isn't deleted
 pub open_of_free : (es : List Entry) (side : Side) (kind : PortKind) (port : ℕ) (way : Pair) → IsFreePort es side kind port → way.kind ≡ kind → port_on side way ≡ port → (IsDeleted es way → ⊥) → IsOpen es way
 open_of_free es side kind port way free kind_is port_is left k d below same = by_fate (get_or es k d).fate refl
   where
-    held : is_held (get_or es k d).fate ≡ true → ⊥
-    held is = false≢true (sym (All-contains (λ (p : Pair). is_at side kind port p ≡ false) (held_in es) way free (subst (Contains (held_in es)) same (held_by es k d below is))) ∙ at_of side kind port way kind_is port_is)
+    assigned : is_assigned (get_or es k d).fate ≡ true → ⊥
+    assigned is = false≢true (sym (All-contains (λ (p : Pair). is_at side kind port p ≡ false) (assigned_in es) way free (subst (Contains (assigned_in es)) same (assigned_by es k d below is))) ∙ at_of side kind port way kind_is port_is)
 
     by_fate : (fate : Fate) → (get_or es k d).fate ≡ fate → ⊥
-    by_fate (Held cause) is = held (ap is_held is)
+    by_fate (Assigned cause) is = assigned (ap is_assigned is)
     by_fate (Deleted why) is =
         left (why, (k, below, get_or_default es k (record { pair = way; fate = Deleted why }) d below ∙ (ap (λ (p : Pair). record { pair = p; fate = (get_or es k d).fate }) same ∙ ap (λ (f : Fate). record { pair = way; fate = f }) is)))

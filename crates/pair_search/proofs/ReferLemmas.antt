@@ -14,7 +14,7 @@ use Rattle.pair_search.specs.Named.{IsGathered, IsNamedIn}
 
 -- a way that with pairs leads into a ban is closed
 pub closed_by_covers : (bans : List Ban) (pairs : List Pair) (way : Pair) (number : ℕ) → (IsImpossible pairs way → ⊥) → Covers bans (way ∷ pairs) number → IsClosed bans pairs way (Some number)
-closed_by_covers bans pairs way number possible covers = closed_by_ban bans pairs way number any_ban covers.held possible (covers.within any_ban).among
+closed_by_covers bans pairs way number possible covers = closed_by_ban bans pairs way number any_ban covers.kept possible (covers.within any_ban).among
   where
     any_ban : Ban
     any_ban = record { pairs = []; step = step.Mismatch 0 0 }

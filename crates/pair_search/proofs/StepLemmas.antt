@@ -16,18 +16,18 @@ use Rattle.account_core.specs.Ports.{Clash}
 use Rattle.pair_domains.specs.declared.entry.Entry.{Entry}
 use Rattle.pair_domains.specs.declared.entry.Cause.TheVariants.{Choice, LastWay}
 use Rattle.pair_domains.specs.declared.entry.Fate.{Fate}
-use Rattle.pair_domains.specs.declared.entry.Fate.TheVariants.{Held, Deleted}
+use Rattle.pair_domains.specs.declared.entry.Fate.TheVariants.{Assigned, Deleted}
 use Rattle.pair_domains.specs.declared.entry.Reason.{Reason}
 use Rattle.pair_domains.specs.declared.entry.Reason.TheVariants as reason
 use Rattle.pair_domains.specs.Numbers.{pairs_of_ports}
-use Rattle.pair_domains.specs.Trails.{AreEntries, Domained, IsOpen, IsPairOf, held_in, ports_of}
+use Rattle.pair_domains.specs.Trails.{AreEntries, Domained, IsOpen, IsPairOf, assigned_in, ports_of}
 use Rattle.ban_book.specs.Covering.{Covers}
 use Rattle.pair_search.specs.ConflictSets.{FitPorts, HasNoChoice, IsChoiceAt}
 use Rattle.pair_search.specs.Grounded.{AreGrounded, IsGrounded, StayGrounded}
 use Rattle.pair_search.specs.Justified.{AreJustified, IsJustified}
 use Rattle.pair_search.proofs.GroundedLemmas.{grounded_front, stay_front, stay_none, stay_push, stay_twice}
-use Rattle.pair_search.proofs.JustifiedLemmas.{held_append, justified_front, justified_push}
-use Rattle.pair_search.proofs.PivotLemmas.{held_not_open}
+use Rattle.pair_search.proofs.JustifiedLemmas.{assigned_append, justified_front, justified_push}
+use Rattle.pair_search.proofs.PivotLemmas.{assigned_not_open}
 use Rattle.pair_search.specs.Progress.{IsTrail, Propagates, StaysJustified, is_choice, left, left_of, level_zero}
 use Rattle.pair_search.proofs.WeightLemmas.{few_entries, less_back, less_choice, less_push}
 
@@ -60,9 +60,9 @@ propagates_two bans one two three first second = record {
 }
 
 -- an assigned pair stays assigned
-pub stays_held : (bans : List Ban) (before after : Domained) (p : Pair) → Propagates bans before after → Contains (held_in before.entries) p → Contains (held_in after.entries) p
-stays_held bans before after p goes there =
-    subst (λ (l : List Pair). Contains l p) (sym (ap held_in goes.more ∙ held_append before.entries goes.added)) (Contains-append_left (held_in before.entries) (held_in goes.added) p there)
+pub stays_assigned : (bans : List Ban) (before after : Domained) (p : Pair) → Propagates bans before after → Contains (assigned_in before.entries) p → Contains (assigned_in after.entries) p
+stays_assigned bans before after p goes there =
+    subst (λ (l : List Pair). Contains l p) (sym (ap assigned_in goes.more ∙ assigned_append before.entries goes.added)) (Contains-append_left (assigned_in before.entries) (assigned_in goes.added) p there)
 
 -- there is room for an open pair's entry
 pub room_for : (d : Domained) (e : Entry) → AreEntries d.inputs d.outputs d.entries → IsPairOf d.inputs d.outputs e.pair → IsOpen d.entries e.pair → length d.entries < pairs_of_ports d.inputs d.outputs
@@ -112,10 +112,10 @@ one_more_of before after e is = record {
 }
 
 -- a pair that is open where another one of its kind is assigned, and that shares a port with it, clashes with it
-pub clash_of : (es : List Entry) (held way : Pair) → Contains (held_in es) held → IsOpen es way → held.kind ≡ way.kind → (held.from ≡ way.from) ⊎ (held.to ≡ way.to) → Clash held way
-clash_of es held way there is kind share = record {
+pub clash_of : (es : List Entry) (assigned way : Pair) → Contains (assigned_in es) assigned → IsOpen es way → assigned.kind ≡ way.kind → (assigned.from ≡ way.from) ⊎ (assigned.to ≡ way.to) → Clash assigned way
+clash_of es assigned way there is kind share = record {
   same_kind = kind;
-  differ = λ same. held_not_open es way (subst (Contains (held_in es)) same there) is;
+  differ = λ same. assigned_not_open es way (subst (Contains (assigned_in es)) same there) is;
   share = share;
 }
 
@@ -141,7 +141,7 @@ pub back_grounded : (before after : Domained) (place number : ℕ) (p : Pair) �
 back_grounded before after place number p at =
     stay_front before.entries after.entries place (record { pair = p; fate = Deleted (reason.Ban number) }) at.entries (λ graphs facts. tt)
 
-pub back_justified : (bans : List Ban) (before after : Domained) (place number : ℕ) (p : Pair) → IsBackAt before after place (record { pair = p; fate = Deleted (reason.Ban number) }) → AreJustified before.inputs before.outputs bans before.entries → place < length before.entries → Covers bans (p ∷ held_in (take place before.entries)) number → AreJustified after.inputs after.outputs bans after.entries
+pub back_justified : (bans : List Ban) (before after : Domained) (place number : ℕ) (p : Pair) → IsBackAt before after place (record { pair = p; fate = Deleted (reason.Ban number) }) → AreJustified before.inputs before.outputs bans before.entries → place < length before.entries → Covers bans (p ∷ assigned_in (take place before.entries)) number → AreJustified after.inputs after.outputs bans after.entries
 back_justified bans before after place number p at are below covers =
     let e : Entry = record { pair = p; fate = Deleted (reason.Ban number) } in
     justified_as bans before.inputs before.outputs after.inputs after.outputs (take place before.entries ++ e ∷ []) after.entries at.inputs at.outputs at.entries (justified_push before.inputs before.outputs bans (take place before.entries) e (justified_front before.inputs before.outputs bans before.entries place (omega (arith, below)) are) covers)
@@ -175,7 +175,7 @@ stays_one bans before after e more are is shown = record {
 }
 
 -- before a choice, with one more pair that a ban deletes
-pub stays_back : (bans : List Ban) (before after : Domained) (place number : ℕ) (p : Pair) → IsBackAt before after place (record { pair = p; fate = Deleted (reason.Ban number) }) → AreJustified before.inputs before.outputs bans before.entries → place < length before.entries → Covers bans (p ∷ held_in (take place before.entries)) number → StaysJustified bans before after
+pub stays_back : (bans : List Ban) (before after : Domained) (place number : ℕ) (p : Pair) → IsBackAt before after place (record { pair = p; fate = Deleted (reason.Ban number) }) → AreJustified before.inputs before.outputs bans before.entries → place < length before.entries → Covers bans (p ∷ assigned_in (take place before.entries)) number → StaysJustified bans before after
 stays_back bans before after place number p at are below covers = record {
   inputs = at.inputs;
   outputs = at.outputs;
@@ -192,9 +192,9 @@ stays_front bans before after place is within are = record {
   grounded = front_grounded before after place is;
 }
 
-not_chosen : (fate : Fate) → fate ≢ Held Choice → is_choice fate ≡ false
-not_chosen (Held Choice) other = absurd (other refl)
-not_chosen (Held (LastWay side)) other = refl
+not_chosen : (fate : Fate) → fate ≢ Assigned Choice → is_choice fate ≡ false
+not_chosen (Assigned Choice) other = absurd (other refl)
+not_chosen (Assigned (LastWay side)) other = refl
 not_chosen (Deleted why) other = refl
 
 -- one entry that was not chosen, before others

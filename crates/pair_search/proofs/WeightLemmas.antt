@@ -9,7 +9,7 @@ use Rattle.std.proofs.lemmas.Map.Steps.{length-le_from_distinct_below}
 use Rattle.std.proofs.lemmas.Nat.{row_fits}
 use Rattle.circuits.specs.declared.port.PortKind.TheVariants.{Input}
 use Rattle.pair_domains.specs.declared.entry.Entry.{Entry}
-use Rattle.pair_domains.specs.declared.entry.Fate.TheVariants.{Held}
+use Rattle.pair_domains.specs.declared.entry.Fate.TheVariants.{Assigned}
 use Rattle.pair_domains.specs.declared.entry.Cause.TheVariants.{Choice}
 use Rattle.pair_domains.specs.Numbers.{pair_number, pairs_of_ports}
 use Rattle.pair_domains.specs.Trails.{IsPairOf}
@@ -130,7 +130,7 @@ any_at q (x ∷ xs) h =
     ]
 
 abbrev no_entry : Entry
-no_entry = record { pair = record { kind = Input; from = 0; to = 0; flip = false }; fate = Held Choice }
+no_entry = record { pair = record { kind = Input; from = 0; to = 0; flip = false }; fate = Assigned Choice }
 
 abbrev entry_number : ℕ → ℕ → Entry → ℕ
 entry_number n m e = pair_number n m e.pair

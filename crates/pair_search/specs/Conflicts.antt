@@ -4,8 +4,8 @@ use Rattle.account_core.specs.declared.step.Ban.{Ban}
 use Rattle.ban_book.specs.Covering.{Covers}
 use Rattle.ban_book.specs.declared.block.Block.{Block}
 use Rattle.ban_book.specs.Ways.{ways_in, IsBlock}
-use Rattle.pair_domains.specs.Trails.{Domained, IsDeleted, held_in, ports_of}
-use Rattle.pair_search.specs.declared.port.Port.{Port}
+use Rattle.pair_domains.specs.Trails.{Domained, IsDeleted, assigned_in, ports_of}
+use Rattle.account_core.specs.declared.ports.Port.{Port}
 use Rattle.pair_search.specs.Named.{EachWay, IsPortOf}
 use Rattle.pair_search.specs.Progress.{Propagates}
 use Rattle.pair_search.specs.declared.conflict.Conflict.{Conflict}
@@ -23,7 +23,7 @@ pub record HasNoWays (domains : Domained) (block : Block) : Type 0 where
 
 -- all pairs of a ban are assigned, or all ways of a port or of a block are deleted
 abbrev pub IsConflict : List Ban → Domained → Conflict → Type 0
-IsConflict bans domains (conflict.Ban number) = Covers bans (held_in domains.entries) number
+IsConflict bans domains (conflict.Ban number) = Covers bans (assigned_in domains.entries) number
 IsConflict bans domains (conflict.Port port) = HasNoWay domains port
 IsConflict bans domains (conflict.Block block) = HasNoWays domains block
 

@@ -6,7 +6,7 @@ use Rattle.account_core.specs.Ports.{Clash}
 use Rattle.ban_book.specs.Covering.{Covers}
 use Rattle.pair_domains.specs.declared.entry.Entry.{Entry}
 use Rattle.pair_domains.specs.declared.entry.Reason.{Reason}
-use Rattle.pair_domains.specs.Trails.{held_in}
+use Rattle.pair_domains.specs.Trails.{assigned_in}
 use Rattle.pair_search.specs.declared.deletion.Deletion.{Deletion}
 use Rattle.pair_search.specs.declared.deletion.Deletion.TheVariants as deletion
 use Rattle.pair_search.specs.Named.{deleted}
@@ -22,4 +22,4 @@ pub record IsDeletion (bans : List Ban) (entries : List Entry) (pair : Pair) (de
   pub within : place < length entries
   pub reason : Reason
   pub there : (d : Entry) → slice_index_or entries place d ≡ deleted pair reason
-  pub excluded : IsExcluded bans (held_in (take place entries)) pair deletion
+  pub excluded : IsExcluded bans (assigned_in (take place entries)) pair deletion

@@ -11,7 +11,7 @@ use Rattle.account_core.specs.Steps.{AreValidBans, IsValidBan}
 use Rattle.ban_book.specs.Vectors.{AddsNoVector}
 use Rattle.pair_domains.specs.declared.entry.Entry.{Entry}
 use Rattle.pair_domains.specs.declared.entry.Fate.{Fate}
-use Rattle.pair_domains.specs.declared.entry.Fate.TheVariants.{Held, Deleted}
+use Rattle.pair_domains.specs.declared.entry.Fate.TheVariants.{Assigned, Deleted}
 use Rattle.pair_domains.specs.declared.entry.Reason.TheVariants as reason
 
 -- a pair of this kind and one of the other kind, the input's first
@@ -25,7 +25,7 @@ mismatch_ban pair with fails holds = record { pairs = in_order pair.kind pair wi
 
 -- a pair that is deleted by a mismatch has a ban that is valid in view of these facts, whatever bans there are
 abbrev pub IsGrounded : Graphs → List Decided → Pair → Fate → Type 0
-IsGrounded graphs facts pair (Held cause) = ⊤
+IsGrounded graphs facts pair (Assigned cause) = ⊤
 IsGrounded graphs facts pair (Deleted (reason.Clash with)) = ⊤
 IsGrounded graphs facts pair (Deleted (reason.Ban number)) = ⊤
 IsGrounded graphs facts pair (Deleted (reason.Mismatch with fails holds)) =

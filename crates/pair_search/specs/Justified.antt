@@ -6,27 +6,22 @@ use Rattle.circuits.specs.Literals.{EachAt}
 use Rattle.net_core.specs.Sides.{Graphs}
 use Rattle.net_core.specs.declared.graphs.Side.{Side}
 use Rattle.account_core.specs.declared.step.Ban.{Ban}
-use Rattle.account_core.specs.Tallies.{port_on}
+use Rattle.account_core.specs.Tallies.{port_of}
 use Rattle.pair_domains.specs.declared.entry.Entry.{Entry}
 use Rattle.pair_domains.specs.declared.entry.Cause.TheVariants.{Choice, LastWay}
 use Rattle.pair_domains.specs.declared.entry.Fate.{Fate}
-use Rattle.pair_domains.specs.declared.entry.Fate.TheVariants.{Held, Deleted}
-use Rattle.pair_domains.specs.Trails.{Domained, IsDeleted, held_in, ports_of}
-use Rattle.pair_search.specs.declared.port.Port.{Port}
+use Rattle.pair_domains.specs.declared.entry.Fate.TheVariants.{Assigned, Deleted}
+use Rattle.pair_domains.specs.Trails.{Domained, IsDeleted, assigned_in, ports_of}
 use Rattle.pair_search.specs.ConflictSets.{FitPorts}
 use Rattle.pair_search.specs.Named.{AreNamed, EachWay, IsLeftOutOr}
-
--- a pair's port of a circuit
-abbrev pub port_of : Side → Pair → Port
-port_of side pair = record { side = side; kind = pair.kind; number = port_on side pair }
 
 -- what became of a pair follows: a choice from nothing, the last way of a port from the deletions of all others, and a deletion from the assigned pairs that
 -- its reason names
 abbrev pub IsJustified : ℕ → ℕ → List Ban → List Entry → Pair → Fate → Type 0
-IsJustified inputs outputs bans before pair (Held Choice) = ⊤
-IsJustified inputs outputs bans before pair (Held (LastWay side)) =
+IsJustified inputs outputs bans before pair (Assigned Choice) = ⊤
+IsJustified inputs outputs bans before pair (Assigned (LastWay side)) =
     EachWay (port_of side pair) (ports_of inputs outputs pair.kind) (λ way. IsLeftOutOr (Some pair) way (IsDeleted before way))
-IsJustified inputs outputs bans before pair (Deleted why) = AreNamed bans (held_in before) pair why
+IsJustified inputs outputs bans before pair (Deleted why) = AreNamed bans (assigned_in before) pair why
 
 -- Each entry follows from those before it.
 pub record AreJustified (inputs outputs : ℕ) (bans : List Ban) (entries : List Entry) : Type 0 where

@@ -8,6 +8,6 @@ pub mod Justified
 pub mod Grounded
 pub mod Deletions
 pub mod Pivots
-pub use Rattle.account_core.specs.Held
+pub use Rattle.account_core.specs.Assigned
 pub use Rattle.ban_book.specs.Ways
 pub use Rattle.pair_domains.specs.Kept

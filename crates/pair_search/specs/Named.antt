@@ -12,7 +12,7 @@ use Rattle.pair_domains.specs.declared.entry.Fate.TheVariants.{Deleted}
 use Rattle.pair_domains.specs.declared.entry.Reason.{Reason}
 use Rattle.pair_domains.specs.declared.entry.Reason.TheVariants as reason
 use Rattle.pair_domains.specs.Trails.{Domained, ports_of}
-use Rattle.pair_search.specs.declared.port.Port.{Port}
+use Rattle.account_core.specs.declared.ports.Port.{Port}
 
 -- a deleted pair's reason is so, and the pairs that it names are among these
 abbrev pub AreNamed : List Ban → List Pair → Pair → Reason → Type 0

@@ -5,7 +5,7 @@ use Rattle.account_core.specs.declared.step.Ban.{Ban}
 use Rattle.pair_domains.specs.declared.entry.Entry.{Entry}
 use Rattle.pair_domains.specs.declared.entry.Cause.TheVariants.{Choice, LastWay}
 use Rattle.pair_domains.specs.declared.entry.Fate.{Fate}
-use Rattle.pair_domains.specs.declared.entry.Fate.TheVariants.{Held, Deleted}
+use Rattle.pair_domains.specs.declared.entry.Fate.TheVariants.{Assigned, Deleted}
 use Rattle.pair_domains.specs.Numbers.{pairs_of_ports}
 use Rattle.pair_domains.specs.Trails.{Domained}
 use Rattle.pair_search.specs.Grounded.{StayGrounded}
@@ -14,8 +14,8 @@ pub use Rattle.pair_search.specs.Justified.{IsTrail}
 
 -- a pair was chosen, so that a level begins with it
 abbrev pub is_choice : Fate → Bool
-is_choice (Held Choice) = true
-is_choice (Held (LastWay side)) = false
+is_choice (Assigned Choice) = true
+is_choice (Assigned (LastWay side)) = false
 is_choice (Deleted reason) = false
 
 -- the entries before the first choice, which no level has

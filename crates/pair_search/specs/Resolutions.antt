@@ -3,7 +3,7 @@ use Rattle.std.specs.Prelude.{List, ◌∷◌, Option, None, Some, IfSome}
 use Rattle.circuits.specs.declared.port.Pair.{Pair}
 use Rattle.account_core.specs.declared.step.Ban.{Ban}
 use Rattle.ban_book.specs.Covering.{Covers}
-use Rattle.pair_search.specs.declared.port.Resolved.{Resolved}
+use Rattle.pair_search.specs.declared.resolved.Resolved.{Resolved}
 
 -- the way that is resolved on
 abbrev pub left_out : Option Resolved → Option Pair

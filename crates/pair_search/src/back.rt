@@ -4,7 +4,7 @@ ghost use Rattle.std.specs.Prelude.{◌≡◌, ◌<◌, ◌∷◌, IfNone, IfOk,
 ghost use Rattle.account_core.specs.declared.step.Ban.{Ban as AnyBan};
 ghost use Rattle.account_core.specs.Shown.{IsEmptyBan};
 ghost use Rattle.ban_book.specs.Covering.{Covers};
-ghost use Rattle.pair_domains.specs.Trails.{IsOpen, IsPairOf, held_in};
+ghost use Rattle.pair_domains.specs.Trails.{IsOpen, IsPairOf, assigned_in};
 ghost use Rattle.pair_search.specs.ConflictSets.{IsChoiceAt, IsLearned};
 ghost use Rattle.pair_search.specs.Grounded.{LearnsMore, StayGrounded};
 ghost use Rattle.pair_search.specs.Justified.{IsJustifiedTrail};
@@ -91,7 +91,7 @@ fn go_back(domains: &mut Domains, queue: &mut Queue, back: Back) -> Result<(), A
     requires open { IsOpen (take back.place domains.old.entries) back.pair }
     ensures stays { (bans : List AnyBan)
         → IsJustifiedTrail bans domains.old
-        → Covers bans (back.pair ∷ held_in (take back.place domains.old.entries)) back.ban
+        → Covers bans (back.pair ∷ assigned_in (take back.place domains.old.entries)) back.ban
         → OnOk result (StaysJustified bans domains.old domains.new) }
     ensures less { OnOk result (left domains.new < left domains.old) }
 {

@@ -1,13 +1,12 @@
 //! Pairs that share a port with an assigned one.
 
 ghost use Rattle.std.specs.Prelude.{◌≡◌, ◌⊎◌, Contains, OnOk};
-ghost use Rattle.pair_domains.specs.Trails.{IsPairOf, held_in};
+ghost use Rattle.pair_domains.specs.Trails.{IsPairOf, assigned_in};
 ghost use Rattle.pair_search.specs.Justified.{IsJustifiedTrail};
 ghost use Rattle.pair_search.specs.Progress.{Propagates};
 
-use crate::Port;
 use crate::ports::way_of;
-use account_core::{Ban, port_on};
+use account_core::{Ban, Port, port_on};
 use circuits::Pair;
 use net_core::Side;
 use pair_domains::{Domains, Reason};
@@ -22,7 +21,7 @@ pub(crate) fn delete_ways(
 ) -> Result<(), AllocError>
     requires justified { IsJustifiedTrail bans.now domains.old }
     requires known { IsPairOf domains.old.inputs domains.old.outputs pair }
-    requires held { Contains (held_in domains.old.entries) pair }
+    requires assigned { Contains (assigned_in domains.old.entries) pair }
     ensures { OnOk result (Propagates bans.now domains.old domains.new) }
 {
     let count = domains.ports(pair.kind);
@@ -42,7 +41,7 @@ pub(crate) fn delete_ways(
 fn delete_way(domains: &mut Domains, bans: &[Ban], pair: Pair, way: Pair) -> Result<(), AllocError>
     requires justified { IsJustifiedTrail bans.now domains.old }
     requires known { IsPairOf domains.old.inputs domains.old.outputs way }
-    requires held { Contains (held_in domains.old.entries) pair }
+    requires assigned { Contains (assigned_in domains.old.entries) pair }
     requires kind { pair.kind ≡ way.kind }
     requires share { (pair.from ≡ way.from) ⊎ (pair.to ≡ way.to) }
     ensures { OnOk result (Propagates bans.now domains.old domains.new) }

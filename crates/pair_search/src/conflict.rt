@@ -1,5 +1,5 @@
 ghost use Rattle.std.specs.Prelude.{◌≡◌, IfOk};
-ghost use Rattle.pair_domains.specs.Trails.{held_in};
+ghost use Rattle.pair_domains.specs.Trails.{assigned_in};
 ghost use Rattle.pair_search.specs.ConflictSets.{IsConflictSet};
 ghost use Rattle.pair_search.specs.Grounded.{LearnsMore};
 ghost use Rattle.pair_search.specs.Justified.{IsTrail};
@@ -7,8 +7,8 @@ ghost use Rattle.pair_search.specs.Conflicts.{IsConflict};
 
 use crate::conflict_set::{cover_block, cover_port};
 use crate::view::TrailView;
-use crate::{ConflictSet, Mismatches, Port, conflict_set_of_ban};
-use account_core::PairableGraphs;
+use crate::{ConflictSet, Mismatches, conflict_set_of_ban};
+use account_core::{PairableGraphs, Port};
 use ban_book::BanBook;
 use ban_book::block::Block;
 use pair_domains::Domains;
@@ -51,20 +51,20 @@ pub fn conflict_set_of(
     requires trail { IsTrail graphs.now book.old domains.now }
     requires conflict { IsConflict book.old domains.now conflict }
     ensures more { LearnsMore graphs.now domains.now.entries book.old book.new }
-    ensures conflict { IfOk result (IsConflictSet book.new (held_in domains.now.entries)) }
+    ensures conflict { IfOk result (IsConflictSet book.new (assigned_in domains.now.entries)) }
 {
     // the assigned pairs are of ports that exist, and share none
     let _lawful = domains.entries();
-    let held = domains.pairs();
+    let assigned = domains.pairs();
     let view = TrailView {
         alloc,
         graphs,
         domains,
-        held,
+        assigned,
     };
     let none = Vec::new(alloc);
     match conflict {
-        Conflict::Ban(number) => conflict_set_of_ban(alloc, held, book.bans(), number),
+        Conflict::Ban(number) => conflict_set_of_ban(alloc, assigned, book.bans(), number),
         Conflict::Port(port) => cover_port(&view, port, None, none, made, book),
         Conflict::Block(block) => cover_block(&view, block, None, none, made, book),
     }

@@ -1,6 +1,6 @@
 ghost use Rattle.std.specs.Prelude.{◌≡◌, All, AllPairs, Contains, IfOk, OnOk};
 ghost use Rattle.ban_book.specs.Covering.{Covers};
-ghost use Rattle.account_core.specs.Held.{AreApart, AreHeld, IsPart};
+ghost use Rattle.account_core.specs.Assigned.{AreApart, AreAssignable, IsPart};
 ghost use Rattle.ban_book.specs.Ways.{IsBlock, ways_in};
 ghost use Rattle.pair_domains.specs.Trails.{ports_of};
 ghost use Rattle.pair_search.specs.ConflictSets.{FitPorts, IsConflictSet};
@@ -10,13 +10,13 @@ ghost use Rattle.pair_search.specs.Resolutions.{LeadsIntoBan, left_out};
 
 use crate::gather::gather;
 use crate::mismatch::Mismatches;
-use crate::port::{Port, Resolved};
 use crate::refer::{NotedWays, refer};
+use crate::resolved::Resolved;
 use crate::view::TrailView;
-use account_core::Ban;
+use account_core::{Ban, Port};
 use ban_book::BanBook;
 use ban_book::block::{Block, block_of, ways_in};
-use ban_book::cover::{add_one, hold_cover};
+use ban_book::cover::{add_assigned, keep_cover};
 use circuits::Pair;
 use std::alloc::{AllocError, Global};
 
@@ -40,12 +40,12 @@ pub(crate) fn cover_port(
 ) -> Result<ConflictSet, AllocError>
     requires fit { FitPorts view.now.graphs.now view.now.domains.now.inputs view.now.domains.now.outputs }
     requires there { IsPortOf view.now.domains.now port }
-    requires held { AreHeld view.now.graphs.now view.now.held.now }
-    requires named { AreWaysNamed book.old view.now.domains.now port (left_out resolved) view.now.held.now }
-    requires part { IsPart view.now.held.now pairs.items }
+    requires assigned { AreAssignable view.now.graphs.now view.now.assigned.now }
+    requires named { AreWaysNamed book.old view.now.domains.now port (left_out resolved) view.now.assigned.now }
+    requires part { IsPart view.now.assigned.now pairs.items }
     requires resolved { LeadsIntoBan book.old pairs.items resolved }
     ensures more { LearnsMore view.now.graphs.now view.now.domains.now.entries book.old book.new }
-    ensures conflict { IfOk result (IsConflictSet book.new view.now.held.now) }
+    ensures conflict { IfOk result (IsConflictSet book.new view.now.assigned.now) }
 {
     let count = view.domains.ports(port.kind);
     let block = block_of(view.alloc, port.side, port.kind, port.number, count)?;
@@ -63,13 +63,13 @@ pub(crate) fn cover_block(
 ) -> Result<ConflictSet, AllocError>
     requires fit { FitPorts view.now.graphs.now view.now.domains.now.inputs view.now.domains.now.outputs }
     requires block { IsBlock (ports_of view.now.domains.now.inputs view.now.domains.now.outputs block.kind) block }
-    requires held { AreHeld view.now.graphs.now view.now.held.now }
+    requires assigned { AreAssignable view.now.graphs.now view.now.assigned.now }
     requires named { AreAllNamed book.old view.now.domains.now.entries (ways_in block) (left_out resolved)
-        view.now.held.now }
-    requires part { IsPart view.now.held.now pairs.items }
+        view.now.assigned.now }
+    requires part { IsPart view.now.assigned.now pairs.items }
     requires resolved { LeadsIntoBan book.old pairs.items resolved }
     ensures more { LearnsMore view.now.graphs.now view.now.domains.now.entries book.old book.new }
-    ensures conflict { IfOk result (IsConflictSet book.new view.now.held.now) }
+    ensures conflict { IfOk result (IsConflictSet book.new view.now.assigned.now) }
 {
     let ways = ways_in(view.alloc, &block)?;
     let mut pairs = pairs;
@@ -80,36 +80,36 @@ pub(crate) fn cover_block(
         bans: &bans,
     };
     let refs = refer(view, &noted, &pairs, resolved, made, book)?;
-    let ban = hold_cover(view.alloc, view.graphs, &pairs, block, refs, book)?;
+    let ban = keep_cover(view.alloc, view.graphs, &pairs, block, refs, book)?;
     Ok(ConflictSet { pairs, ban })
 }
 
 /// The pairs of a ban, all of which are assigned.
 pub fn conflict_set_of_ban(
     alloc: Global,
-    held: &[Pair],
+    assigned: &[Pair],
     bans: &[Ban],
     number: u64,
 ) -> Result<ConflictSet, AllocError>
-    requires apart { AllPairs AreApart held.now }
-    requires covers { Covers bans.now held.now number }
-    ensures { IfOk result (IsConflictSet bans.now held.now) }
+    requires apart { AllPairs AreApart assigned.now }
+    requires covers { Covers bans.now assigned.now number }
+    ensures { IfOk result (IsConflictSet bans.now assigned.now) }
 {
     let mut pairs = Vec::new(alloc);
-    add_all(&mut pairs, held, &bans[number as usize].pairs)?;
+    add_all(&mut pairs, assigned, &bans[number as usize].pairs)?;
     Ok(ConflictSet { pairs, ban: number })
 }
 
 // Adds assigned pairs to the needed ones.
-fn add_all(needed: &mut Vec<Pair>, held: &[Pair], pairs: &[Pair]) -> Result<(), AllocError>
-    requires part { IsPart held.now needed.old.items }
-    requires apart { AllPairs AreApart held.now }
-    requires among { All (Contains held.now) pairs.now }
-    ensures part { OnOk result (IsPart held.now needed.new.items) }
+fn add_all(needed: &mut Vec<Pair>, assigned: &[Pair], pairs: &[Pair]) -> Result<(), AllocError>
+    requires part { IsPart assigned.now needed.old.items }
+    requires apart { AllPairs AreApart assigned.now }
+    requires among { All (Contains assigned.now) pairs.now }
+    ensures part { OnOk result (IsPart assigned.now needed.new.items) }
     ensures among { OnOk result (All (Contains needed.new.items) pairs.now) }
 {
     for pair in pairs.iter() {
-        add_one(needed, held, *pair)?;
+        add_assigned(needed, assigned, *pair)?;
     }
     Ok(())
 }

@@ -10,7 +10,7 @@ ghost use Rattle.pair_search.specs.Grounded.{LearnsMore};
 ghost use Rattle.pair_search.specs.Justified.{IsTrail};
 ghost use Rattle.pair_search.specs.Named.{AreNamed, deleted};
 
-use crate::mismatch::{Mismatches, hold_mismatch};
+use crate::mismatch::{Mismatches, keep_mismatch};
 use account_core::PairableGraphs;
 use ban_book::{BanBook, Unlike};
 use circuits::Pair;
@@ -74,7 +74,7 @@ pub(crate) fn deletion_by(
         Reason::Ban(number) => Ok(Deletion::Ban(number)),
         Reason::Mismatch { with, fails, holds } => {
             let unlike = Unlike { fails, holds };
-            let number = hold_mismatch(alloc, pair, with, unlike, made, book)?;
+            let number = keep_mismatch(alloc, pair, with, unlike, made, book)?;
             Ok(Deletion::Ban(number))
         }
     }

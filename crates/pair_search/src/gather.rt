@@ -2,7 +2,7 @@
 
 ghost use Rattle.std.specs.Prelude.{◌≡◌, ◌↔◌, All, AllPairs, Contains, IfOk, IsTrue, OnOk, Some};
 ghost use Rattle.account_core.specs.Covers.{IsImpossible};
-ghost use Rattle.account_core.specs.Held.{AddsHeld, AreApart, IsPart};
+ghost use Rattle.account_core.specs.Assigned.{AddsAssigned, AreApart, IsPart};
 ghost use Rattle.pair_domains.specs.Trails.{IsPairOf};
 ghost use Rattle.pair_search.specs.Named.{AreAllGathered, AreAllNamed, AreNamed, IsGathered, IsLeftOutOr, IsNamedIn};
 
@@ -10,7 +10,7 @@ use crate::mismatch::{Mismatches, made_beside};
 use crate::view::TrailView;
 use account_core::Ban;
 use ban_book::clash::clashing;
-use ban_book::cover::{add_one, add_others};
+use ban_book::cover::{add_assigned, add_others};
 use circuits::Pair;
 use pair_domains::Reason;
 use std::alloc::AllocError;
@@ -29,10 +29,10 @@ pub(crate) fn gather(
     conflict: &mut Vec<Pair>,
 ) -> Result<Vec<Option<u64>>, AllocError>
     requires known { All (IsPairOf view.now.domains.now.inputs view.now.domains.now.outputs) ways.now }
-    requires apart { AllPairs AreApart view.now.held.now }
-    requires named { AreAllNamed bans.now view.now.domains.now.entries ways.now skipped view.now.held.now }
-    requires part { IsPart view.now.held.now conflict.old.items }
-    ensures adds { OnOk result (AddsHeld view.now.held.now conflict.old.items conflict.new.items) }
+    requires apart { AllPairs AreApart view.now.assigned.now }
+    requires named { AreAllNamed bans.now view.now.domains.now.entries ways.now skipped view.now.assigned.now }
+    requires part { IsPart view.now.assigned.now conflict.old.items }
+    ensures adds { OnOk result (AddsAssigned view.now.assigned.now conflict.old.items conflict.new.items) }
     ensures gathered { IfOk result (λ noted.
         AreAllGathered bans.now view.now.domains.now.entries ways.now skipped conflict.new.items noted.items) }
 {
@@ -54,10 +54,11 @@ fn gather_way(
     conflict: &mut Vec<Pair>,
 ) -> Result<Option<u64>, AllocError>
     requires known { IsPairOf view.now.domains.now.inputs view.now.domains.now.outputs way }
-    requires apart { AllPairs AreApart view.now.held.now }
-    requires named { IsLeftOutOr skipped way (IsNamedIn bans.now view.now.domains.now.entries view.now.held.now way) }
-    requires part { IsPart view.now.held.now conflict.old.items }
-    ensures adds { OnOk result (AddsHeld view.now.held.now conflict.old.items conflict.new.items) }
+    requires apart { AllPairs AreApart view.now.assigned.now }
+    requires named { IsLeftOutOr skipped way
+        (IsNamedIn bans.now view.now.domains.now.entries view.now.assigned.now way) }
+    requires part { IsPart view.now.assigned.now conflict.old.items }
+    ensures adds { OnOk result (AddsAssigned view.now.assigned.now conflict.old.items conflict.new.items) }
     ensures gathered { IfOk result (λ number.
         IsLeftOutOr skipped way (IsGathered bans.now view.now.domains.now.entries conflict.new.items way number)) }
 {
@@ -75,7 +76,7 @@ fn gather_way(
     let Some(reason) = view.domains.reason(way) else {
         unreachable!()
     };
-    add_named(view.held, bans, way, reason, conflict)?;
+    add_named(view.assigned, bans, way, reason, conflict)?;
     Ok(None)
 }
 
@@ -97,21 +98,21 @@ pub(crate) fn is_impossible(conflict: &[Pair], way: Pair) -> bool
 
 // Adds the pairs that the reason of a deleted way names.
 fn add_named(
-    held: &[Pair],
+    assigned: &[Pair],
     bans: &[Ban],
     way: Pair,
     reason: Reason,
     conflict: &mut Vec<Pair>,
 ) -> Result<(), AllocError>
-    requires apart { AllPairs AreApart held.now }
-    requires named { AreNamed bans.now held.now way reason }
-    requires part { IsPart held.now conflict.old.items }
-    ensures adds { OnOk result (AddsHeld held.now conflict.old.items conflict.new.items) }
+    requires apart { AllPairs AreApart assigned.now }
+    requires named { AreNamed bans.now assigned.now way reason }
+    requires part { IsPart assigned.now conflict.old.items }
+    ensures adds { OnOk result (AddsAssigned assigned.now conflict.old.items conflict.new.items) }
     ensures named { OnOk result (AreNamed bans.now conflict.new.items way reason) }
 {
     match reason {
-        Reason::Clash(with) => add_one(conflict, held, with),
-        Reason::Ban(ban) => add_others(conflict, held, way, &bans[ban as usize].pairs),
-        Reason::Mismatch { with, .. } => add_one(conflict, held, with),
+        Reason::Clash(with) => add_assigned(conflict, assigned, with),
+        Reason::Ban(ban) => add_others(conflict, assigned, way, &bans[ban as usize].pairs),
+        Reason::Mismatch { with, .. } => add_assigned(conflict, assigned, with),
     }
 }

@@ -38,7 +38,7 @@ impl Mismatches {
 }
 
 /// The number of the ban of a deleted pair and an assigned one by two facts. It is made here, unless it was before.
-pub(crate) fn hold_mismatch(
+pub(crate) fn keep_mismatch(
     alloc: Global,
     way: Pair,
     with: Pair,

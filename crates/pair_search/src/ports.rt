@@ -6,15 +6,14 @@ ghost use Rattle.account_core.specs.declared.step.Ban.{Ban as AnyBan};
 ghost use Rattle.net_core.specs.declared.graphs.Side.TheVariants.{First, Second};
 ghost use Rattle.ban_book.specs.Ways.{nth_way};
 ghost use Rattle.account_core.specs.Tallies.{port_on};
-ghost use Rattle.pair_domains.specs.Trails.{IsDeleted, IsFreePort, IsOpen, IsPairOf, held_in, ports_of};
+ghost use Rattle.pair_domains.specs.Trails.{IsDeleted, IsFreePort, IsOpen, IsPairOf, assigned_in, ports_of};
 ghost use Rattle.pair_search.specs.Justified.{IsJustifiedTrail};
 ghost use Rattle.pair_search.specs.Named.{IsPortOf};
 ghost use Rattle.pair_search.specs.Conflicts.{HasNoWay, IsConflict};
 ghost use Rattle.pair_search.specs.Progress.{Propagates, StaysJustified, left};
 
-use crate::Port;
 use crate::conflict::Conflict;
-use account_core::Ban;
+use account_core::{Ban, Port};
 use ban_book::ways::nth_way;
 use circuits::Pair;
 use net_core::Side;
@@ -45,7 +44,7 @@ pub(crate) fn apply_port(
     }
     let way = way_of(domains, port, number);
     if is_free(domains, way) {
-        domains.hold(way, Cause::LastWay(port.side))?;
+        domains.assign(way, Cause::LastWay(port.side))?;
     }
     Ok(false)
 }
@@ -71,13 +70,13 @@ pub fn branch(domains: &mut Domains, port: Port) -> Result<Option<Conflict>, All
         return Ok(Some(Conflict::Port(port)));
     };
     let way = way_of(domains, port, number);
-    match holder(domains, way) {
+    match assigned_beside(domains, way) {
         None => {
-            domains.hold(way, Cause::Choice)?;
+            domains.assign(way, Cause::Choice)?;
             Ok(None)
         }
-        Some(held) => {
-            domains.delete(way, Reason::Clash(held))?;
+        Some(assigned) => {
+            domains.delete(way, Reason::Clash(assigned))?;
             Ok(None)
         }
     }
@@ -121,18 +120,18 @@ fn remaining(domains: &Domains, port: Port, from: u64) -> Option<u64>
 }
 
 // An assigned pair that shares a port with a pair.
-fn holder(domains: &Domains, pair: Pair) -> Option<Pair>
+fn assigned_beside(domains: &Domains, pair: Pair) -> Option<Pair>
     requires { IsPairOf domains.now.inputs domains.now.outputs pair }
-    ensures held { IfSome result (Contains (held_in domains.now.entries)) }
-    ensures kind { IfSome result (λ held. held.kind ≡ pair.kind) }
-    ensures share { IfSome result (λ held. (held.from ≡ pair.from) ⊎ (held.to ≡ pair.to)) }
+    ensures assigned { IfSome result (Contains (assigned_in domains.now.entries)) }
+    ensures kind { IfSome result (λ assigned. assigned.kind ≡ pair.kind) }
+    ensures share { IfSome result (λ assigned. (assigned.from ≡ pair.from) ⊎ (assigned.to ≡ pair.to)) }
     ensures from { IfNone result (IsFreePort domains.now.entries First pair.kind pair.from) }
     ensures to { IfNone result (IsFreePort domains.now.entries Second pair.kind pair.to) }
 {
-    if let Some(held) = domains.held(Side::First, pair.kind, pair.from) {
-        return Some(held);
+    if let Some(assigned) = domains.assigned(Side::First, pair.kind, pair.from) {
+        return Some(assigned);
     }
-    domains.held(Side::Second, pair.kind, pair.to)
+    domains.assigned(Side::Second, pair.kind, pair.to)
 }
 
 // Whether a pair is open, and no pair of its ports is assigned.
@@ -142,7 +141,7 @@ fn is_free(domains: &Domains, pair: Pair) -> bool
     ensures from { IsTrue result → IsFreePort domains.now.entries First pair.kind pair.from }
     ensures to { IsTrue result → IsFreePort domains.now.entries Second pair.kind pair.to }
 {
-    if let Some(_) = holder(domains, pair) {
+    if let Some(_) = assigned_beside(domains, pair) {
         return false;
     }
     match domains.place(pair) {

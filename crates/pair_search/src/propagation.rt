@@ -5,14 +5,13 @@ ghost use Rattle.pair_domains.specs.Trails.{ports_of};
 ghost use Rattle.pair_search.specs.Justified.{IsJustifiedTrail};
 ghost use Rattle.pair_search.specs.Conflicts.{Follows};
 
-use crate::Port;
 use crate::clashes::delete_ways;
 use crate::conflict::Conflict;
 use crate::crowds::crowd;
 use crate::ports::apply_port;
 use crate::queue::Queue;
-use crate::units::{apply, is_held, is_known};
-use account_core::{Ban, port_on};
+use crate::units::{apply, is_assigned, is_known};
+use account_core::{Ban, Port, port_on};
 use circuits::Pair;
 use net_core::Side;
 use pair_domains::{Domains, Entry, Fate};
@@ -97,7 +96,7 @@ fn follow(domains: &mut Domains, queue: &mut Queue, bans: &[Ban], entry: Entry) 
     ensures { Follows bans.now domains.old domains.new result }
 {
     match entry.fate {
-        Fate::Held(_) => follow_assigned(domains, queue, bans, entry.pair),
+        Fate::Assigned(_) => follow_assigned(domains, queue, bans, entry.pair),
         Fate::Deleted(_) => follow_deleted(domains, bans, entry.pair),
     }
 }
@@ -107,7 +106,7 @@ fn follow_assigned(domains: &mut Domains, queue: &mut Queue, bans: &[Ban], pair:
     requires justified { IsJustifiedTrail bans.now domains.old }
     ensures { Follows bans.now domains.old domains.new result }
 {
-    if !is_held(domains, pair) {
+    if !is_assigned(domains, pair) {
         return Ok(None);
     }
     delete_ways(domains, bans, pair, Side::First)?;
@@ -200,7 +199,7 @@ fn next_watch(
         return pair;
     };
     for next in ban.pairs.iter() {
-        if (Some(*next) != other) & !is_held(domains, *next) {
+        if (Some(*next) != other) & !is_assigned(domains, *next) {
             return *next;
         }
     }
@@ -246,7 +245,10 @@ fn follow_port(domains: &mut Domains, bans: &[Ban], pair: Pair, side: Side) -> F
 fn is_settled(domains: &Domains, port: Port) -> bool
     requires { port.number < ports_of domains.now.inputs domains.now.outputs port.kind }
 {
-    if domains.held(port.side, port.kind, port.number).is_some() {
+    if domains
+        .assigned(port.side, port.kind, port.number)
+        .is_some()
+    {
         return true;
     }
     let gone = domains.gone(port.side, port.kind, port.number);

@@ -2,7 +2,7 @@
 
 use crate::Mismatches;
 use crate::partners::Partners;
-use crate::units::is_held;
+use crate::units::is_assigned;
 use account_core::Ban;
 use circuits::{Pair, PortKind};
 use pair_domains::Domains;
@@ -221,7 +221,7 @@ fn last_two(domains: &Domains, pairs: &[Pair]) -> Option<(Pair, Pair)> {
 
 // Where the entry of an assigned pair stands, or the greatest number for one that isn't assigned.
 fn rank(domains: &Domains, pair: Pair) -> usize {
-    if !is_held(domains, pair) {
+    if !is_assigned(domains, pair) {
         return NONE;
     }
     match domains.place(pair) {

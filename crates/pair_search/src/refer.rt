@@ -12,7 +12,7 @@ ghost use Rattle.pair_search.specs.Resolutions.{LeadsIntoBan, left_out};
 use crate::deletion::{Deletion, deletion_by};
 use crate::gather::is_impossible;
 use crate::mismatch::Mismatches;
-use crate::port::Resolved;
+use crate::resolved::Resolved;
 use crate::view::TrailView;
 use ban_book::BanBook;
 use circuits::Pair;

@@ -6,8 +6,8 @@ ghost use Rattle.circuits.specs.declared.port.Pair.{Pair as AnyPair};
 ghost use Rattle.account_core.specs.Ports.{AreOrdered};
 ghost use Rattle.pair_domains.specs.declared.entry.Entry.{Entry as AnyEntry};
 ghost use Rattle.pair_domains.specs.declared.entry.Cause.TheVariants.{Choice, LastWay};
-ghost use Rattle.pair_domains.specs.declared.entry.Fate.TheVariants.{Held};
-ghost use Rattle.pair_domains.specs.Trails.{IsPairOf, held_in, is_held};
+ghost use Rattle.pair_domains.specs.declared.entry.Fate.TheVariants.{Assigned};
+ghost use Rattle.pair_domains.specs.Trails.{IsPairOf, assigned_in, is_assigned};
 ghost use Rattle.pair_search.specs.ConflictSets.{HasNoChoice, IsChoiceAt, IsConflictSet, IsLastOf, IsLearned};
 ghost use Rattle.pair_search.specs.Grounded.{LearnsMore};
 ghost use Rattle.pair_search.specs.Justified.{IsTrail};
@@ -17,9 +17,9 @@ ghost use Rattle.pair_search.specs.Pivots.{IsPivot};
 use crate::conflict_set::{ConflictSet, cover_port};
 use crate::learned::{Back, LearnedBan};
 use crate::mismatch::Mismatches;
-use crate::port::{Port, Resolved};
+use crate::resolved::Resolved;
 use crate::view::TrailView;
-use account_core::{PairableGraphs, port_on};
+use account_core::{PairableGraphs, Port, port_on};
 use ban_book::BanBook;
 use ban_book::needed::place_of;
 use circuits::Pair;
@@ -55,7 +55,7 @@ pub fn resolve(
     book: &mut BanBook,
 ) -> Result<LearnedBan, AllocError>
     requires trail { IsTrail graphs.now book.old domains.now }
-    requires conflict { IsConflictSet book.old (held_in domains.now.entries) conflict }
+    requires conflict { IsConflictSet book.old (assigned_in domains.now.entries) conflict }
     ensures more { LearnsMore graphs.now domains.now.entries book.old book.new }
     ensures learned { IfOk result (IsLearned book.new domains.now) }
 {
@@ -82,15 +82,15 @@ pub fn resolve(
 
 // The last of the first `limit` assigned pairs that is one of a conflict's. Each is looked for among all of these, as
 // the cover of a step does with each way of its port.
-fn last_of(held: &[Pair], limit: usize, pairs: &[Pair]) -> Option<usize>
-    requires { limit ≤ length held.now }
-    ensures found { IfSome result (IsLastOf held.now limit pairs.now) }
-    ensures none { IfNone result (All (λ pair. Contains pairs.now pair → ⊥) (take limit held.now)) }
+fn last_of(assigned: &[Pair], limit: usize, pairs: &[Pair]) -> Option<usize>
+    requires { limit ≤ length assigned.now }
+    ensures found { IfSome result (IsLastOf assigned.now limit pairs.now) }
+    ensures none { IfNone result (All (λ pair. Contains pairs.now pair → ⊥) (take limit assigned.now)) }
 {
     let mut left = limit;
     while left > 0 {
         left -= 1;
-        if is_at(held, left, pairs) {
+        if is_at(assigned, left, pairs) {
             return Some(left);
         }
     }
@@ -99,8 +99,8 @@ fn last_of(held: &[Pair], limit: usize, pairs: &[Pair]) -> Option<usize>
 
 // What is done about the latest pair of a conflict, of which it is the last assigned one.
 fn pivot_at(domains: &Domains, last: usize, pairs: &[Pair]) -> Pivot
-    requires within { last < length (held_in domains.now.entries) }
-    requires among { All (Contains (take (last + 1) (held_in domains.now.entries))) pairs.now }
+    requires within { last < length (assigned_in domains.now.entries) }
+    requires among { All (Contains (take (last + 1) (assigned_in domains.now.entries))) pairs.now }
     ensures { IsPivot domains.now.entries pairs.now last result }
 {
     let own = entry_of(domains, last);
@@ -116,23 +116,23 @@ fn pivot_at(domains: &Domains, last: usize, pairs: &[Pair]) -> Pivot
 
 // The circuit whose port forced an assigned pair, if it was forced.
 fn side_of(fate: Fate) -> Option<Side>
-    ensures forced { IfSome result (λ side. fate ≡ Held (LastWay side)) }
-    ensures chosen { IfNone result (is_held fate ≡ true → fate ≡ Held Choice) }
+    ensures forced { IfSome result (λ side. fate ≡ Assigned (LastWay side)) }
+    ensures chosen { IfNone result (is_assigned fate ≡ true → fate ≡ Assigned Choice) }
 {
     match fate {
-        Fate::Held(Cause::LastWay(side)) => Some(side),
-        Fate::Held(Cause::Choice) => None,
+        Fate::Assigned(Cause::LastWay(side)) => Some(side),
+        Fate::Assigned(Cause::Choice) => None,
         Fate::Deleted(_) => None,
     }
 }
 
 // Whether the assigned pair at a place is one of some.
-fn is_at(held: &[Pair], place: usize, pairs: &[Pair]) -> bool
-    requires { place < length held.now }
-    ensures yes { IsTrue result → (d : AnyPair) → Contains pairs.now (slice_index_or held.now place d) }
-    ensures no { result ≡ false → (d : AnyPair) → Contains pairs.now (slice_index_or held.now place d) → ⊥ }
+fn is_at(assigned: &[Pair], place: usize, pairs: &[Pair]) -> bool
+    requires { place < length assigned.now }
+    ensures yes { IsTrue result → (d : AnyPair) → Contains pairs.now (slice_index_or assigned.now place d) }
+    ensures no { result ≡ false → (d : AnyPair) → Contains pairs.now (slice_index_or assigned.now place d) → ⊥ }
 {
-    contains(pairs, held[place])
+    contains(pairs, assigned[place])
 }
 
 fn contains(pairs: &[Pair], pair: Pair) -> bool
@@ -143,26 +143,27 @@ fn contains(pairs: &[Pair], pair: Pair) -> bool
 
 // Where the entry of an assigned pair stands.
 fn entry_of(domains: &Domains, index: usize) -> usize
-    requires { index < length (held_in domains.now.entries) }
+    requires { index < length (assigned_in domains.now.entries) }
     ensures within { result < length domains.now.entries }
     ensures is { (d : AnyEntry) (p : AnyPair)
-        → (slice_index_or domains.now.entries result d).pair ≡ slice_index_or (held_in domains.now.entries) index p }
-    ensures held { (d : AnyEntry) → is_held (slice_index_or domains.now.entries result d).fate ≡ true }
-    ensures front { take index (held_in domains.now.entries) ≡ held_in (take result domains.now.entries) }
+        → (slice_index_or domains.now.entries result d).pair
+        ≡ slice_index_or (assigned_in domains.now.entries) index p }
+    ensures assigned { (d : AnyEntry) → is_assigned (slice_index_or domains.now.entries result d).fate ≡ true }
+    ensures front { take index (assigned_in domains.now.entries) ≡ assigned_in (take result domains.now.entries) }
 {
     // no pair has two entries, and assigned pairs share no port
     let _lawful = domains.entries();
-    match domains.place(held_at(domains, index)) {
+    match domains.place(assigned_at(domains, index)) {
         Some(place) => place,
         None => unreachable!(),
     }
 }
 
 // An assigned pair.
-fn held_at(domains: &Domains, index: usize) -> Pair
-    requires { index < length (held_in domains.now.entries) }
-    ensures value { (d : AnyPair) → slice_index_or (held_in domains.now.entries) index d ≡ result }
-    ensures held { Contains (held_in domains.now.entries) result }
+fn assigned_at(domains: &Domains, index: usize) -> Pair
+    requires { index < length (assigned_in domains.now.entries) }
+    ensures value { (d : AnyPair) → slice_index_or (assigned_in domains.now.entries) index d ≡ result }
+    ensures assigned { Contains (assigned_in domains.now.entries) result }
     ensures known { IsPairOf domains.now.inputs domains.now.outputs result }
 {
     // no pair has two entries, and assigned pairs share no port
@@ -172,11 +173,12 @@ fn held_at(domains: &Domains, index: usize) -> Pair
 
 // The place after the entries of all of a conflict's pairs but the last.
 fn after_others(domains: &Domains, last: usize, pairs: &[Pair]) -> usize
-    requires within { last < length (held_in domains.now.entries) }
-    requires among { All (Contains (take (last + 1) (held_in domains.now.entries))) pairs.now }
+    requires within { last < length (assigned_in domains.now.entries) }
+    requires among { All (Contains (take (last + 1) (assigned_in domains.now.entries))) pairs.now }
     ensures within { result ≤ length domains.now.entries }
     ensures others { (d : AnyPair) → All (Contains
-        (slice_index_or (held_in domains.now.entries) last d ∷ held_in (take result domains.now.entries))) pairs.now }
+        (slice_index_or (assigned_in domains.now.entries) last d
+        ∷ assigned_in (take result domains.now.entries))) pairs.now }
 {
     // no pair has two entries, and assigned pairs share no port
     let _lawful = domains.entries();
@@ -204,26 +206,26 @@ pub fn choice_between(entries: &[Entry], from: usize, to: usize) -> Option<usize
 }
 
 fn is_choice(fate: Fate) -> bool
-    ensures { IsTrue result ↔ (fate ≡ Held Choice) }
+    ensures { IsTrue result ↔ (fate ≡ Assigned Choice) }
 {
     match fate {
-        Fate::Held(Cause::Choice) => true,
+        Fate::Assigned(Cause::Choice) => true,
         _ => false,
     }
 }
 
 // Going back before a choice.
 fn back_to(domains: &Domains, last: usize, place: usize, ban: u64) -> LearnedBan
-    requires { last < length (held_in domains.now.entries) }
+    requires { last < length (assigned_in domains.now.entries) }
     ensures { (d : AnyPair) → result ≡ learned.Back (record {
       place = place;
-      pair = slice_index_or (held_in domains.now.entries) last d;
+      pair = slice_index_or (assigned_in domains.now.entries) last d;
       ban = ban;
     }) }
 {
     LearnedBan::Back(Back {
         place,
-        pair: held_at(domains, last),
+        pair: assigned_at(domains, last),
         ban,
     })
 }
@@ -239,15 +241,16 @@ fn resolve_on(
     book: &mut BanBook,
 ) -> Result<ConflictSet, AllocError>
     requires trail { IsTrail graphs.now book.old domains.now }
-    requires within { forced.place < length (held_in domains.now.entries) }
+    requires within { forced.place < length (assigned_in domains.now.entries) }
     requires forced { (d : AnyPair) → Contains domains.now.entries
         (record {
-          pair = slice_index_or (held_in domains.now.entries) forced.place d;
-          fate = Held (LastWay forced.side);
+          pair = slice_index_or (assigned_in domains.now.entries) forced.place d;
+          fate = Assigned (LastWay forced.side);
         }) }
-    requires conflict { IsConflictSet book.old (take (forced.place + 1) (held_in domains.now.entries)) forced.conflict }
+    requires conflict { IsConflictSet book.old
+        (take (forced.place + 1) (assigned_in domains.now.entries)) forced.conflict }
     ensures more { LearnsMore graphs.now domains.now.entries book.old book.new }
-    ensures conflict { IfOk result (IsConflictSet book.new (take forced.place (held_in domains.now.entries))) }
+    ensures conflict { IfOk result (IsConflictSet book.new (take forced.place (assigned_in domains.now.entries))) }
 {
     // the assigned pairs are of ports that exist, and share none
     let _lawful = domains.entries();
@@ -256,7 +259,7 @@ fn resolve_on(
         side,
         conflict,
     } = forced;
-    let way = held_at(domains, place);
+    let way = assigned_at(domains, place);
     let port = Port {
         side,
         kind: way.kind,
@@ -268,7 +271,7 @@ fn resolve_on(
         alloc,
         graphs,
         domains,
-        held: first_held(domains, place),
+        assigned: first_assigned(domains, place),
     };
     let resolved = Some(Resolved { way, ban });
     let conflict = cover_port(&view, port, resolved, pairs, made, book)?;
@@ -276,9 +279,9 @@ fn resolve_on(
 }
 
 // The first assigned pairs.
-fn first_held(domains: &Domains, count: usize) -> &[Pair]
-    requires { count ≤ length (held_in domains.now.entries) }
-    ensures { result.now ≡ take count (held_in domains.now.entries) }
+fn first_assigned(domains: &Domains, count: usize) -> &[Pair]
+    requires { count ≤ length (assigned_in domains.now.entries) }
+    ensures { result.now ≡ take count (assigned_in domains.now.entries) }
 {
     &domains.pairs()[..count]
 }

@@ -2,7 +2,7 @@
 
 ghost use Rattle.std.specs.Prelude.{◌≡◌, ◌<◌, ◌∷◌, All, Contains, IfNone, IfOk, IsTrue, OnOk, length};
 ghost use Rattle.ban_book.specs.Covering.{Covers};
-ghost use Rattle.pair_domains.specs.Trails.{IsOpen, IsPairOf, held_in};
+ghost use Rattle.pair_domains.specs.Trails.{IsOpen, IsPairOf, assigned_in};
 ghost use Rattle.pair_search.specs.Justified.{IsJustifiedTrail};
 ghost use Rattle.pair_search.specs.Progress.{Propagates};
 
@@ -18,12 +18,12 @@ pub(crate) fn apply(domains: &mut Domains, bans: &[Ban], number: u64) -> Result<
     requires there { number < length bans.now }
     requires justified { IsJustifiedTrail bans.now domains.old }
     ensures propagates { OnOk result (Propagates bans.now domains.old domains.new) }
-    ensures all { IfOk result (λ all. IsTrue all → Covers bans.now (held_in domains.new.entries) number) }
+    ensures all { IfOk result (λ all. IsTrue all → Covers bans.now (assigned_in domains.new.entries) number) }
 {
     // no pair has two entries, and assigned pairs share no port
     let _lawful = domains.entries();
     let pairs = &bans[number as usize].pairs;
-    let Some(way) = unheld(domains, pairs) else {
+    let Some(way) = unassigned(domains, pairs) else {
         return Ok(true);
     };
     if is_open(domains, way) & are_others_assigned(domains, pairs, way) {
@@ -33,11 +33,11 @@ pub(crate) fn apply(domains: &mut Domains, bans: &[Ban], number: u64) -> Result<
 }
 
 // The first of some pairs that isn't assigned.
-fn unheld(domains: &Domains, pairs: &[Pair]) -> Option<Pair>
-    ensures { IfNone result (All (Contains (held_in domains.now.entries)) pairs.now) }
+fn unassigned(domains: &Domains, pairs: &[Pair]) -> Option<Pair>
+    ensures { IfNone result (All (Contains (assigned_in domains.now.entries)) pairs.now) }
 {
     for pair in pairs.iter() {
-        if !is_held(domains, *pair) {
+        if !is_assigned(domains, *pair) {
             return Some(*pair);
         }
     }
@@ -46,7 +46,7 @@ fn unheld(domains: &Domains, pairs: &[Pair]) -> Option<Pair>
 
 // Whether all of some pairs but one are assigned.
 fn are_others_assigned(domains: &Domains, pairs: &[Pair], way: Pair) -> bool
-    ensures { IsTrue result → All (Contains (way ∷ held_in domains.now.entries)) pairs.now }
+    ensures { IsTrue result → All (Contains (way ∷ assigned_in domains.now.entries)) pairs.now }
 {
     for pair in pairs.iter() {
         if !is_assigned_or(domains, *pair, way) {
@@ -57,12 +57,12 @@ fn are_others_assigned(domains: &Domains, pairs: &[Pair], way: Pair) -> bool
 }
 
 fn is_assigned_or(domains: &Domains, pair: Pair, way: Pair) -> bool
-    ensures { IsTrue result → Contains (way ∷ held_in domains.now.entries) pair }
+    ensures { IsTrue result → Contains (way ∷ assigned_in domains.now.entries) pair }
 {
     if pair == way {
         return true;
     }
-    is_held(domains, pair)
+    is_assigned(domains, pair)
 }
 
 /// Whether a pair is of ports that exist.
@@ -74,15 +74,15 @@ pub(crate) fn is_known(domains: &Domains, pair: Pair) -> bool
 }
 
 /// Whether a pair is assigned.
-pub(crate) fn is_held(domains: &Domains, pair: Pair) -> bool
+pub(crate) fn is_assigned(domains: &Domains, pair: Pair) -> bool
     ensures known { IsTrue result → IsPairOf domains.now.inputs domains.now.outputs pair }
-    ensures held { IsTrue result → Contains (held_in domains.now.entries) pair }
+    ensures assigned { IsTrue result → Contains (assigned_in domains.now.entries) pair }
 {
     if !is_known(domains, pair) {
         return false;
     }
-    match domains.held(Side::First, pair.kind, pair.from) {
-        Some(held) => held == pair,
+    match domains.assigned(Side::First, pair.kind, pair.from) {
+        Some(assigned) => assigned == pair,
         None => false,
     }
 }

@@ -10,5 +10,5 @@ pub(crate) struct TrailView<'a> {
     pub(crate) alloc: Global,
     pub(crate) graphs: &'a PairableGraphs<'a>,
     pub(crate) domains: &'a Domains,
-    pub(crate) held: &'a [Pair],
+    pub(crate) assigned: &'a [Pair],
 }

@@ -9,7 +9,7 @@ use Rattle.shelf_core.specs.State.{ShelfState}
 use Rattle.shelf_core.proofs.FaultLemmas.{none_before, rose_after}
 use Rattle.check_steps.specs.Asks.{wished_by}
 use Rattle.check_steps.specs.Checks.{JudgesFiles}
-use Rattle.check_steps.specs.Held.{HoldsGraph}
+use Rattle.check_steps.specs.Held.{HasGraph}
 use Rattle.check_steps.specs.Judged.{IsVerdict, graphs_of}
 use Rattle.check_steps.specs.Lines.{IsOneLine, line_of}
 use Rattle.check_steps.specs.Reading.{IsOfReading, netlist_of}
@@ -24,7 +24,7 @@ use Rattle.check_steps.proofs.CheckingLemmas.{judged_right, judged_sound}
 use Rattle.check_steps.proofs.EndLemmas.{of_reading}
 use Rattle.run_steps.specs.Commands.{asked_restore}
 use Rattle.run_steps.specs.Outcomes.{FollowsWords, IsRight, IsSoundAnswer, Leaves, MayBeCut}
-use Rattle.run_steps.specs.Restore.{HoldsRestored, IsRestorable}
+use Rattle.run_steps.specs.Restore.{HasRestored, IsRestorable}
 use Rattle.run_steps.specs.Steps.{Decides, IsEnding}
 use Rattle.run_steps.proofs.CheckLemmas.{follows_files, follows_unwritten, leaves, right_of_restore, stopped}
 use Rattle.run_steps.proofs.FormLemmas.{check_of_restore, reads_of}
@@ -104,10 +104,10 @@ module _ (tells : Bool) (asked : RestoreWords) (old now : ShelfState) (answer : 
 -- the account proves that a matching is a match
 module _ (tells : Bool) (asked : RestoreWords) (old now : ShelfState) (answer : Judgement) (judges : JudgesFiles tells (check_by asked) old now (Ok answer))
     (matching : Matching) (is_match : answer.outcome ≡ AcceptedMatch matching) where
-  first_netlist : IsTrue tells → HoldsGraph (old.held asked.first.now) answer.first.graph
+  first_netlist : IsTrue tells → HasGraph (old.held asked.first.now) answer.first.graph
   first_netlist t = record { netlist = netlist_of judges.first.circuit answer.first; holds = judges.first.held t; numbered = judges.first.numbered }
 
-  second_netlist : IsTrue tells → HoldsGraph (old.held asked.second.now) answer.second.graph
+  second_netlist : IsTrue tells → HasGraph (old.held asked.second.now) answer.second.graph
   second_netlist t = record { netlist = netlist_of judges.second.circuit answer.second; holds = judges.second.held t; numbered = judges.second.numbered }
 
   -- a check by the first three names accepts the account
@@ -137,7 +137,7 @@ module _ (tells : Bool) (asked : RestoreWords) (old now : ShelfState) (answer : 
 
   -- the new file has the netlist, or the first bytes of it
 
-  left_whole : (restored : Named) (new : ShelfState) → HasFirstPorts answer.first answer.second restored → new.held asked.restored.now ≡ Some (aig_text restored) → IsTrue tells → (words : List (List ℕ)) → AsksRestore words (wished_by asked) → HoldsRestored old.held new.held words (length restored.graph.gates)
+  left_whole : (restored : Named) (new : ShelfState) → HasFirstPorts answer.first answer.second restored → new.held asked.restored.now ≡ Some (aig_text restored) → IsTrue tells → (words : List (List ℕ)) → AsksRestore words (wished_by asked) → HasRestored old.held new.held words (length restored.graph.gates)
   left_whole restored new ported there t words asks = record {
     wished = wished_by asked;
     asks = asks;

@@ -15,7 +15,7 @@ use Rattle.port_moves.proofs.EqualCircuits.{equal_circuits}
 use Rattle.shelf_core.specs.State.{ShelfState}
 use Rattle.shelf_core.proofs.FaultLemmas.{none_failed}
 use Rattle.check_steps.specs.Circuits.{IsCircuit}
-use Rattle.check_steps.specs.Held.{HoldsGraph, HoldsNetlist}
+use Rattle.check_steps.specs.Held.{HasGraph, HasNetlist}
 use Rattle.check_steps.specs.Lines.{line_of}
 use Rattle.check_steps.specs.Reading.{netlist_of}
 use Rattle.check_steps.specs.declared.outcome.Ending.{Ending}
@@ -34,7 +34,7 @@ names_on_lines bytes circuit i o is =
 
 -- two files were read, and this is the second netlist with the first one's ports
 module _ (content other : Option (List ℕ)) (circuit : Circuit) (first second restored : Named)
-    (holds : HoldsNetlist content (netlist_of circuit first)) (computes : Computes first.graph circuit) (graph : HoldsGraph other second.graph)
+    (holds : HasNetlist content (netlist_of circuit first)) (computes : Computes first.graph circuit) (graph : HasGraph other second.graph)
     (ported : HasFirstPorts first second restored) where
   good : IsPrintable restored
   good =

@@ -12,7 +12,7 @@ use Rattle.check_steps.specs.declared.outcome.Ending.{Ending}
 use Rattle.check_steps.specs.declared.outcome.Outcome.{Outcome}
 use Rattle.check_steps.specs.declared.outcome.Outcome.TheVariants.{Restored, WriteFault}
 use Rattle.run_steps.specs.Steps.{IsUnwritten}
-use Rattle.run_steps.specs.Writing.{HoldsFirst}
+use Rattle.run_steps.specs.Writing.{HasFirst}
 
 -- A netlist has the ports of a first one, with its names as symbols are printed, computes what it does, and has as many gates as a
 -- second one.
@@ -35,6 +35,6 @@ pub record Restores (tells : Bool) (first second : Named) (name : List ℕ) (old
   pub stopped : IfErr result IsUnwritten
   -- after a refusal the file is as it was, or has a first part of the netlist
   pub part : IsTrue tells → OnErr result ((new.held name ≡ old.held name)
-      ⊎ ((restored : Named) × HasFirstPorts first second restored × HoldsFirst (aig_text restored) (new.held name)))
+      ⊎ ((restored : Named) × HasFirstPorts first second restored × HasFirst (aig_text restored) (new.held name)))
   pub last : NoCallFollows old new
   pub failed : result ≡ Err WriteFault → Rose old.faults new.faults

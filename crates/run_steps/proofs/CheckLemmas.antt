@@ -18,7 +18,7 @@ use Rattle.check_steps.specs.Words.{AsksCheck, AsksInfo, AsksMatch, AsksRestore,
 use Rattle.run_steps.specs.Match.{HasNoMatch, IsAskedToMatch, IsMatchFound, IsSought, IsSpentOnTwo}
 use Rattle.circuits.specs.Matches.{AreNpnpEqual}
 use Rattle.check_steps.specs.Check.{HasAccount, IsAccepted, IsRejected, LacksAccount}
-use Rattle.check_steps.specs.Held.{Netlist, HoldsNetlist, HoldsGraph, HoldsFault, HoldsTooMuch}
+use Rattle.check_steps.specs.Held.{Netlist, HasNetlist, HasGraph, HasNetFault, HasTooMuch}
 use Rattle.check_steps.specs.Ends.{EndsAt, EndsEarly, IsAbsent}
 use Rattle.run_steps.specs.Outcomes.{FollowsWords, IsAskedOf, IsSpentOn, IsOfOne, IsOfMatch, IsRight, IsDecided, IsSoundAnswer, IsTold, Leaves}
 use Rattle.run_steps.specs.Restore.{AsChecked, IsRestorable}
@@ -44,19 +44,19 @@ use Rattle.run_steps.specs.Commands.{asked_check, IsReadingCommand}
 
 -- one name holds one netlist, or one thing that ends the check
 
-netlist_one : (content : Option (List ℕ)) (a b : Netlist) → HoldsNetlist content a → HoldsNetlist content b → a.circuit ≡ b.circuit
+netlist_one : (content : Option (List ℕ)) (a b : Netlist) → HasNetlist content a → HasNetlist content b → a.circuit ≡ b.circuit
 netlist_one content a b one other =
     let same : other.bytes ≡ one.bytes = let e = one.there in let e' = other.there in cc in
     one_circuit one.bytes a.circuit b.circuit a.input_names a.output_names b.input_names b.output_names one.is (subst (λ bytes. IsCircuit bytes b.circuit b.input_names b.output_names) same other.is)
 
-fault_one : (content : Option (List ℕ)) (kind other_kind : NetKind) (at place : ℕ) → HoldsFault content kind at → HoldsFault content other_kind place → (kind ≡ other_kind) × (at ≡ place)
+fault_one : (content : Option (List ℕ)) (kind other_kind : NetKind) (at place : ℕ) → HasNetFault content kind at → HasNetFault content other_kind place → (kind ≡ other_kind) × (at ≡ place)
 fault_one content kind other_kind at place one other =
     let same : other.bytes ≡ one.bytes = let e = one.there in let e' = other.there in cc in
     one_circuit_fault one.bytes kind other_kind at place one.is (subst (λ bytes. IsCircuitFault bytes other_kind place) same other.is)
 
 -- what ends the check at a file, one of three
 abbrev pub IsEnd : Which → Option (List ℕ) → Outcome → Type 0
-IsEnd file content o = ((o ≡ Absent file) × (content ≡ None)) ⊎ ((o ≡ TooLarge file) × HoldsTooMuch content) ⊎ ((kind : NetKind) × (at : ℕ) × (o ≡ Malformed file kind at) × HoldsFault content kind at)
+IsEnd file content o = ((o ≡ Absent file) × (content ≡ None)) ⊎ ((o ≡ TooLarge file) × HasTooMuch content) ⊎ ((kind : NetKind) × (at : ℕ) × (o ≡ Malformed file kind at) × HasNetFault content kind at)
 
 end_of : (file : Which) (content : Option (List ℕ)) (o : Outcome) → IsDecided o → EndsAt file content o → IsEnd file content o
 end_of file content (Absent which) decided fact = inl (ap Absent fact.0, fact.1)
@@ -67,7 +67,7 @@ end_of file content Memory decided fact = absurd (decided.told.room refl)
 end_of file content other decided fact = absurd fact
 
 -- no name holds two of them
-too_much_or_fault : (content : Option (List ℕ)) (kind : NetKind) (at : ℕ) → HoldsTooMuch content → HoldsFault content kind at → ⊥
+too_much_or_fault : (content : Option (List ℕ)) (kind : NetKind) (at : ℕ) → HasTooMuch content → HasNetFault content kind at → ⊥
 too_much_or_fault content kind at much fault =
     let same : fault.bytes ≡ much.bytes = let e = much.there in let e' = fault.there in cc in
     absurd (omega (arith, much.long, fault.short, ap length same))
@@ -92,7 +92,7 @@ end_one file content a b one other =
       ]
     ]
 
-end_or_netlist : (file : Which) (content : Option (List ℕ)) (o : Outcome) (f : Netlist) → IsEnd file content o → HoldsNetlist content f → ⊥
+end_or_netlist : (file : Which) (content : Option (List ℕ)) (o : Outcome) (f : Netlist) → IsEnd file content o → HasNetlist content f → ⊥
 end_or_netlist file content o f end net =
     let there = net.there in
     elim end [
@@ -107,7 +107,7 @@ end_or_netlist file content o f end net =
 
 -- one name holds one graph
 
-graph_one : (content : Option (List ℕ)) (a b : Net) → HoldsGraph content a → HoldsGraph content b → a ≡ b
+graph_one : (content : Option (List ℕ)) (a b : Net) → HasGraph content a → HasGraph content b → a ≡ b
 graph_one content a b one other =
     let e = netlist_one content one.netlist other.netlist one.holds other.holds in
     let bytes = one.holds.bytes in
@@ -152,11 +152,11 @@ answer_one telling graphs account a b one other =
 abbrev pub SaysAccount : Telling → (List ℕ → Option (List ℕ)) → List ℕ → List ℕ → List ℕ → Outcome → Type 0
 SaysAccount telling held first second account o =
     ((o ≡ Absent Account) × (held account ≡ None))
-    ⊎ ((graphs : Graphs) × HoldsGraph (held first) graphs.first × HoldsGraph (held second) graphs.second × (bytes : List ℕ) × (held account ≡ Some bytes) × IsAnswer telling graphs bytes o)
+    ⊎ ((graphs : Graphs) × HasGraph (held first) graphs.first × HasGraph (held second) graphs.second × (bytes : List ℕ) × (held account ≡ Some bytes) × IsAnswer telling graphs bytes o)
 
 -- a file ends the run, or it is a netlist, and this is said
 abbrev pub SaysFile : Which → Option (List ℕ) → (Outcome → Type 0) → Outcome → Type 0
-SaysFile file content says o = IsEnd file content o ⊎ ((f : Netlist) × HoldsNetlist content f × says o)
+SaysFile file content says o = IsEnd file content o ⊎ ((f : Netlist) × HasNetlist content f × says o)
 
 abbrev pub SaysTwo : (List ℕ → Option (List ℕ)) → List ℕ → List ℕ → (Outcome → Type 0) → Outcome → Type 0
 SaysTwo held first second says o = SaysFile First (held first) (SaysFile Second (held second) says) o
@@ -449,8 +449,8 @@ says_restored held words gates is =
     let has = is.accepted.has in
     let graphs = is.accepted.graphs in
     let e = names_one (check_words wished.first wished.second wished.account) wished.first wished.second wished.account has.first_name has.second_name has.account_name (check_of_restore words wished is.asks) has.asks in
-    let first = subst (λ name. HoldsGraph (held name) graphs.first) e.0 has.first_held in
-    let second = subst (λ name. HoldsGraph (held name) graphs.second) e.1 has.second_held in
+    let first = subst (λ name. HasGraph (held name) graphs.first) e.0 has.first_held in
+    let second = subst (λ name. HasGraph (held name) graphs.second) e.1 has.second_held in
     let there = subst (λ name. held name ≡ Some is.accepted.account) e.2 has.there in
     inr (inl (restored_as, wished.first, wished.second, wished.account, inr (wished.restored, named_restore words wished is.asks, refl), inr (first.netlist, first.holds, inr (second.netlist, second.holds, inr (graphs, first, second, is.accepted.account, there, inl (verdict.Match is.matching, ap Restored is.gates_are, is.accepted.accepted))))))
 
@@ -530,7 +530,7 @@ right_of_restore held words wished o asks other is = absurd is
 pub right_at_first : (held : List ℕ → Option (List ℕ)) (words : List (List ℕ)) (f g t : List ℕ) → NameThree words f g t → (o : Outcome) → EndsAt First (held f) o → IsRight held words o
 right_at_first held words f g t asks o ends = right_of_check held words o (at_first held words f g t asks o ends)
 
-pub right_at_second : (held : List ℕ → Option (List ℕ)) (words : List (List ℕ)) (f g t : List ℕ) (first : Netlist) → NameThree words f g t → HoldsNetlist (held f) first → (o : Outcome) → EndsAt Second (held g) o → IsRight held words o
+pub right_at_second : (held : List ℕ → Option (List ℕ)) (words : List (List ℕ)) (f g t : List ℕ) (first : Netlist) → NameThree words f g t → HasNetlist (held f) first → (o : Outcome) → EndsAt Second (held g) o → IsRight held words o
 right_at_second held words f g t first asks there o ends = right_of_check held words o (at_second held words f g t first asks there o ends)
 
 pub right_at_only : (held : List ℕ → Option (List ℕ)) (words : List (List ℕ)) (file : List ℕ) (budget : ℕ) → AsksInfo words file budget → (o : Outcome) → EndsAt First (held file) o → IsRight held words o
@@ -546,8 +546,8 @@ none_of_one is = elim is [ inl e ↦ cc | inr (ledger, e) ↦ cc ]
 found_or_none : (held : List ℕ → Option (List ℕ)) (words : List (List ℕ)) (matching : Matching) → IsMatchFound held words matching → HasNoMatch held words → ⊥
 found_or_none held words matching found none =
     let e = sought_one words none.files.sought found.files.sought none.files.asks found.files.asks in
-    let f = netlist_one (held none.files.sought.first) found.first none.first (subst (λ n. HoldsNetlist (held n) found.first) e.0 found.files.first_held) none.files.first_held in
-    let g = netlist_one (held none.files.sought.second) found.second none.second (subst (λ n. HoldsNetlist (held n) found.second) e.1 found.files.second_held) none.files.second_held in
+    let f = netlist_one (held none.files.sought.first) found.first none.first (subst (λ n. HasNetlist (held n) found.first) e.0 found.files.first_held) none.files.first_held in
+    let g = netlist_one (held none.files.sought.second) found.second none.second (subst (λ n. HasNetlist (held n) found.second) e.1 found.files.second_held) none.files.second_held in
     none.unequal (subst (AreNpnpEqual none.first.circuit) g (subst (λ circuit. AreNpnpEqual circuit found.second.circuit) f (matching.inputs, matching.outputs, found.matches)))
 
 -- an outcome that is determined by files

@@ -9,7 +9,7 @@ use Rattle.shelf_core.specs.State.{ShelfState}
 use Rattle.shelf_core.specs.declared.outside.ShelfStop.{ShelfStop}
 use Rattle.shelf_core.specs.declared.outside.ShelfStop.TheVariants.{Failed, Memory}
 use Rattle.account_check.specs.declared.verdict.Verdict.TheVariants as verdict
-use Rattle.run_steps.specs.Writing.{HoldsFirst, WritesFile}
+use Rattle.run_steps.specs.Writing.{HasFirst, WritesFile}
 use Rattle.check_steps.specs.Lines.{HasMatching, report_on}
 use Rattle.run_steps.specs.Stops.{unwritten}
 use Rattle.run_steps.specs.Steps.{Concludes, Finds, IsAnswered, IsCutOf, IsStopOfMatch, IsStopWithin, IsUnwritten}
@@ -71,7 +71,7 @@ not_solved tells first second name budget state o result is stop =
     })
 
 -- a first part of an account of an answer
-cut_of : (graphs : Graphs) (account : List ℕ) (o : Outcome) (before after : Option (List ℕ)) → IsAnswered graphs account o → (after ≡ before) ⊎ HoldsFirst account after → IsCutOf graphs before after
+cut_of : (graphs : Graphs) (account : List ℕ) (o : Outcome) (before after : Option (List ℕ)) → IsAnswered graphs account o → (after ≡ before) ⊎ HasFirst account after → IsCutOf graphs before after
 cut_of graphs account o before after answer part =
     elim part [
       | inl same ↦ inl same

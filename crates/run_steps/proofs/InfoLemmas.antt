@@ -3,7 +3,7 @@ use Rattle.std.proofs.Common.{◌≡◌, ℕ, inl, inr, Bool, List, Option, Resu
 use Rattle.circuits.specs.Netlists.{Net}
 use Rattle.net_file.specs.declared.named.Named.{Named}
 use Rattle.shelf_core.specs.State.{ShelfState}
-use Rattle.check_steps.specs.Held.{HoldsGraph}
+use Rattle.check_steps.specs.Held.{HasGraph}
 use Rattle.shelf_core.proofs.FaultLemmas.{none_failed}
 use Rattle.run_steps.specs.Outcomes.{FollowsWords, IsRight, IsSoundAnswer, Leaves}
 use Rattle.run_steps.proofs.CheckLemmas.{follows_files, stopped}
@@ -20,7 +20,7 @@ use Rattle.check_steps.specs.declared.outcome.Outcome.TheVariants.{Informed}
 
 -- what ends such a run is right
 
-stop_right : (held : List ℕ → Option (List ℕ)) (words : List (List ℕ)) (file : List ℕ) (budget : ℕ) (graph : Net) → AsksInfo words file budget → HoldsGraph (held file) graph → (o : Outcome) → IsStopWithin (with_itself graph) budget o → IsRight held words o
+stop_right : (held : List ℕ → Option (List ℕ)) (words : List (List ℕ)) (file : List ℕ) (budget : ℕ) (graph : Net) → AsksInfo words file budget → HasGraph (held file) graph → (o : Outcome) → IsStopWithin (with_itself graph) budget o → IsRight held words o
 stop_right held words file budget graph asks there o stop =
     of_stop (IsRight held words) (with_itself graph) budget o stop
     (λ ledger spent. inl (record { file_name = file; budget = budget; asks = asks; graph = graph; there = there; spent = spent })) tt

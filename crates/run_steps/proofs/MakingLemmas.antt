@@ -7,7 +7,7 @@ use Rattle.gen_pair.specs.declared.pair.GenPair.{GenPair}
 use Rattle.net_print.specs.BlifLines.{blif_text}
 use Rattle.net_print.specs.Files.{aig_text}
 use Rattle.run_steps.specs.Writing.{WritesFile}
-use Rattle.run_steps.specs.Make.{HoldsPair, HoldsPartOfPair, IsDrawn}
+use Rattle.run_steps.specs.Make.{HasMadePair, HasPartOfPair, IsDrawn}
 use Rattle.run_steps.specs.Outcomes.{FollowsWords, IsRight, IsSoundAnswer, Leaves, MayBeCut}
 use Rattle.check_steps.specs.Lines.{IsOneLine, line_of}
 use Rattle.run_steps.specs.Steps.{Decides, IsEnding, IsUnwritten, WritesPair, WritesText}
@@ -101,7 +101,7 @@ follows_made words asked asks = record {
 
 -- a pair was made for the words, and both files written or not
 module _ (tells : Bool) (asked : MakeWords) (pair : GenPair) (drawn : IsDrawn asked.number pair) (old new : ShelfState) where
-  holds : (words : List (List ℕ)) → AsksMake words (wanted_by asked) → new.held asked.first.now ≡ Some (aig_text pair.first) → new.held asked.second.now ≡ Some (blif_text pair.second.graph) → HoldsPair new.held words
+  holds : (words : List (List ℕ)) → AsksMake words (wanted_by asked) → new.held asked.first.now ≡ Some (aig_text pair.first) → new.held asked.second.now ≡ Some (blif_text pair.second.graph) → HasMadePair new.held words
   holds words asks first_there second_there =
       let first = first_read asked.number pair drawn (new.held asked.first.now) first_there in
       let second = second_read asked.number pair drawn (new.held asked.second.now) second_there in
@@ -119,7 +119,7 @@ module _ (tells : Bool) (asked : MakeWords) (pair : GenPair) (drawn : IsDrawn as
         matches = match_from_functions first.0.circuit second.0.circuit pair.first.graph pair.second.graph pair.hidden.inputs pair.hidden.outputs first.1.computes second.1.computes drawn.drawn.matches;
       }
 
-  cut : (words : List (List ℕ)) → AsksMake words (wanted_by asked) → (o : Outcome) → WritesPair tells asked.first.now asked.second.now (aig_text pair.first) (blif_text pair.second.graph) old new (Err o) → IsTrue tells → HoldsPartOfPair old.held new.held words
+  cut : (words : List (List ℕ)) → AsksMake words (wanted_by asked) → (o : Outcome) → WritesPair tells asked.first.now asked.second.now (aig_text pair.first) (blif_text pair.second.graph) old new (Err o) → IsTrue tells → HasPartOfPair old.held new.held words
   cut words asks o writes t = record {
     wanted = wanted_by asked;
     asks = asks;

@@ -11,10 +11,10 @@ use Rattle.shelf_core.specs.State.{ShelfState}
 use Rattle.account_check.specs.Verdicts.{IsAccepted as Proves}
 use Rattle.account_check.specs.declared.verdict.Verdict.{Verdict}
 use Rattle.account_check.specs.declared.verdict.Verdict.TheVariants as verdict
-use Rattle.check_steps.specs.Held.{HoldsGraph}
-use Rattle.run_steps.specs.Match.{HoldsPart, IsProved, IsSought, NamesAccount}
-use Rattle.run_steps.specs.Make.{HoldsPair, HoldsPartOfPair, NamesPair, WriteFiles}
-use Rattle.run_steps.specs.Restore.{HoldsPartOfRestored, HoldsRestored, NamesRestored}
+use Rattle.check_steps.specs.Held.{HasGraph}
+use Rattle.run_steps.specs.Match.{HasPart, IsProved, IsSought, NamesAccount}
+use Rattle.run_steps.specs.Make.{HasMadePair, HasPartOfPair, NamesPair, WriteFiles}
+use Rattle.run_steps.specs.Restore.{HasPartOfRestored, HasRestored, NamesRestored}
 use Rattle.run_steps.specs.Outcomes.{FollowsWords, IsRight, IsSoundAnswer, Leaves, LeavesFiles, MayBeCut}
 use Rattle.check_steps.specs.Asks.{Ask, sought_by, wanted_by, wished_by}
 use Rattle.run_steps.specs.Commands.{IsWritingCommand, IsNotWritten, asked_match}
@@ -34,7 +34,7 @@ use Rattle.run_steps.proofs.OutcomeLemmas.{early_unwritten, no_fault, of_answer,
 use Rattle.run_steps.proofs.FormLemmas.{names_one, reads_of, check_of}
 
 -- a whole account is its first part
-part_of : (held : List ℕ → Option (List ℕ)) (words : List (List ℕ)) (proved : Verdict) → IsProved held words proved → HoldsPart held words
+part_of : (held : List ℕ → Option (List ℕ)) (words : List (List ℕ)) (proved : Verdict) → IsProved held words proved → HasPart held words
 part_of held words proved is =
     let sought = is.sought in
     let has = is.accepted.has in
@@ -45,8 +45,8 @@ part_of held words proved is =
       sought = sought;
       asks = is.asks;
       graphs = graphs;
-      first_held = subst (λ name. HoldsGraph (held name) graphs.first) named.0 has.first_held;
-      second_held = subst (λ name. HoldsGraph (held name) graphs.second) named.1 has.second_held;
+      first_held = subst (λ name. HasGraph (held name) graphs.first) named.0 has.first_held;
+      second_held = subst (λ name. HasGraph (held name) graphs.second) named.1 has.second_held;
       account = account;
       proved = proved;
       accepted = is.accepted.accepted;
@@ -56,7 +56,7 @@ part_of held words proved is =
     }
 
 -- a whole netlist is its first part
-part_of_restored : (before after : List ℕ → Option (List ℕ)) (words : List (List ℕ)) (gates : ℕ) → HoldsRestored before after words gates → HoldsPartOfRestored before after words
+part_of_restored : (before after : List ℕ → Option (List ℕ)) (words : List (List ℕ)) (gates : ℕ) → HasRestored before after words gates → HasPartOfRestored before after words
 part_of_restored before after words gates is = record {
   wished = is.wished;
   asks = is.asks;
@@ -72,7 +72,7 @@ part_of_restored before after words gates is = record {
 }
 
 -- a whole pair is its first part
-part_of_pair : (before after : List ℕ → Option (List ℕ)) (words : List (List ℕ)) → HoldsPair after words → HoldsPartOfPair before after words
+part_of_pair : (before after : List ℕ → Option (List ℕ)) (words : List (List ℕ)) → HasMadePair after words → HasPartOfPair before after words
 part_of_pair before after words is =
     let text = blif_text is.pair.second.graph in
     record {
@@ -129,18 +129,18 @@ record Settles (tells : Bool) (asked : MatchWords) (before after : List ℕ → 
 module _ (tells : Bool) (asked : MatchWords) (old new : ShelfState) (first second : Named)
     (first_read : IsReadFrom tells (old.held asked.first.now) first) (second_read : IsReadFrom tells (old.held asked.second.now) second)
     (others : IsTrue tells → (n : List ℕ) → n ≢ asked.account.now → new.held n ≡ old.held n) where
-  first_graph : IsTrue tells → HoldsGraph (old.held asked.first.now) first.graph
+  first_graph : IsTrue tells → HasGraph (old.held asked.first.now) first.graph
   first_graph t = record { netlist = netlist_of first_read.circuit first; holds = first_read.held t; numbered = first_read.numbered }
 
-  second_graph : IsTrue tells → HoldsGraph (old.held asked.second.now) second.graph
+  second_graph : IsTrue tells → HasGraph (old.held asked.second.now) second.graph
   second_graph t = record { netlist = netlist_of second_read.circuit second; holds = second_read.held t; numbered = second_read.numbered }
 
   -- the netlists' files stay
-  first_after : IsTrue tells → (words : List (List ℕ)) → AsksMatch words (sought_by asked) → HoldsGraph (new.held asked.first.now) first.graph
-  first_after t words asks = subst (λ content. HoldsGraph content first.graph) (sym (others t asked.first.now (λ same. asks.names.not_first (sym same)))) (first_graph t)
+  first_after : IsTrue tells → (words : List (List ℕ)) → AsksMatch words (sought_by asked) → HasGraph (new.held asked.first.now) first.graph
+  first_after t words asks = subst (λ content. HasGraph content first.graph) (sym (others t asked.first.now (λ same. asks.names.not_first (sym same)))) (first_graph t)
 
-  second_after : IsTrue tells → (words : List (List ℕ)) → AsksMatch words (sought_by asked) → HoldsGraph (new.held asked.second.now) second.graph
-  second_after t words asks = subst (λ content. HoldsGraph content second.graph) (sym (others t asked.second.now (λ same. asks.names.not_second (sym same)))) (second_graph t)
+  second_after : IsTrue tells → (words : List (List ℕ)) → AsksMatch words (sought_by asked) → HasGraph (new.held asked.second.now) second.graph
+  second_after t words asks = subst (λ content. HasGraph content second.graph) (sym (others t asked.second.now (λ same. asks.names.not_second (sym same)))) (second_graph t)
 
   files : IsTrue tells → (words : List (List ℕ)) → AsksMatch words (sought_by asked) → IsSought old.held words (netlist_of first_read.circuit first) (netlist_of second_read.circuit second)
   files t words asks = record { sought = (sought_by asked); asks = asks; first_held = first_read.held t; second_held = second_read.held t }

@@ -28,7 +28,7 @@ use Rattle.print_laws.proofs.OperandOrder.{computes_too}
 use Rattle.print_laws.proofs.PrintedMeaning.{printed_computes}
 use Rattle.print_laws.proofs.SizeLemmas.{aig_short, blif_short}
 use Rattle.check_steps.specs.Held.{Netlist}
-use Rattle.run_steps.specs.Make.{HoldsComputed, IsDrawn}
+use Rattle.run_steps.specs.Make.{HasComputed, IsDrawn}
 
 -- the name of a port is one that a symbol can give: a letter and digits
 
@@ -75,7 +75,7 @@ printable input output named input_line input_blank output_line output_blank siz
 }
 
 -- the first text is read as a netlist that the first graph computes
-pub first_read : (number : ℕ) (pair : GenPair) → IsDrawn number pair → (content : Option (List ℕ)) → content ≡ Some (aig_text pair.first) → (file : Netlist) × HoldsComputed content pair.first.graph file
+pub first_read : (number : ℕ) (pair : GenPair) → IsDrawn number pair → (content : Option (List ℕ)) → content ≡ Some (aig_text pair.first) → (file : Netlist) × HasComputed content pair.first.graph file
 first_read number pair is content there =
     let named = pair.first in
     let sizes = is.drawn.first_size in
@@ -102,7 +102,7 @@ no_keyword net true e = let is : 46 ≡ 97 = ap (λ (text : List ℕ). get_or te
 no_keyword net false e = let is : 46 ≡ 97 = ap (λ (text : List ℕ). get_or text 0 0) e in omega (arith, is)
 
 -- the second text is read as a netlist that the second graph computes
-pub second_read : (number : ℕ) (pair : GenPair) → IsDrawn number pair → (content : Option (List ℕ)) → content ≡ Some (blif_text pair.second.graph) → (file : Netlist) × HoldsComputed content pair.second.graph file
+pub second_read : (number : ℕ) (pair : GenPair) → IsDrawn number pair → (content : Option (List ℕ)) → content ≡ Some (blif_text pair.second.graph) → (file : Netlist) × HasComputed content pair.second.graph file
 second_read number pair is content there =
     let net = pair.second.graph in
     let within = within_limits net is.drawn.second_size is.second_ordered in (

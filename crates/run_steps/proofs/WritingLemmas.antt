@@ -5,7 +5,7 @@ use Rattle.std.specs.Result.{IsErrAnd}
 use Rattle.std.proofs.lemmas.List.{append-nil, length-take-le, take-append-drop, take-take, take_all, take_at, take-append-le, take_min, drop-append-le, drop-take, drop_at}
 use Rattle.std.proofs.lemmas.Result.{err_from_is_err_and, on_ok_weaker, on_err_weaker}
 use Rattle.std.proofs.lemmas.Slice.{between_is}
-use Rattle.run_steps.specs.Writing.{HoldsFirst, WritesFile, WritesOn}
+use Rattle.run_steps.specs.Writing.{HasFirst, WritesFile, WritesOn}
 use Rattle.shelf_core.proofs.FaultLemmas.{none_before, one_call, rose_after}
 use Rattle.shelf_core.specs.Calls.{Appends, Closes, Creates}
 use Rattle.shelf_core.specs.State.{ShelfState, grown}
@@ -40,7 +40,7 @@ first_after : (text more : List ℕ) (k : ℕ) → text ++ take k more ≡ take 
 first_after text more k =
     sym (take_plus (length text) k (text ++ more) ∙ (ap (λ ys. ys ++ take k (drop (length text) (text ++ more))) (take_at text more (length text) refl) ∙ ap (λ ys. text ++ take k ys) (drop_at text more (length text) refl)))
 
-whole_first : (text : List ℕ) (content : Option (List ℕ)) → content ≡ Some text → HoldsFirst text content
+whole_first : (text : List ℕ) (content : Option (List ℕ)) → content ≡ Some text → HasFirst text content
 whole_first text content is = (length text, is ∙ ap Some (sym (take_all (length text) text (omega arith))))
 
 -- a piece was appended, or a first part of it

@@ -9,7 +9,7 @@ use Rattle.gen_pair.specs.Names.{HasNames}
 use Rattle.gen_pair.specs.Pairs.{ArePairOf, HasSizes}
 use Rattle.net_print.specs.BlifLines.{blif_text}
 use Rattle.net_print.specs.Files.{aig_text}
-use Rattle.check_steps.specs.Held.{Netlist, HoldsNetlist}
+use Rattle.check_steps.specs.Held.{Netlist, HasNetlist}
 use Rattle.check_steps.specs.Words.{AsksMake, AsksMatch, AsksRestore, Sought, Wanted, Wished}
 
 -- The pair of a number: two graphs of 64 inputs, 32 outputs and 2,000 gates, and a match of them.
@@ -28,13 +28,13 @@ pub record IsDrawn (number : ℕ) (pair : GenPair) : Type 0 where
   pub second_ordered : IsOrdered pair.second.graph
 
 -- What stands under a name is read as a netlist that a graph computes.
-pub record HoldsComputed (content : Option (List ℕ)) (graph : Net) (netlist : Netlist) : Type 0 where
-  pub holds : HoldsNetlist content netlist
+pub record HasComputed (content : Option (List ℕ)) (graph : Net) (netlist : Netlist) : Type 0 where
+  pub holds : HasNetlist content netlist
   pub computes : Computes graph netlist.circuit
 
 -- The words ask for a pair, and the two files have it, the first netlist in the binary form of AIGER and the second as BLIF: netlists that its graphs compute,
 -- and of which its matching is a match.
-pub record HoldsPair (held : List ℕ → Option (List ℕ)) (words : List (List ℕ)) : Type 0 where
+pub record HasMadePair (held : List ℕ → Option (List ℕ)) (words : List (List ℕ)) : Type 0 where
   pub wanted : Wanted
   pub asks : AsksMake words wanted
   pub pair : GenPair
@@ -43,8 +43,8 @@ pub record HoldsPair (held : List ℕ → Option (List ℕ)) (words : List (List
   pub second_there : held wanted.second ≡ Some (blif_text pair.second.graph)
   pub first_file : Netlist
   pub second_file : Netlist
-  pub first_read : HoldsComputed (held wanted.first) pair.first.graph first_file
-  pub second_read : HoldsComputed (held wanted.second) pair.second.graph second_file
+  pub first_read : HasComputed (held wanted.first) pair.first.graph first_file
+  pub second_read : HasComputed (held wanted.second) pair.second.graph second_file
   pub matches : IsMatch first_file.circuit second_file.circuit pair.hidden.inputs pair.hidden.outputs
 
 -- a file is as it was, or has the first bytes of a text
@@ -52,7 +52,7 @@ abbrev pub IsCutFrom : List ℕ → Option (List ℕ) → Option (List ℕ) → 
 IsCutFrom text before after = (after ≡ before) ⊎ ((count : ℕ) × (after ≡ Some (take count text)))
 
 -- The words ask for a pair, and the writing was cut off: in the first file, before the second was touched, or in the second.
-pub record HoldsPartOfPair (before after : List ℕ → Option (List ℕ)) (words : List (List ℕ)) : Type 0 where
+pub record HasPartOfPair (before after : List ℕ → Option (List ℕ)) (words : List (List ℕ)) : Type 0 where
   pub wanted : Wanted
   pub asks : AsksMake words wanted
   pub pair : GenPair

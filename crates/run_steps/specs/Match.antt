@@ -8,7 +8,7 @@ use Rattle.net_core.specs.Sides.{Graphs}
 use Rattle.net_core.specs.declared.matching.Matching.{Matching}
 use Rattle.query_core.specs.Ledgers.{Ledgered}
 use Rattle.check_steps.specs.Check.{IsAccepted}
-use Rattle.check_steps.specs.Held.{Netlist, HoldsNetlist, HoldsGraph}
+use Rattle.check_steps.specs.Held.{Netlist, HasNetlist, HasGraph}
 use Rattle.run_steps.specs.Info.{IsSpentOf}
 use Rattle.check_steps.specs.Words.{AsksMatch, Sought, check_words}
 
@@ -16,8 +16,8 @@ use Rattle.check_steps.specs.Words.{AsksMatch, Sought, check_words}
 pub record IsSought (held : List ℕ → Option (List ℕ)) (words : List (List ℕ)) (first second : Netlist) : Type 0 where
   pub sought : Sought
   pub asks : AsksMatch words sought
-  pub first_held : HoldsNetlist (held sought.first) first
-  pub second_held : HoldsNetlist (held sought.second) second
+  pub first_held : HasNetlist (held sought.first) first
+  pub second_held : HasNetlist (held sought.second) second
 
 -- The words ask for a match of two files that are netlists.
 pub record IsAskedToMatch (held : List ℕ → Option (List ℕ)) (words : List (List ℕ)) : Type 0 where
@@ -44,8 +44,8 @@ pub record IsSpentOnTwo (held : List ℕ → Option (List ℕ)) (words : List (L
   pub sought : Sought
   pub asks : AsksMatch words sought
   pub graphs : Graphs
-  pub first_held : HoldsGraph (held sought.first) graphs.first
-  pub second_held : HoldsGraph (held sought.second) graphs.second
+  pub first_held : HasGraph (held sought.first) graphs.first
+  pub second_held : HasGraph (held sought.second) graphs.second
   pub spent : IsSpentOf graphs sought.budget ledger
 
 -- The words ask for a match, and a check by the same three names accepts the account: it proves this.
@@ -55,12 +55,12 @@ pub record IsProved (held : List ℕ → Option (List ℕ)) (words : List (List 
   pub accepted : IsAccepted held (check_words sought.first sought.second sought.account) proved
 
 -- The words ask for a match, and under the account's name stand the first bytes of an account of the two files that is accepted.
-pub record HoldsPart (held : List ℕ → Option (List ℕ)) (words : List (List ℕ)) : Type 0 where
+pub record HasPart (held : List ℕ → Option (List ℕ)) (words : List (List ℕ)) : Type 0 where
   pub sought : Sought
   pub asks : AsksMatch words sought
   pub graphs : Graphs
-  pub first_held : HoldsGraph (held sought.first) graphs.first
-  pub second_held : HoldsGraph (held sought.second) graphs.second
+  pub first_held : HasGraph (held sought.first) graphs.first
+  pub second_held : HasGraph (held sought.second) graphs.second
   pub account : List ℕ
   pub proved : Verdict
   pub accepted : Proves graphs account proved

@@ -5,11 +5,11 @@ use Rattle.account_check.specs.declared.verdict.Verdict.TheVariants as verdict
 use Rattle.net_core.specs.declared.matching.Matching.{Matching}
 use Rattle.query_core.specs.Ledgers.{Ledgered}
 use Rattle.check_steps.specs.Check.{IsAccepted, IsMatchOfFiles, IsRejected, LacksMatch}
-use Rattle.check_steps.specs.Held.{Netlist, HoldsNetlist, HoldsGraph}
+use Rattle.check_steps.specs.Held.{Netlist, HasNetlist, HasGraph}
 use Rattle.run_steps.specs.Info.{IsSpentOf, with_itself}
-use Rattle.run_steps.specs.Match.{HasNoMatch, HoldsPart, IsMatchFound, IsProved, IsSpentOnTwo}
-use Rattle.run_steps.specs.Make.{HoldsPair, HoldsPartOfPair}
-use Rattle.run_steps.specs.Restore.{AsChecked, HoldsPartOfRestored, HoldsRestored, IsRestorable}
+use Rattle.run_steps.specs.Match.{HasNoMatch, HasPart, IsMatchFound, IsProved, IsSpentOnTwo}
+use Rattle.run_steps.specs.Make.{HasMadePair, HasPartOfPair}
+use Rattle.run_steps.specs.Restore.{AsChecked, HasPartOfRestored, HasRestored, IsRestorable}
 use Rattle.run_steps.specs.Trial.{IsSpentOnPair, IsSpentOnPairOf, IsTried}
 use Rattle.check_steps.specs.Words.{AskForPair, AsksInfo, AskNothing, AsksTrial, ReadFiles}
 use Rattle.check_steps.specs.declared.outcome.Outcome.{Outcome}
@@ -23,7 +23,7 @@ pub record IsAskedOf (held : List ℕ → Option (List ℕ)) (words : List (List
   pub budget : ℕ
   pub asks : AsksInfo words file_name budget
   pub netlist : Netlist
-  pub there : HoldsNetlist (held file_name) netlist
+  pub there : HasNetlist (held file_name) netlist
 
 -- The words ask for what is known of a file, within a budget that was spent on its graph.
 pub record IsSpentOn (held : List ℕ → Option (List ℕ)) (words : List (List ℕ)) (ledger : Ledgered) : Type 0 where
@@ -31,7 +31,7 @@ pub record IsSpentOn (held : List ℕ → Option (List ℕ)) (words : List (List
   pub budget : ℕ
   pub asks : AsksInfo words file_name budget
   pub graph : Net
-  pub there : HoldsGraph (held file_name) graph
+  pub there : HasGraph (held file_name) graph
   pub spent : IsSpentOf (with_itself graph) budget ledger
 
 -- the outcome is one of a netlist by itself
@@ -111,16 +111,16 @@ pub record FollowsWords (words : List (List ℕ)) (outcome : Outcome) : Type 0 w
 abbrev pub MayBeCut : (List ℕ → Option (List ℕ)) → (List ℕ → Option (List ℕ)) → List (List ℕ) → Type 0
 MayBeCut before after words =
     ((name : List ℕ) → after name ≡ before name)
-    ⊎ HoldsPart after words
-    ⊎ HoldsPartOfPair before after words
-    ⊎ HoldsPartOfRestored before after words
+    ⊎ HasPart after words
+    ⊎ HasPartOfPair before after words
+    ⊎ HasPartOfRestored before after words
 
 -- what an outcome says of the files before and afterwards
 abbrev pub Leaves : (List ℕ → Option (List ℕ)) → (List ℕ → Option (List ℕ)) → List (List ℕ) → Outcome → Type 0
 Leaves before after words (Matched matching) = IsProved after words (verdict.Match matching)
 Leaves before after words NoMatching = IsProved after words verdict.None
-Leaves before after words Made = HoldsPair after words
-Leaves before after words (Restored gates) = HoldsRestored before after words gates
+Leaves before after words Made = HasMadePair after words
+Leaves before after words (Restored gates) = HasRestored before after words gates
 Leaves before after words WriteFault = MayBeCut before after words
 Leaves before after words Memory = MayBeCut before after words
 Leaves before after words other = (name : List ℕ) → after name ≡ before name

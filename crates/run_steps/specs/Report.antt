@@ -3,7 +3,7 @@ use Rattle.std.specs.Prelude.{◌≡◌, ◌≢◌, ℕ, ◌⊎◌, Bool, IsTrue
 use Rattle.circuits.specs.Circuits.{Circuit}
 use Rattle.net_file.specs.declared.named.Named.{Named}
 use Rattle.check_steps.specs.Check.{IsAsked}
-use Rattle.check_steps.specs.Held.{Netlist, HoldsNetlist}
+use Rattle.check_steps.specs.Held.{Netlist, HasNetlist}
 use Rattle.run_steps.specs.Match.{IsSought}
 use Rattle.run_steps.specs.Info.{IsInfoText}
 use Rattle.check_steps.specs.Words.{AsksInfo}
@@ -33,7 +33,7 @@ pub record IsInfoReport (tells : Bool) (held : List ℕ → Option (List ℕ)) (
   pub circuit : Circuit
   pub named : Named
   pub there : IsTrue tells
-      → HoldsNetlist (held file_name)
+      → HasNetlist (held file_name)
       (record { circuit = circuit; input_names = named.input_names; output_names = named.output_names })
   pub is : IsInfoText circuit named text
 

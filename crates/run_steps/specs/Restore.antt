@@ -9,7 +9,7 @@ use Rattle.net_core.specs.declared.matching.Matching.{Matching}
 use Rattle.account_check.specs.declared.verdict.Verdict.TheVariants as verdict
 use Rattle.port_moves.specs.Restored.{ComputeTheSame}
 use Rattle.check_steps.specs.Check.{IsAccepted}
-use Rattle.check_steps.specs.Held.{Netlist, HoldsNetlist, HoldsGraph}
+use Rattle.check_steps.specs.Held.{Netlist, HasNetlist, HasGraph}
 use Rattle.check_steps.specs.Words.{AsksRestore, Wished, check_words}
 
 -- this is so of the words, or they ask for a netlist to be restored and it is so of a check by the first three names
@@ -37,25 +37,25 @@ pub record IsRestored (first : Netlist) (second : Net) (gates : ℕ) (bytes : Li
   pub no_more : gates ≤ length second.gates
 
 -- The words ask for a netlist to be restored, and the new file has it.
-pub record HoldsRestored (before after : List ℕ → Option (List ℕ)) (words : List (List ℕ)) (gates : ℕ) : Type 0 where
+pub record HasRestored (before after : List ℕ → Option (List ℕ)) (words : List (List ℕ)) (gates : ℕ) : Type 0 where
   pub wished : Wished
   pub asks : AsksRestore words wished
   pub first : Netlist
   pub second : Net
-  pub first_held : HoldsNetlist (before wished.first) first
-  pub second_held : HoldsGraph (before wished.second) second
+  pub first_held : HasNetlist (before wished.first) first
+  pub second_held : HasGraph (before wished.second) second
   pub bytes : List ℕ
   pub there : after wished.restored ≡ Some bytes
   pub restored : IsRestored first second gates bytes
 
 -- The words ask for a netlist to be restored, and the new file has the first bytes of it.
-pub record HoldsPartOfRestored (before after : List ℕ → Option (List ℕ)) (words : List (List ℕ)) : Type 0 where
+pub record HasPartOfRestored (before after : List ℕ → Option (List ℕ)) (words : List (List ℕ)) : Type 0 where
   pub wished : Wished
   pub asks : AsksRestore words wished
   pub first : Netlist
   pub second : Net
-  pub first_held : HoldsNetlist (before wished.first) first
-  pub second_held : HoldsGraph (before wished.second) second
+  pub first_held : HasNetlist (before wished.first) first
+  pub second_held : HasGraph (before wished.second) second
   pub gates : ℕ
   pub bytes : List ℕ
   pub restored : IsRestored first second gates bytes

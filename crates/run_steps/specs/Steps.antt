@@ -14,7 +14,7 @@ use Rattle.account_check.specs.Verdicts.{IsAccepted as Proves}
 use Rattle.account_check.specs.declared.verdict.Verdict.{Verdict}
 use Rattle.account_check.specs.declared.verdict.Verdict.TheVariants as verdict
 use Rattle.port_report.specs.Reports.{names_of}
-use Rattle.run_steps.specs.Writing.{HoldsFirst}
+use Rattle.run_steps.specs.Writing.{HasFirst}
 use Rattle.run_steps.specs.Info.{IsInfoText, IsSpentOf, with_itself}
 use Rattle.run_steps.specs.Make.{IsCutFrom}
 use Rattle.run_steps.specs.Trial.{IsSpentOnPairOf, IsTrialOf}
@@ -76,14 +76,14 @@ pub record Concludes (tells : Bool) (name text : List ℕ) (ending : Ending) (ol
   pub same : IfOk result (λ answer. answer ≡ ending)
   pub whole : IsTrue tells → OnOk result (new.held name ≡ Some text)
   pub stopped : IfErr result IsUnwritten
-  pub part : IsTrue tells → OnErr result ((new.held name ≡ old.held name) ⊎ HoldsFirst text (new.held name))
+  pub part : IsTrue tells → OnErr result ((new.held name ≡ old.held name) ⊎ HasFirst text (new.held name))
   pub last : NoCallFollows old new
   pub failed : result ≡ Err WriteFault → Rose old.faults new.faults
 
 -- what stands under the account's name is as before, or the first bytes of an account of two graphs that is accepted
 abbrev pub IsCutOf : Graphs → Option (List ℕ) → Option (List ℕ) → Type 0
 IsCutOf graphs before after =
-    (after ≡ before) ⊎ ((account : List ℕ) × (proved : Verdict) × Proves graphs account proved × HoldsFirst account after)
+    (after ≡ before) ⊎ ((account : List ℕ) × (proved : Verdict) × Proves graphs account proved × HasFirst account after)
 
 -- what ends a search for a match without an answer, by what stands under the account's name before and afterwards: the budget is spent and nothing was written,
 -- or a write was refused

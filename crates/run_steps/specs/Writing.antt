@@ -6,8 +6,8 @@ use Rattle.shelf_core.specs.declared.outside.ShelfStop.{ShelfStop}
 use Rattle.shelf_core.specs.declared.outside.ShelfStop.TheVariants.{Failed}
 
 -- what stands under a name is the first bytes of a text
-abbrev pub HoldsFirst : List ℕ → Option (List ℕ) → Type 0
-HoldsFirst text content = (count : ℕ) × (content ≡ Some (take count text))
+abbrev pub HasFirst : List ℕ → Option (List ℕ) → Type 0
+HasFirst text content = (count : ℕ) × (content ≡ Some (take count text))
 
 -- Writing a text under a name, in place of what it has.
 pub record WritesFile (tells : Bool) (name text : List ℕ) (old new : ShelfState)
@@ -16,7 +16,7 @@ pub record WritesFile (tells : Bool) (name text : List ℕ) (old new : ShelfStat
   pub others : IsTrue tells → (n : List ℕ) → n ≢ name → new.held n ≡ old.held n
   pub whole : IsTrue tells → OnOk result (new.held name ≡ Some text)
   -- after a refusal the file is as it was, or a first part of the text
-  pub part : IsTrue tells → OnErr result ((new.held name ≡ old.held name) ⊎ HoldsFirst text (new.held name))
+  pub part : IsTrue tells → OnErr result ((new.held name ≡ old.held name) ⊎ HasFirst text (new.held name))
   pub clean : OnOk result (new.faults ≡ old.faults)
   pub last : NoCallFollows old new
   pub failed : result ≡ Err Failed → Rose old.faults new.faults

@@ -15,13 +15,12 @@ use crate::sample_circuits::{
 use account_core::{Ban, PairableGraphs};
 use ban_book::BanBook;
 use circuits::{Pair, PortKind};
-use class_refine::{Deletion, Mismatches, Refined, deletion_of, refine};
+use class_refine::{Cause, Domains, Refined, refine};
 use cnf_core::Stop;
 use fact_bans::{Asker, BrokenClaims};
 use net_core::{Graphs, Side};
 use oracle_core::Oracle;
-use pair_domains::{Cause, Domains};
-use pair_search::is_open;
+use pair_search::{Deletion, Mismatches, deletion_of, is_open};
 use query_core::Ledger;
 use std::alloc::{AllocError, Global};
 use std::test::Fail;
@@ -77,14 +76,17 @@ fn is_free(domains: &Domains, pair: Pair) -> bool
     if !is_open(domains, pair) {
         return false;
     }
-    if domains.held(Side::First, pair.kind, pair.from).is_some() {
+    if domains
+        .assigned(Side::First, pair.kind, pair.from)
+        .is_some()
+    {
         return false;
     }
-    domains.held(Side::Second, pair.kind, pair.to).is_none()
+    domains.assigned(Side::Second, pair.kind, pair.to).is_none()
 }
 
 /// Assigns a pair, if it is free.
-fn hold(graphs: &PairableGraphs<'_>, domains: &mut Domains, pair: Pair) -> Result<(), AllocError>
+fn assign(graphs: &PairableGraphs<'_>, domains: &mut Domains, pair: Pair) -> Result<(), AllocError>
     requires trail { IsTrail graphs.now [] domains.old }
     requires shown { (facts : List AnyFact) → AreGrounded graphs.now facts domains.old.entries }
     ensures trail { OnOk result (IsTrail graphs.now [] domains.new) }
@@ -95,12 +97,12 @@ fn hold(graphs: &PairableGraphs<'_>, domains: &mut Domains, pair: Pair) -> Resul
     if !is_free(domains, pair) {
         return Ok(());
     }
-    domains.hold(pair, Cause::Choice)?;
+    domains.assign(pair, Cause::Choice)?;
     Ok(())
 }
 
 /// Assigns some pairs, each if it is free.
-fn hold_all(
+fn assign_all(
     graphs: &PairableGraphs<'_>,
     domains: &mut Domains,
     pairs: &[Pair],
@@ -111,7 +113,7 @@ fn hold_all(
     ensures shown { OnOk result ((facts : List AnyFact) → AreGrounded graphs.now facts domains.new.entries) }
 {
     for pair in pairs.iter() {
-        hold(graphs, domains, *pair)?;
+        assign(graphs, domains, *pair)?;
     }
     Ok(())
 }
@@ -134,13 +136,13 @@ fn refined_by<O: Oracle>(
 {
     // the facts of an oracle are of its circuits
     let _facts = oracle.facts();
-    let mut seen = BrokenClaims::new(alloc, graphs, 1)?;
+    let mut broken = BrokenClaims::new(alloc, graphs, 1)?;
     let mut book = BanBook::new(alloc);
     let mut ledger = Ledger::new(alloc, 1_000_000);
     let mut asker = Asker {
         alloc,
         oracle,
-        seen: &mut seen,
+        broken: &mut broken,
         ledger: &mut ledger,
     };
     let answer = refine(graphs, &mut asker, domains, &mut book);
@@ -203,7 +205,7 @@ fn banned_by(ban: Option<&Ban>) -> Fate {
 fn refined_beside(
     alloc: Global,
     graphs: &PairableGraphs<'_>,
-    held: &[Pair],
+    assigned: &[Pair],
     asked: Pair,
 ) -> Result<(Outcome, Fate), AllocError> {
     if !are_small(graphs) {
@@ -211,18 +213,18 @@ fn refined_beside(
     }
     let mut oracle = TableOracle::new(alloc, graphs)?;
     let mut domains = all_open(alloc, graphs)?;
-    hold_all(graphs, &mut domains, held)?;
+    assign_all(graphs, &mut domains, assigned)?;
     refined_by(alloc, graphs, &mut oracle, &mut domains, asked)
 }
 
 fn refined_of(
     alloc: Global,
     graphs: &Graphs<'_>,
-    held: &[Pair],
+    assigned: &[Pair],
     asked: Pair,
 ) -> Result<(Outcome, Fate), AllocError> {
     match PairableGraphs::new(graphs) {
-        Some(graphs) => refined_beside(alloc, &graphs, held, asked),
+        Some(graphs) => refined_beside(alloc, &graphs, assigned, asked),
         None => Ok((Outcome::Other, Fate::Unknown)),
     }
 }
@@ -231,12 +233,12 @@ fn refined(
     alloc: Global,
     first: Sample,
     second: Sample,
-    held: &[Pair],
+    assigned: &[Pair],
     asked: Pair,
 ) -> Result<(Outcome, Fate), Fail> {
     let both = pair(alloc, first, second)?;
     let graphs = both.graphs();
-    Ok(refined_of(alloc, &graphs, held, asked)?)
+    Ok(refined_of(alloc, &graphs, assigned, asked)?)
 }
 
 const OUTPUT: Pair = port_pair!(Output, 0, 0, false);
@@ -307,8 +309,8 @@ static REFININGS: [(&str, Sample, Sample, &[Pair], Outcome); 7] = [
 
 #[test]
 fn refines_small_circuits(rt: HostRuntime) -> Result<(), Fail> {
-    for (name, first, second, held, outcome) in REFININGS.iter() {
-        let (found, _) = refined(rt.alloc(), *first, *second, held, OUTPUT)?;
+    for (name, first, second, assigned, outcome) in REFININGS.iter() {
+        let (found, _) = refined(rt.alloc(), *first, *second, assigned, OUTPUT)?;
         assert_eq!(rt; (*name, found), (*name, *outcome));
     }
     Ok(())

@@ -28,7 +28,7 @@ use Rattle.account_core.specs.declared.step.Step.TheVariants as step
 use Rattle.account_core.specs.Given.{Given}
 use Rattle.account_core.specs.Steps.{IsValidBan}
 use Rattle.account_core.proofs.SentOnly.{sent_only}
-use Rattle.account_core.specs.Held.{IsOf, IsWhole}
+use Rattle.account_core.specs.Assigned.{IsOf, IsWhole}
 use Rattle.vector_bans.specs.Differences.{pair_from, pairs_from, IsShown}
 use Rattle.ban_book.proofs.BlockListLemmas.{contained_of_any}
 use Rattle.ban_book.proofs.MismatchLemmas.{pair_of-one}
@@ -128,17 +128,17 @@ module _ (graphs : Graphs) (matching : Matching) (output : ℕ) (ports : HavePor
     sent : AreSent whole graphs.second.inputs values (map of_bit y)
     sent = record {
       places = length-map y of_bit ∙ y_len;
-      paired = λ other held kind. by_case other kind (Contains-push_cases inputs pair other held);
+      paired = λ other assigned kind. by_case other kind (Contains-push_cases inputs pair other assigned);
       others = λ place below none.
           let at = IsSignedBijection-onto n p ports.inputs place (omega (arith, below, ports.same_inputs)) in
           absurd (none (pair_from Input p at.0) (has_input at.0 at.1) refl at.2);
     }
       where
         by_case : (other : Pair) → other.kind ≡ Input → Contains inputs other ⊎ (pair ≡ other) → value_at (map of_bit y) other.to ≡ signed other.flip (value_at values other.from)
-        by_case other kind (inl held) =
-            let here : held.0 < length p = omega (arith, held.1, inputs_len) in
-            let is : pair_from Input p held.0 ≡ other = sym (input_at held.0 other here) ∙ held.2 in
-            subst (λ (o : Pair). value_at (map of_bit y) o.to ≡ signed o.flip (value_at values o.from)) is (y_at held.0 here)
+        by_case other kind (inl assigned) =
+            let here : assigned.0 < length p = omega (arith, assigned.1, inputs_len) in
+            let is : pair_from Input p assigned.0 ≡ other = sym (input_at assigned.0 other here) ∙ assigned.2 in
+            subst (λ (o : Pair). value_at (map of_bit y) o.to ≡ signed o.flip (value_at values o.from)) is (y_at assigned.0 here)
         by_case other kind (inr same) = absurd (input_output (sym kind ∙ ap (λ (o : Pair). o.kind) (sym same)))
 
     first_is : first_value graphs values output ≡ of_bit (bit (function_of graphs.first x) output)
@@ -169,7 +169,7 @@ module _ (graphs : Graphs) (matching : Matching) (output : ℕ) (ports : HavePor
 
   -- the pairs of a matching are among those that it extends, where each port has one
   has_pair : (x : Pair) → Contains whole x → HasPair matching.inputs matching.outputs x
-  has_pair x held = by_case (Contains-push_cases inputs pair x held)
+  has_pair x assigned = by_case (Contains-push_cases inputs pair x assigned)
     where
       by_case : Contains inputs x ⊎ (pair ≡ x) → HasPair matching.inputs matching.outputs x
       by_case (inl in_inputs) =
@@ -177,15 +177,15 @@ module _ (graphs : Graphs) (matching : Matching) (output : ℕ) (ports : HavePor
           subst (HasPair matching.inputs matching.outputs) (sym (input_at in_inputs.0 x here) ∙ in_inputs.2) (record { there = here; goes = refl })
       by_case (inr same) = subst (HasPair matching.inputs matching.outputs) same (record { there = omega (arith, there, ports.outputs.entries); goes = refl })
 
-  pub among_held : (held : List Pair) → IsWhole graphs held → Extends held matching.inputs matching.outputs → All (Contains held) whole
-  among_held held all extends k d below =
+  pub among_assigned : (assigned : List Pair) → IsWhole graphs assigned → Extends assigned matching.inputs matching.outputs → All (Contains assigned) whole
+  among_assigned assigned all extends k d below =
       let x = get_or whole k d in
       let has = has_pair x (Contains-get_or whole k d below) in
       let known = whole_known k d below in
       let any = all x.kind x.from known.from in
-      let other_held = contained_of_any (IsOf First x.kind x.from) held any in
-      let other_has = All-contains (HasPair matching.inputs matching.outputs) held any.1 extends other_held in
-      subst (Contains held) (same_pair matching.inputs matching.outputs any.1 x any.4.kind_is any.4.port_is other_has has) other_held
+      let other_assigned = contained_of_any (IsOf First x.kind x.from) assigned any in
+      let other_has = All-contains (HasPair matching.inputs matching.outputs) assigned any.1 extends other_assigned in
+      subst (Contains assigned) (same_pair matching.inputs matching.outputs any.1 x any.4.kind_is any.4.port_is other_has has) other_assigned
 
 -- the ban of what is shown
 pub vector_valid : (graphs : Graphs) (given : Given) (all_pairs pairs : List Pair) (pair : Pair) (taken : List Tri) → pair.from < length graphs.first.outputs → IsShown graphs all_pairs pair taken pairs → IsValidBan graphs given (record { pairs = pairs; step = step.Vector pair.from taken })

@@ -17,19 +17,19 @@ all_but : (P : Pair → Type 0) (pairs : List Pair) (place : ℕ) → All P pair
 all_but P pairs place all = All-append P (take place pairs) (drop (suc place) pairs) (All-take P place pairs all) (All-drop P (suc place) pairs all)
 
 -- an element at another place stays
-stays : (pairs : List Pair) (place : ℕ) (pair : Pair) → place < length pairs → (held : Contains pairs pair) → held.0 ≢ place → Contains (remove pairs place) pair
-stays pairs place pair within held apart =
-    elim (cases_order held.0 place) [
+stays : (pairs : List Pair) (place : ℕ) (pair : Pair) → place < length pairs → (assigned : Contains pairs pair) → assigned.0 ≢ place → Contains (remove pairs place) pair
+stays pairs place pair within assigned apart =
+    elim (cases_order assigned.0 place) [
       | inl same ↦ absurd (apart same)
-      | inr (inl less) ↦ (held.0, omega (arith, less, within, size), get_or-remove_below pairs place pair held.0 less within ∙ held.2)
-      | inr (inr more) ↦ later (held.0 - 1) (omega (arith, more)) (omega (arith, more))
+      | inr (inl less) ↦ (assigned.0, omega (arith, less, within, size), get_or-remove_below pairs place pair assigned.0 less within ∙ assigned.2)
+      | inr (inr more) ↦ later (assigned.0 - 1) (omega (arith, more)) (omega (arith, more))
     ]
   where
     size : length (remove pairs place) + 1 ≡ length pairs
     size = omega (arith, length-remove pairs place within, within)
 
-    later : (k : ℕ) → held.0 ≡ k + 1 → place ≤ k → Contains (remove pairs place) pair
-    later k is past = (k, omega (arith, held.1, is, size), get_or-remove_above pairs place pair k past within ∙ (ap (λ n. get_or pairs n pair) (sym is) ∙ held.2))
+    later : (k : ℕ) → assigned.0 ≡ k + 1 → place ≤ k → Contains (remove pairs place) pair
+    later k is past = (k, omega (arith, assigned.1, is, size), get_or-remove_above pairs place pair k past within ∙ (ap (λ n. get_or pairs n pair) (sym is) ∙ assigned.2))
 
 pub input_output : Input ≢ Output
 input_output e = cc
@@ -70,6 +70,6 @@ pub shown_made : (graphs : Graphs) (whole pairs made : List Pair) (pair : Pair) 
 shown_made graphs whole pairs made pair values taken made_is values_is shown =
     subst (λ (v : List Tri). IsShown graphs made pair v made) values_is (subst (λ (l : List Pair). IsShown graphs l pair values l) (sym made_is) (shown_itself graphs whole pair values pairs shown))
 
-pub shown_made_among : (graphs : Graphs) (held whole pairs made : List Pair) (pair : Pair) (values taken : List Tri) → made ≡ pairs → values ≡ taken → All (Contains held) whole → IsShown graphs whole pair values pairs → IsShown graphs held pair taken made
-shown_made_among graphs held whole pairs made pair values taken made_is values_is among shown =
-    subst (λ (v : List Tri). IsShown graphs held pair v made) values_is (subst (IsShown graphs held pair values) (sym made_is) (shown_in graphs whole held pair values pairs (among_more pairs whole held shown.among among) shown))
+pub shown_made_among : (graphs : Graphs) (assigned whole pairs made : List Pair) (pair : Pair) (values taken : List Tri) → made ≡ pairs → values ≡ taken → All (Contains assigned) whole → IsShown graphs whole pair values pairs → IsShown graphs assigned pair taken made
+shown_made_among graphs assigned whole pairs made pair values taken made_is values_is among shown =
+    subst (λ (v : List Tri). IsShown graphs assigned pair v made) values_is (subst (IsShown graphs assigned pair values) (sym made_is) (shown_in graphs whole assigned pair values pairs (among_more pairs whole assigned shown.among among) shown))

@@ -11,7 +11,7 @@ use Rattle.word_sim.specs.declared.tri.Tri.{Tri}
 use Rattle.word_sim.specs.declared.tri.Tri.TheVariants.{X}
 use Rattle.account_core.specs.Ports.{AreOrdered, IsKnown}
 use Rattle.account_core.specs.Vectors.{first_value, second_value, signed}
-use Rattle.account_core.specs.Held.{IsPart}
+use Rattle.account_core.specs.Assigned.{IsPart}
 use Rattle.ban_book.specs.Rows.{HasOneOutput}
 use Rattle.oracle_core.specs.Oracles.{IsDifference}
 use Rattle.vector_bans.specs.declared.difference.Difference.{Difference}
@@ -52,8 +52,8 @@ abbrev pub AreShown : Graphs → List Pair → Counterexample → Type 0
 AreShown graphs whole shown = IsShown graphs whole shown.pair shown.values shown.pairs
 
 -- Some of the assigned pairs, in order, all of inputs.
-pub record AreHeldInputs (held pairs : List Pair) : Type 0 where
-  pub part : IsPart held pairs
+pub record AreAssignedInputs (assigned pairs : List Pair) : Type 0 where
+  pub part : IsPart assigned pairs
   pub inputs : All (λ pair. pair.kind ≡ Input) pairs
 
 -- The pairs without one, of an input, on which the output is wrong too.

@@ -1,6 +1,6 @@
 pub mod Differences
 pub mod Resorts
-pub use Rattle.account_core.specs.Held
+pub use Rattle.account_core.specs.Assigned
 pub use Rattle.sim_patterns.specs.Trials
 pub use Rattle.fact_bans.specs.Asking
 pub use Rattle.fact_bans.specs.Serving

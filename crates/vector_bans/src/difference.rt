@@ -11,10 +11,10 @@ ghost use Rattle.ban_book.specs.Covering.{Covers};
 ghost use Rattle.word_sim.specs.ThreeValues.{of_bit};
 ghost use Rattle.vector_bans.specs.Differences.{pair_from, pairs_from, AreShown, IsLeftOut, IsShown, IsWrong, MayTry};
 ghost use Rattle.vector_bans.specs.Differences.{Differs};
-ghost use Rattle.account_core.specs.Held.{IsWhole};
-ghost use Rattle.fact_bans.specs.Asking.{AreSame, HoldsBy, MayHoldBy, loans};
+ghost use Rattle.account_core.specs.Assigned.{IsWhole};
+ghost use Rattle.fact_bans.specs.Asking.{AreSame, MakesBy, MayMakeBy, loans};
 
-use crate::last_resort::hold_shown;
+use crate::last_resort::keep_shown;
 use account_core::{PairableGraphs, values_sent};
 use ban_book::BanBook;
 use ban_book::needed::place_of;
@@ -67,18 +67,18 @@ pub fn exclude<O: Oracle>(
     difference: &Difference,
     book: &mut BanBook,
 ) -> Result<u64, Stop>
-    requires may { MayHoldBy graphs.now (loans O.known asker.old) book.old }
+    requires may { MayMakeBy graphs.now (loans O.known asker.old) book.old }
     requires ports { HavePorts graphs.now.first graphs.now.second matching.now.inputs matching.now.outputs }
     requires differs { Differs graphs.now matching.now difference.now }
     ensures same { AreSame (loans O.known asker.old) (loans O.known asker.new) }
-    ensures holds { HoldsBy graphs.now (loans O.known asker.old) (loans O.known asker.new) book.old book.new result }
-    ensures covers { (held : List AnyPair)
-        → IsWhole graphs.now held
-        → Extends held matching.now.inputs matching.now.outputs
-        → IfOk result (Covers book.new held) }
+    ensures makes { MakesBy graphs.now (loans O.known asker.old) (loans O.known asker.new) book.old book.new result }
+    ensures covers { (assigned : List AnyPair)
+        → IsWhole graphs.now assigned
+        → Extends assigned matching.now.inputs matching.now.outputs
+        → IfOk result (Covers book.new assigned) }
 {
     let shown = shown_by(asker.alloc, graphs, matching, difference)?;
-    hold_shown(graphs, asker, shown, book)
+    keep_shown(graphs, asker, shown, book)
 }
 
 // The pairs on which a vector shows that an output differs from the one that a matching sends it to. The pairs of
@@ -92,10 +92,10 @@ fn shown_by(
     requires ports { HavePorts graphs.now.first graphs.now.second matching.now.inputs matching.now.outputs }
     requires differs { Differs graphs.now matching.now difference.now }
     ensures shown { IfOk result (λ shown. AreShown graphs.now shown.pairs shown) }
-    ensures held { (held : List AnyPair)
-        → IsWhole graphs.now held
-        → Extends held matching.now.inputs matching.now.outputs
-        → IfOk result (λ shown. All (Contains held) shown.pairs) }
+    ensures assigned { (assigned : List AnyPair)
+        → IsWhole graphs.now assigned
+        → Extends assigned matching.now.inputs matching.now.outputs
+        → IfOk result (λ shown. All (Contains assigned) shown.pairs) }
 {
     // the inputs of a graph are fewer than 2^32, and its gates in order
     let _first = graphs.first();

@@ -3,14 +3,14 @@
 ghost use Rattle.std.specs.Prelude.{◌≡◌, AllPairs, Contains, IfOk, IfSome};
 ghost use Rattle.circuits.specs.declared.port.PortKind.TheVariants.{Output};
 ghost use Rattle.ban_book.specs.Covering.{Covers};
-ghost use Rattle.account_core.specs.Held.{AreApart, AreHeld, IsPart};
-ghost use Rattle.fact_bans.specs.Asking.{AreSame, HoldsBy, MayHoldBy, loans};
+ghost use Rattle.account_core.specs.Assigned.{AreApart, AreAssignable, IsPart};
+ghost use Rattle.fact_bans.specs.Asking.{AreSame, MakesBy, MayMakeBy, loans};
 ghost use Rattle.sim_patterns.specs.Trials.{AreTrials, IsSuspect};
 ghost use Rattle.ban_book.specs.Rows.{HasOneOutput};
 ghost use Rattle.vector_bans.specs.Differences.{AreShown};
 
 use crate::difference::{Counterexample, Tried, definite, is_wrong, leave_out};
-use crate::last_resort::hold_shown;
+use crate::last_resort::keep_shown;
 use account_core::PairableGraphs;
 use ban_book::BanBook;
 use ban_book::cover::add_input;
@@ -34,21 +34,21 @@ use word_sim::tri_output;
 pub fn foresee<O: Oracle>(
     graphs: &PairableGraphs<'_>,
     asker: &mut Asker<'_, O>,
-    held: &[Pair],
+    assigned: &[Pair],
     trials: &Trials,
     book: &mut BanBook,
 ) -> Result<Option<u64>, Stop>
-    requires may { MayHoldBy graphs.now (loans O.known asker.old) book.old }
-    requires held { AreHeld graphs.now held.now }
+    requires may { MayMakeBy graphs.now (loans O.known asker.old) book.old }
+    requires assigned { AreAssignable graphs.now assigned.now }
     requires trials { AreTrials graphs.now.first trials.now }
     ensures same { AreSame (loans O.known asker.old) (loans O.known asker.new) }
-    ensures holds { HoldsBy graphs.now (loans O.known asker.old) (loans O.known asker.new) book.old book.new result }
-    ensures covers { IfOk result (λ found. IfSome found (Covers book.new held.now)) }
+    ensures makes { MakesBy graphs.now (loans O.known asker.old) (loans O.known asker.new) book.old book.new result }
+    ensures covers { IfOk result (λ found. IfSome found (Covers book.new assigned.now)) }
 {
-    let Some(shown) = suspected(asker.alloc, graphs, held, trials)? else {
+    let Some(shown) = suspected(asker.alloc, graphs, assigned, trials)? else {
         return Ok(None);
     };
-    let number = hold_shown(graphs, asker, shown, book)?;
+    let number = keep_shown(graphs, asker, shown, book)?;
     Ok(Some(number))
 }
 
@@ -56,16 +56,16 @@ pub fn foresee<O: Oracle>(
 fn suspected(
     alloc: Global,
     graphs: &PairableGraphs<'_>,
-    held: &[Pair],
+    assigned: &[Pair],
     trials: &Trials,
 ) -> Result<Option<Counterexample>, AllocError>
-    requires held { AreHeld graphs.now held.now }
+    requires assigned { AreAssignable graphs.now assigned.now }
     requires trials { AreTrials graphs.now.first trials.now }
-    ensures { IfOk result (λ found. IfSome found (AreShown graphs.now held.now)) }
+    ensures { IfOk result (λ found. IfSome found (AreShown graphs.now assigned.now)) }
 {
-    match trials.suspect(alloc, graphs, held)? {
+    match trials.suspect(alloc, graphs, assigned)? {
         None => Ok(None),
-        Some(suspect) => wrong_pairs(alloc, graphs, held, &suspect),
+        Some(suspect) => wrong_pairs(alloc, graphs, assigned, &suspect),
     }
 }
 
@@ -74,18 +74,18 @@ fn suspected(
 fn wrong_pairs(
     alloc: Global,
     graphs: &PairableGraphs<'_>,
-    held: &[Pair],
+    assigned: &[Pair],
     suspect: &Suspect,
 ) -> Result<Option<Counterexample>, AllocError>
-    requires held { AreHeld graphs.now held.now }
-    requires suspect { IsSuspect graphs.now held.now suspect.now }
-    ensures { IfOk result (λ found. IfSome found (AreShown graphs.now held.now)) }
+    requires assigned { AreAssignable graphs.now assigned.now }
+    requires suspect { IsSuspect graphs.now assigned.now suspect.now }
+    ensures { IfOk result (λ found. IfSome found (AreShown graphs.now assigned.now)) }
 {
     // the gates of a graph are in order
     let _first = graphs.first();
     let pair = suspect.pair;
     let values = definite(alloc, &suspect.vector)?;
-    let pairs = inputs_and(alloc, held, pair)?;
+    let pairs = inputs_and(alloc, assigned, pair)?;
     let first = tri_output(alloc, graphs.first(), &values, pair.from)?;
     let tried = Tried {
         pair,
@@ -95,7 +95,7 @@ fn wrong_pairs(
     if !is_wrong(alloc, graphs, &pairs, &tried)? {
         return Ok(None);
     }
-    let pairs = leave_out(alloc, graphs, held, pairs, pair, &values)?;
+    let pairs = leave_out(alloc, graphs, assigned, pairs, pair, &values)?;
     let pairs = Items::from_vec(pairs);
     Ok(Some(Counterexample {
         pair,
@@ -105,16 +105,16 @@ fn wrong_pairs(
 }
 
 // The assigned pairs of inputs, and one of an output, in the order that bans have.
-fn inputs_and(alloc: Global, held: &[Pair], pair: Pair) -> Result<Vec<Pair>, AllocError>
-    requires apart { AllPairs AreApart held.now }
-    requires held { Contains held.now pair }
+fn inputs_and(alloc: Global, assigned: &[Pair], pair: Pair) -> Result<Vec<Pair>, AllocError>
+    requires apart { AllPairs AreApart assigned.now }
+    requires assigned { Contains assigned.now pair }
     requires output { pair.kind ≡ Output }
-    ensures part { IfOk result (λ pairs. IsPart held.now pairs.items) }
+    ensures part { IfOk result (λ pairs. IsPart assigned.now pairs.items) }
     ensures output { IfOk result (λ pairs. HasOneOutput pairs.items pair) }
 {
     let mut pairs = Vec::new(alloc);
-    for other in held.iter() {
-        add_input(&mut pairs, held, *other)?;
+    for other in assigned.iter() {
+        add_input(&mut pairs, assigned, *other)?;
     }
     pairs.push(pair)?;
     Ok(pairs)

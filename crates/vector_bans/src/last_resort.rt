@@ -8,7 +8,7 @@ ghost use Rattle.account_core.specs.Ports.{AreOrdered, IsKnown};
 ghost use Rattle.ban_book.specs.Covering.{Covers};
 ghost use Rattle.ban_book.specs.Rows.{HasOneOutput};
 ghost use Rattle.ban_book.specs.Shown.{IsShownBan};
-ghost use Rattle.fact_bans.specs.Asking.{AreSame, HoldsBy, MayAskBy, MayHoldBy, ServesBy, loans};
+ghost use Rattle.fact_bans.specs.Asking.{AreSame, MakesBy, MayAskBy, MayMakeBy, ServesBy, loans};
 ghost use Rattle.vector_bans.specs.Differences.{AreShown};
 ghost use Rattle.vector_bans.specs.Resorts.{IsBanWithin, ShowNothing};
 
@@ -31,16 +31,16 @@ use word_sim::Tri;
 /// # Errors
 ///
 /// `Spent` where a line had to be learned and the ledger's budget was spent. `Memory` when out of memory.
-pub(crate) fn hold_shown<O: Oracle>(
+pub(crate) fn keep_shown<O: Oracle>(
     graphs: &PairableGraphs<'_>,
     asker: &mut Asker<'_, O>,
     shown: Counterexample,
     book: &mut BanBook,
 ) -> Result<u64, Stop>
-    requires may { MayHoldBy graphs.now (loans O.known asker.old) book.old }
+    requires may { MayMakeBy graphs.now (loans O.known asker.old) book.old }
     requires shown { AreShown graphs.now shown.pairs shown }
     ensures same { AreSame (loans O.known asker.old) (loans O.known asker.new) }
-    ensures holds { HoldsBy graphs.now (loans O.known asker.old) (loans O.known asker.new) book.old book.new result }
+    ensures makes { MakesBy graphs.now (loans O.known asker.old) (loans O.known asker.new) book.old book.new result }
     ensures covers { IfOk result (Covers book.new shown.pairs) }
 {
     let ban = ban_of(graphs, asker, shown)?;
@@ -68,7 +68,7 @@ fn ban_of<O: Oracle>(
         pairs,
         values,
     } = shown;
-    let by_facts = told_apart(graphs, asker, &pairs, pair)?;
+    let by_facts = ban_by_claims(graphs, asker, &pairs, pair)?;
     match by_facts {
         Some(ban) => Ok(ban),
         None => Ok(vector_ban(asker.alloc, &pairs, pair.from, values)?),
@@ -76,7 +76,7 @@ fn ban_of<O: Oracle>(
 }
 
 // The ban that claims of one input show of some pairs, among them that of an output. They are decided for both outputs.
-fn told_apart<O: Oracle>(
+fn ban_by_claims<O: Oracle>(
     graphs: &PairableGraphs<'_>,
     asker: &mut Asker<'_, O>,
     pairs: &[Pair],

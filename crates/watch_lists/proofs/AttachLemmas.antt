@@ -13,7 +13,7 @@ use Rattle.watch_lists.specs.declared.threads.Head.{Head}
 use Rattle.watch_lists.specs.Feet.{ArePair, IsSettled}
 use Rattle.watch_lists.specs.Propagations.{AreImplied}
 use Rattle.watch_lists.specs.Threads.{ArePut, AreThreaded, IsAttached, IsIn, IsOnce, head_at, links, list_of, literal_at, no_head, no_watch, partner, watch_at}
-use Rattle.watch_lists.specs.Watched.{AreKept, Fits, IsHeld, IsPresent, Watching, loose_watch, with_clause}
+use Rattle.watch_lists.specs.Watched.{AreKept, Fits, IsTrueBy, IsPresent, Watching, loose_watch, with_clause}
 use Rattle.watch_lists.proofs.KeepLemmas.{fits_assigned}
 use Rattle.watch_lists.proofs.GrowLemmas.{implied_none, implied_one, present_more}
 use Rattle.watch_lists.proofs.ThreadLemmas.{partner_within, put_before, put_other}
@@ -142,14 +142,14 @@ fits_attached old new t id s a b fits variables s_is put pair = record {
   watched = λ k within attached. elim (cases_eq k s) [
     | inl mine ↦ λ j early inside at.
         let next : partner k ≡ s + 1 = omega (arith, mine, s_is) in
-        subst (λ l. IsHeld t.entries l (entry_at t.entries j).level) (sym (ap (literal_at new.watches) next ∙ put.second_is)) (pair.first_guarded j inside (at ∙ ap (λ (l : SatLit). (opposite l).0) (ap (literal_at new.watches) mine ∙ put.first_is)))
+        subst (λ l. IsTrueBy t.entries l (entry_at t.entries j).level) (sym (ap (literal_at new.watches) next ∙ put.second_is)) (pair.first_guarded j inside (at ∙ ap (λ (l : SatLit). (opposite l).0) (ap (literal_at new.watches) mine ∙ put.first_is)))
     | inr not_s ↦ elim (cases_eq k (s + 1)) [
       | inl mine ↦ λ j early inside at.
           let next : partner k ≡ s = omega (arith, mine, s_is) in
-          subst (λ l. IsHeld t.entries l (entry_at t.entries j).level) (sym (ap (literal_at new.watches) next ∙ put.first_is)) (pair.second_guarded j inside (at ∙ ap (λ (l : SatLit). (opposite l).0) (ap (literal_at new.watches) mine ∙ put.second_is)))
+          subst (λ l. IsTrueBy t.entries l (entry_at t.entries j).level) (sym (ap (literal_at new.watches) next ∙ put.first_is)) (pair.second_guarded j inside (at ∙ ap (λ (l : SatLit). (opposite l).0) (ap (literal_at new.watches) mine ∙ put.second_is)))
       | inr not_next ↦ λ j early inside at.
           let p = put_other old.watches new.watches s a b (omega (arith, s_is)) put k not_s not_next in
-          subst (λ l. IsHeld t.entries l (entry_at t.entries j).level) (sym p.1) (fits.watched k (omega (arith, within, put.size)) (put_before old.watches new.watches s a b (omega (arith, s_is)) put k not_s not_next attached) j early inside (at ∙ ap (λ (l : SatLit). (opposite l).0) p.0))
+          subst (λ l. IsTrueBy t.entries l (entry_at t.entries j).level) (sym p.1) (fits.watched k (omega (arith, within, put.size)) (put_before old.watches new.watches s a b (omega (arith, s_is)) put k not_s not_next attached) j early inside (at ∙ ap (λ (l : SatLit). (opposite l).0) p.0))
     ]
   ];
 }
@@ -179,5 +179,5 @@ fits_added watching clause t even fits = record {
       let old = attached_added ws w even s (omega (arith, within, length-append ws (w ∷ w ∷ []))) attached in
       let own = ap (λ (x : ThreadedWatch). x.literal) (old_at ws (w ∷ w ∷ []) s old.0) in
       let other = ap (λ (x : ThreadedWatch). x.literal) (old_at ws (w ∷ w ∷ []) (partner s) (partner_within ws s even old.0)) in
-      subst (λ l. IsHeld t.entries l (entry_at t.entries j).level) (sym other) (fits.watched s old.0 old.1 j early inside (at ∙ ap (λ (l : SatLit). (opposite l).0) own));
+      subst (λ l. IsTrueBy t.entries l (entry_at t.entries j).level) (sym other) (fits.watched s old.0 old.1 j early inside (at ∙ ap (λ (l : SatLit). (opposite l).0) own));
 }

@@ -13,7 +13,7 @@ use Rattle.watch_lists.specs.declared.threads.Head.{Head}
 use Rattle.watch_lists.specs.Looks.{IsBeside, IsHalfFalse, IsTarget}
 use Rattle.watch_lists.specs.Propagations.{AreImplied}
 use Rattle.watch_lists.specs.Threads.{AreAlike, IsAttached, IsIn, head_at, literal_at, no_watch, partner}
-use Rattle.watch_lists.specs.Watched.{AreOfClauses, IsHeld, IsPresent, IsWalking, IsWatched}
+use Rattle.watch_lists.specs.Watched.{AreOfClauses, IsTrueBy, IsPresent, IsWalking, IsWatched}
 use Rattle.watch_lists.proofs.EffectLemmas.{known_at}
 use Rattle.watch_lists.proofs.GrowLemmas.{implied_none, implied_one, low_level, present_more}
 use Rattle.watch_lists.proofs.ThreadLemmas.{attached_before, attached_partner, partner_twice, partner_within, pushed}
@@ -31,21 +31,21 @@ consistent t trail l holds fails =
 pub true_not_false : (t : Trailing) → IsTrail t → (l : SatLit) → is_true (literals t.entries) l ≡ true → is_false (literals t.entries) l ≡ false
 true_not_false t trail l holds = false_from_ne_true (is_false (literals t.entries) l) (consistent t trail l holds)
 
-pub held_true : (es : List Assigned) (l : SatLit) (level : ℕ) → IsHeld es l level → is_true (literals es) l ≡ true
-held_true es l level held = true_at es held.at l held.within held.is
+pub true_by_true : (es : List Assigned) (l : SatLit) (level : ℕ) → IsTrueBy es l level → is_true (literals es) l ≡ true
+true_by_true es l level true_by = true_at es true_by.at l true_by.within true_by.is
 
--- a true literal is held at the present level
-pub held_here : (t : Trailing) → IsTrail t → (l : SatLit) → is_true (literals t.entries) l ≡ true → IsHeld t.entries l t.level
-held_here t trail l holds =
+-- a true literal is true by the present level
+pub true_by_here : (t : Trailing) → IsTrail t → (l : SatLit) → is_true (literals t.entries) l ≡ true → IsTrueBy t.entries l t.level
+true_by_here t trail l holds =
     let j = place_of_true t.entries l holds in
     record { at = j.0; within = j.1; is = j.2; low = low_level t trail j.0 j.1 }
 
-pub held_further : (es more : List Assigned) (l : SatLit) (level : ℕ) → IsHeld es l level → IsHeld (es ++ more) l level
-held_further es more l level held = record {
-  at = held.at;
-  within = omega (arith, held.within, length-append es more);
-  is = ap (λ (e : Assigned). e.literal.0) (get_or_append_left es more nothing held.at held.within) ∙ held.is;
-  low = omega (arith, held.low, ap (λ (e : Assigned). e.level) (get_or_append_left es more nothing held.at held.within));
+pub true_by_further : (es more : List Assigned) (l : SatLit) (level : ℕ) → IsTrueBy es l level → IsTrueBy (es ++ more) l level
+true_by_further es more l level true_by = record {
+  at = true_by.at;
+  within = omega (arith, true_by.within, length-append es more);
+  is = ap (λ (e : Assigned). e.literal.0) (get_or_append_left es more nothing true_by.at true_by.within) ∙ true_by.is;
+  low = omega (arith, true_by.low, ap (λ (e : Assigned). e.level) (get_or_append_left es more nothing true_by.at true_by.within));
 }
 
 -- ---- the step from one watch to the next
@@ -77,12 +77,12 @@ alike_of clauses old new alike of = record {
   of = λ t within attached. ap (is_true (clause_at clauses (t / 2))) (alike.same t) ∙ of.of t (omega (arith, within, alike.size)) (alike_attached old new alike t attached);
 }
 
-alike_held : (old new : List ThreadedWatch) → AreAlike old new → (es : List Assigned) (t level : ℕ) → IsHeld es (literal_at old (partner t)) level → IsHeld es (literal_at new (partner t)) level
-alike_held old new alike es t level held = subst (λ l. IsHeld es l level) (sym (alike.same (partner t))) held
+alike_true_by : (old new : List ThreadedWatch) → AreAlike old new → (es : List Assigned) (t level : ℕ) → IsTrueBy es (literal_at old (partner t)) level → IsTrueBy es (literal_at new (partner t)) level
+alike_true_by old new alike es t level true_by = subst (λ l. IsTrueBy es l level) (sym (alike.same (partner t))) true_by
 
 pub alike_watched : (old new : List ThreadedWatch) → AreAlike old new → (es : List Assigned) (walked t : ℕ) → IsWatched old es walked t → IsWatched new es walked t
 alike_watched old new alike es walked t is j low within at =
-    alike_held old new alike es t (entry_at es j).level (is j low within (at ∙ ap (λ (l : SatLit). (opposite l).0) (alike.same t)))
+    alike_true_by old new alike es t (entry_at es j).level (is j low within (at ∙ ap (λ (l : SatLit). (opposite l).0) (alike.same t)))
 
 -- the watch that is looked at watches the false literal, and its partner another
 pub partner_differs : (clauses : List (List SatLit)) (ws : List ThreadedWatch) (hs : List Head) (t : Trailing) (f : SatLit) (s : ℕ) (out : List ℕ) → IsWalking clauses ws hs t f (s ∷ out) → f.0 ≢ (literal_at ws (partner s)).0
@@ -90,8 +90,8 @@ partner_differs clauses ws hs t f s out is e =
     (is.threaded.out_nowhere s (inl refl)).attached (ap (λ (l : SatLit). l.0) (is.left_watch s (inl refl)) ∙ e)
 
 -- a watch that stays, on a trail that may have grown
-stayed : (clauses : List (List SatLit)) (ws : List ThreadedWatch) (hs : List Head) (old new : Trailing) (more : List Assigned) (f : SatLit) (s : ℕ) (out : List ℕ) → IsWalking clauses ws hs old f (s ∷ out) → new ≡ record old { entries = old.entries ++ more } → IsTrail new → IsPresent new → f.0 < length hs → IsHeld new.entries (literal_at ws (partner s)) new.level → IsWalking clauses (slice_set ws s (record { literal = f; next = (head_at hs f.0).first })) (slice_set hs f.0 (record { first = s; count = (head_at hs f.0).count + 1 })) new f out
-stayed clauses ws hs old new more f s out is new_is trail present low held = record {
+stayed : (clauses : List (List SatLit)) (ws : List ThreadedWatch) (hs : List Head) (old new : Trailing) (more : List Assigned) (f : SatLit) (s : ℕ) (out : List ℕ) → IsWalking clauses ws hs old f (s ∷ out) → new ≡ record old { entries = old.entries ++ more } → IsTrail new → IsPresent new → f.0 < length hs → IsTrueBy new.entries (literal_at ws (partner s)) new.level → IsWalking clauses (slice_set ws s (record { literal = f; next = (head_at hs f.0).first })) (slice_set hs f.0 (record { first = s; count = (head_at hs f.0).count + 1 })) new f out
+stayed clauses ws hs old new more f s out is new_is trail present low true_by = record {
   heads_are = length-set hs f.0 h ∙ (is.heads_are ∙ ap (λ n. 2 * n) (sym variables));
   known = subst (λ n. All (AreKnown n) clauses) (sym variables) is.known;
   of_clauses = alike_of clauses ws put alike is.of_clauses;
@@ -105,12 +105,12 @@ stayed clauses ws hs old new more f s out is new_is trail present low held = rec
       let early_old : j < old.walked = omega (arith, early, walked) in
       let inside_old : j < length old.entries = omega (arith, early_old, is.there) in
       let same = front j inside_old in
-      let old_held = is.watched t (omega (arith, within, alike.size)) (alike_attached ws put alike t attached) j early_old inside_old (sym (ap (λ (e : Assigned). e.literal.0) same) ∙ at) in
-      subst (λ n. IsHeld new.entries (literal_at ws (partner t)) n) (sym (ap (λ (e : Assigned). e.level) same)) (grown (literal_at ws (partner t)) (entry_at old.entries j).level old_held));
+      let old_true_by = is.watched t (omega (arith, within, alike.size)) (alike_attached ws put alike t attached) j early_old inside_old (sym (ap (λ (e : Assigned). e.literal.0) same) ∙ at) in
+      subst (λ n. IsTrueBy new.entries (literal_at ws (partner t)) n) (sym (ap (λ (e : Assigned). e.level) same)) (grown (literal_at ws (partner t)) (entry_at old.entries j).level old_true_by));
   seen = λ t within attached mine. elim (is.seen t (omega (arith, within, alike.size)) (alike_attached ws put alike t attached) (sym (alike.same t) ∙ mine)) [
-    | inl (inl this) ↦ inr (alike_held ws put alike new.entries t new.level (subst (λ k. IsHeld new.entries (literal_at ws (partner k)) new.level) (sym this) held))
+    | inl (inl this) ↦ inr (alike_true_by ws put alike new.entries t new.level (subst (λ k. IsTrueBy new.entries (literal_at ws (partner k)) new.level) (sym this) true_by))
     | inl (inr following) ↦ inl following
-    | inr before ↦ inr (alike_held ws put alike new.entries t new.level (subst (λ n. IsHeld new.entries (literal_at ws (partner t)) n) (sym level) (grown (literal_at ws (partner t)) old.level before)))
+    | inr before ↦ inr (alike_true_by ws put alike new.entries t new.level (subst (λ n. IsTrueBy new.entries (literal_at ws (partner t)) n) (sym level) (grown (literal_at ws (partner t)) old.level before)))
   ];
 }
   where
@@ -138,8 +138,8 @@ stayed clauses ws hs old new more f s out is new_is trail present low held = rec
     front : (k : ℕ) → k < length old.entries → entry_at new.entries k ≡ entry_at old.entries k
     front k within = ap (λ es. entry_at es k) entries ∙ get_or_append_left old.entries more nothing k within
 
-    grown : (l : SatLit) (n : ℕ) → IsHeld old.entries l n → IsHeld new.entries l n
-    grown l n old_held = subst (λ es. IsHeld es l n) (sym entries) (held_further old.entries more l n old_held)
+    grown : (l : SatLit) (n : ℕ) → IsTrueBy old.entries l n → IsTrueBy new.entries l n
+    grown l n old_true_by = subst (λ es. IsTrueBy es l n) (sym entries) (true_by_further old.entries more l n old_true_by)
 
     alike : AreAlike ws (slice_set ws s (record { literal = f; next = (head_at hs f.0).first }))
     alike = record {
@@ -169,10 +169,10 @@ moved clauses ws hs t f l s out is low beside = record {
     | inl mine ↦ absurd (not_false j inside (at ∙ ap (λ (x : SatLit). (opposite x).0) (at_mine k mine)))
     | inr other ↦
         let old_at = at ∙ ap (λ (x : SatLit). (opposite x).0) (literal_set_other ws s k w other) in
-        let held = is.watched k (omega (arith, within, size)) (before k other attached) j early inside old_at in
+        let true_by = is.watched k (omega (arith, within, size)) (before k other attached) j early inside old_at in
         elim (cases_eq (partner k) s) [
-          | inl is_s ↦ absurd (consistent t is.is_trail f (held_true t.entries f (entry_at t.entries j).level (subst (λ x. IsHeld t.entries x (entry_at t.entries j).level) (ap (literal_at ws) is_s ∙ is.left_watch s (inl refl)) held)) f_false)
-          | inr apart ↦ subst (λ x. IsHeld t.entries x (entry_at t.entries j).level) (sym (literal_set_other ws s (partner k) w apart)) held
+          | inl is_s ↦ absurd (consistent t is.is_trail f (true_by_true t.entries f (entry_at t.entries j).level (subst (λ x. IsTrueBy t.entries x (entry_at t.entries j).level) (ap (literal_at ws) is_s ∙ is.left_watch s (inl refl)) true_by)) f_false)
+          | inr apart ↦ subst (λ x. IsTrueBy t.entries x (entry_at t.entries j).level) (sym (literal_set_other ws s (partner k) w apart)) true_by
         ]
   ];
   seen = λ k within attached is_f. elim (cases_eq k s) [
@@ -182,9 +182,9 @@ moved clauses ws hs t f l s out is low beside = record {
         elim (is.seen k (omega (arith, within, size)) (before k other attached) old_f) [
           | inl (inl this) ↦ absurd (other this)
           | inl (inr following) ↦ inl following
-          | inr held ↦ elim (cases_eq (partner k) s) [
+          | inr true_by ↦ elim (cases_eq (partner k) s) [
             | inl is_s ↦ absurd (differs (ap (λ (x : SatLit). x.0) (sym old_f) ∙ ap (λ n. (literal_at ws n).0) (sym (partner_twice k) ∙ ap partner is_s)))
-            | inr apart ↦ inr (subst (λ x. IsHeld t.entries x t.level) (sym (literal_set_other ws s (partner k) w apart)) held)
+            | inr apart ↦ inr (subst (λ x. IsTrueBy t.entries x t.level) (sym (literal_set_other ws s (partner k) w apart)) true_by)
           ]
         ]
   ];
@@ -224,12 +224,12 @@ f_known clauses ws hs t f s out is =
 
 -- what a look at a clause comes to
 pub looked : (clauses : List (List SatLit)) (ws : List ThreadedWatch) (hs : List Head) (old new : Trailing) (f l : SatLit) (s : ℕ) (out : List ℕ) → IsWalking clauses ws hs old f (s ∷ out) → IsTrail new → IsTarget old new (clause_at clauses (s / 2)) (s / 2) (literal_at ws (partner s)) f l → IsWalking clauses (slice_set ws s (record { literal = l; next = (head_at hs l.0).first })) (slice_set hs l.0 (record { first = s; count = (head_at hs l.0).count + 1 })) new f out
-looked clauses ws hs old new f l s out is trail (inl held) =
+looked clauses ws hs old new f l s out is trail (inl true_by) =
     let low = f_known clauses ws hs old f s out is in
     let other = literal_at ws (partner s) in
     let nothing_more : record old { entries = old.entries ++ [] } ≡ old = ap (λ es. record old { entries = es }) (append-nil old.entries) in
-    let walking = stayed clauses ws hs old old [] f s out is (sym nothing_more) is.is_trail is.present low (held_here old is.is_trail other held.other_true) in
-    subst (λ t. IsWalking clauses (slice_set ws s (record { literal = l; next = (head_at hs l.0).first })) (slice_set hs l.0 (record { first = s; count = (head_at hs l.0).count + 1 })) t f out) (sym held.same) (subst (λ x. IsWalking clauses (slice_set ws s (record { literal = x; next = (head_at hs x.0).first })) (slice_set hs x.0 (record { first = s; count = (head_at hs x.0).count + 1 })) old f out) (sym held.stays) walking)
+    let walking = stayed clauses ws hs old old [] f s out is (sym nothing_more) is.is_trail is.present low (true_by_here old is.is_trail other true_by.other_true) in
+    subst (λ t. IsWalking clauses (slice_set ws s (record { literal = l; next = (head_at hs l.0).first })) (slice_set hs l.0 (record { first = s; count = (head_at hs l.0).count + 1 })) t f out) (sym true_by.same) (subst (λ x. IsWalking clauses (slice_set ws s (record { literal = x; next = (head_at hs x.0).first })) (slice_set hs x.0 (record { first = s; count = (head_at hs x.0).count + 1 })) old f out) (sym true_by.stays) walking)
 looked clauses ws hs old new f l s out is trail (inr (inl made)) =
     let low = f_known clauses ws hs old f s out is in
     let other = literal_at ws (partner s) in
@@ -240,8 +240,8 @@ looked clauses ws hs old new f l s out is trail (inr (inl made)) =
     let level : new.level ≡ old.level = ap (λ (t : Trailing). t.level) made.assigned in
     let size : length new.entries ≡ length old.entries + 1 = ap length entries ∙ length-append old.entries (e ∷ []) in
     let present = present_more old new other (Some id) is.present made.assigned in
-    let held : IsHeld new.entries other new.level = record { at = length old.entries; within = omega (arith, size); is = ap (λ (x : Assigned). x.literal.0) last; low = omega (arith, ap (λ (x : Assigned). x.level) last, level) } in
-    let walking = stayed clauses ws hs old new (e ∷ []) f s out is made.assigned trail present low held in
+    let true_by : IsTrueBy new.entries other new.level = record { at = length old.entries; within = omega (arith, size); is = ap (λ (x : Assigned). x.literal.0) last; low = omega (arith, ap (λ (x : Assigned). x.level) last, level) } in
+    let walking = stayed clauses ws hs old new (e ∷ []) f s out is made.assigned trail present low true_by in
     subst (λ x. IsWalking clauses (slice_set ws s (record { literal = x; next = (head_at hs x.0).first })) (slice_set hs x.0 (record { first = s; count = (head_at hs x.0).count + 1 })) new f out) (sym made.stays) walking
 looked clauses ws hs old new f l s out is trail (inr (inr goes)) =
     let id = s / 2 in
@@ -252,20 +252,20 @@ looked clauses ws hs old new f l s out is trail (inr (inr goes)) =
 
 -- what it assigns is all that the clause left
 pub target_implied : (clauses : List (List SatLit)) (old new : Trailing) (f l other : SatLit) (id : ℕ) → id < length clauses → IsTarget old new (clause_at clauses id) id other f l → AreImplied clauses old new
-target_implied clauses old new f l other id there (inl held) = implied_none clauses old new held.same
+target_implied clauses old new f l other id there (inl true_by) = implied_none clauses old new true_by.same
 target_implied clauses old new f l other id there (inr (inl made)) = implied_one clauses old new other id made.assigned (record { there = there; makes = made.left.makes })
 target_implied clauses old new f l other id there (inr (inr goes)) = implied_none clauses old new goes.same
 
 -- the literal to watch is known, and isn't the other one
 pub target_known : (clauses : List (List SatLit)) (ws : List ThreadedWatch) (hs : List Head) (old new : Trailing) (f l : SatLit) (s : ℕ) (out : List ℕ) → IsWalking clauses ws hs old f (s ∷ out) → IsTarget old new (clause_at clauses (s / 2)) (s / 2) (literal_at ws (partner s)) f l → l.0 < length hs
-target_known clauses ws hs old new f l s out is (inl held) = omega (arith, f_known clauses ws hs old f s out is, ap (λ (x : SatLit). x.0) held.stays)
+target_known clauses ws hs old new f l s out is (inl true_by) = omega (arith, f_known clauses ws hs old f s out is, ap (λ (x : SatLit). x.0) true_by.stays)
 target_known clauses ws hs old new f l s out is (inr (inl made)) = omega (arith, f_known clauses ws hs old f s out is, ap (λ (x : SatLit). x.0) made.stays)
 target_known clauses ws hs old new f l s out is (inr (inr goes)) =
     let there : s / 2 < length clauses = omega (arith, (is.threaded.out_nowhere s (inl refl)).within, is.of_clauses.size) in
     omega (arith, known_at old.variables (clause_at clauses (s / 2)) l (is.known (s / 2) [] there) goes.beside.there, is.heads_are)
 
 pub target_differs : (clauses : List (List SatLit)) (ws : List ThreadedWatch) (hs : List Head) (old new : Trailing) (f l : SatLit) (s : ℕ) (out : List ℕ) → IsWalking clauses ws hs old f (s ∷ out) → IsTarget old new (clause_at clauses (s / 2)) (s / 2) (literal_at ws (partner s)) f l → l.0 ≢ (literal_at ws (partner s)).0
-target_differs clauses ws hs old new f l s out is (inl held) e = partner_differs clauses ws hs old f s out is (ap (λ (x : SatLit). x.0) (sym held.stays) ∙ e)
+target_differs clauses ws hs old new f l s out is (inl true_by) e = partner_differs clauses ws hs old f s out is (ap (λ (x : SatLit). x.0) (sym true_by.stays) ∙ e)
 target_differs clauses ws hs old new f l s out is (inr (inl made)) e = partner_differs clauses ws hs old f s out is (ap (λ (x : SatLit). x.0) (sym made.stays) ∙ e)
 target_differs clauses ws hs old new f l s out is (inr (inr goes)) e = goes.beside.differs e
 

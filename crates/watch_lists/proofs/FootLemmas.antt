@@ -15,9 +15,9 @@ use Rattle.trail_core.specs.Trails.{IsTrail, Trailing, entry_at, literals, nothi
 use Rattle.trail_core.proofs.TrailLemmas.{not_true, same_place, true_at}
 use Rattle.watch_lists.specs.Feet.{ArePair, IsElsewhere, IsFallen, IsGuarded, IsMade, IsOpen, IsReached, IsSettled}
 use Rattle.watch_lists.specs.Looks.{IsBeside, IsOut}
-use Rattle.watch_lists.specs.Watched.{IsHeld, IsRooted}
+use Rattle.watch_lists.specs.Watched.{IsTrueBy, IsRooted}
 use Rattle.watch_lists.proofs.EffectLemmas.{IsMaker, all_but, conflict_from, makes_from, same_literal}
-use Rattle.watch_lists.proofs.FitLemmas.{consistent, held_here, true_not_false}
+use Rattle.watch_lists.proofs.FitLemmas.{consistent, true_by_here, true_not_false}
 
 -- a literal that isn't false is guarded by any other
 open_guarded : (es : List Assigned) (l other : SatLit) → is_false (literals es) l ≡ false → IsGuarded es l other
@@ -78,7 +78,7 @@ pair_fallen t trail clause first second there holds fallen = record {
       let p = fallen.top.place in
       let same : variable_of (entry_at t.entries j).literal ≡ variable_of (entry_at t.entries p).literal = omega (arith, at, fallen.top.is_place.there) in
       let here = same_place t trail j p within fallen.top.is_place.within same in
-      subst (λ n. IsHeld t.entries first n) (sym (ap (λ k. (entry_at t.entries k).level) here ∙ fallen.top.level)) (held_here t trail first holds);
+      subst (λ n. IsTrueBy t.entries first n) (sym (ap (λ k. (entry_at t.entries k).level) here ∙ fallen.top.level)) (true_by_here t trail first holds);
 }
 
 -- a true literal that stands alone is true at level 0
@@ -86,7 +86,7 @@ pub rooted_alone : (old t : Trailing) (id : ℕ) → IsTrail t → (clause : Lis
 rooted_alone old t id trail clause first reached_old made there elsewhere =
     let holds = made_true old t first id made in
     let reached = reached_after old t clause first id reached_old made in
-    let held = held_here t trail first holds in
+    let true_by = true_by_here t trail first holds in
     let lowest : t.level ≡ 0 = elim (cases_eq t.level 0) [
       | inl none ↦ none
       | inr some ↦
@@ -99,10 +99,10 @@ rooted_alone old t id trail clause first reached_old made there elsewhere =
           ])
     ] in
     record {
-      at = held.at;
-      within = held.within;
-      there = ap (is_true clause) (ap (λ n. record { 0 = n }) held.is) ∙ there;
-      lowest = omega (arith, held.low, lowest);
+      at = true_by.at;
+      within = true_by.within;
+      there = ap (is_true clause) (ap (λ n. record { 0 = n }) true_by.is) ∙ there;
+      lowest = omega (arith, true_by.low, lowest);
     }
 
 -- a clause all of whose literals are false

@@ -6,8 +6,8 @@ use Rattle.trail_core.specs.declared.assigned.Assigned.{Assigned}
 use Rattle.trail_core.specs.Trails.{IsBack, Trailing, nothing, with_assigned, with_decision}
 use Rattle.trail_core.proofs.BackLemmas.{front_at, front_within, kept_at, low_at}
 use Rattle.watch_lists.specs.Threads.{literal_at, partner}
-use Rattle.watch_lists.specs.Watched.{AreAllLoose, Fits, IsHeld, Watching}
-use Rattle.watch_lists.proofs.FitLemmas.{held_further}
+use Rattle.watch_lists.specs.Watched.{AreAllLoose, Fits, IsTrueBy, Watching}
+use Rattle.watch_lists.proofs.FitLemmas.{true_by_further}
 use Rattle.watch_lists.proofs.ThreadLemmas.{attached_half}
 
 -- watches of which none is of an attached clause fit each trail
@@ -24,9 +24,9 @@ fits_pushed watching trail e level fits few = record {
   watched = λ s within attached j early inside at.
       let before : j < length trail.entries = omega (arith, early, few) in
       let same = get_or_append_left trail.entries (e ∷ []) nothing j before in
-      let held = fits.watched s within attached j early before (sym (ap (λ (x : Assigned). x.literal.0) same) ∙ at) in
+      let true_by = fits.watched s within attached j early before (sym (ap (λ (x : Assigned). x.literal.0) same) ∙ at) in
       let other = literal_at watching.watches (partner s) in
-      subst (IsHeld (trail.entries ++ e ∷ []) other) (sym (ap (λ (x : Assigned). x.level) same)) (held_further trail.entries (e ∷ []) other _ held);
+      subst (IsTrueBy (trail.entries ++ e ∷ []) other) (sym (ap (λ (x : Assigned). x.level) same)) (true_by_further trail.entries (e ∷ []) other _ true_by);
 }
 
 pub fits_decided : (watching : Watching) (trail : Trailing) (l : SatLit) → Fits watching trail → trail.walked ≤ length trail.entries → Fits watching (with_decision trail l)
@@ -43,13 +43,13 @@ fits_back watching old back level fits is = record {
   variables = is.variables ∙ fits.variables;
   watched = λ s within attached j early inside at.
       let same = front_at old back level is j inside in
-      let held = fits.watched s within attached j (omega (arith, early, is.walked)) (front_within old back level is j inside) (sym (ap (λ (e : Assigned). e.literal.0) same) ∙ at) in
+      let true_by = fits.watched s within attached j (omega (arith, early, is.walked)) (front_within old back level is j inside) (sym (ap (λ (e : Assigned). e.literal.0) same) ∙ at) in
       let low = low_at old back level is j inside in
-      let still = kept_at old back level is held.at held.within (omega (arith, held.low, low, ap (λ (e : Assigned). e.level) same)) in
+      let still = kept_at old back level is true_by.at true_by.within (omega (arith, true_by.low, low, ap (λ (e : Assigned). e.level) same)) in
       record {
         at = still.0;
         within = still.1;
-        is = ap (λ (e : Assigned). e.literal.0) still.2 ∙ held.is;
-        low = omega (arith, held.low, ap (λ (e : Assigned). e.level) still.2, ap (λ (e : Assigned). e.level) same);
+        is = ap (λ (e : Assigned). e.literal.0) still.2 ∙ true_by.is;
+        low = omega (arith, true_by.low, ap (λ (e : Assigned). e.level) still.2, ap (λ (e : Assigned). e.level) same);
       };
 }

@@ -14,9 +14,9 @@ use Rattle.watch_lists.specs.declared.threads.Rest.{Rest}
 use Rattle.watch_lists.specs.Propagations.{AreImplied, IsGrown}
 use Rattle.watch_lists.specs.Looks.{IsTarget}
 use Rattle.watch_lists.specs.Threads.{AreAlike, AreThreaded, IsAttached, IsIn, head_at, links, list_of, literal_at, partner, watch_at}
-use Rattle.watch_lists.specs.Watched.{AreKept, AreQuiet, Fits, IsHeld, IsPresent, IsReady, IsWalking, StayAttached, Watching}
+use Rattle.watch_lists.specs.Watched.{AreKept, AreQuiet, Fits, IsTrueBy, IsPresent, IsReady, IsWalking, StayAttached, Watching}
 use Rattle.watch_lists.proofs.EffectLemmas.{neither_true, neither_two}
-use Rattle.watch_lists.proofs.FitLemmas.{alike_attached, alike_of, alike_watched, held_true, looked, target_differs, true_not_false}
+use Rattle.watch_lists.proofs.FitLemmas.{alike_attached, alike_of, alike_watched, true_by_true, looked, target_differs, true_not_false}
 use Rattle.watch_lists.proofs.GrowLemmas.{grown_twice, implied_none, implied_twice}
 use Rattle.watch_lists.proofs.BackLemmas.{rest_kept}
 use Rattle.watch_lists.proofs.ThreadLemmas.{attached_after, attached_itself, attached_partner, links_more, partner_twice, taken, taken_literal}
@@ -94,7 +94,7 @@ way_end clauses old now heads before t literal rest is none = record {
         let mine : literal_at now s ≡ literal = ap (λ n. record { 0 = n }) (same_number (literal_at now s).0 literal.0 (sym at ∙ (ap (λ k. (entry_at t.entries k).literal.0) here ∙ w.falsity))) in
         elim (w.seen s within attached mine) [
           | inl left ↦ absurd (subst (IsIn s) emptied left)
-          | inr held ↦ subst (λ n. IsHeld t.entries (literal_at now (partner s)) n) (sym (w.present.present j (omega (arith, here)) inside)) held
+          | inr true_by ↦ subst (λ n. IsTrueBy t.entries (literal_at now (partner s)) n) (sym (w.present.present j (omega (arith, here)) inside)) true_by
         ]
   ];
 }
@@ -146,21 +146,21 @@ quiet_end clauses ws hs t ready all = record {
       let a_there = ap (λ k. is_true (clause_at clauses k) a) (sym s_id) ∙ ready.kept.of_clauses.of s s_in attached in
       let b_there = ap (λ k. is_true (clause_at clauses k) b) (sym o_id) ∙ ready.kept.of_clauses.of other o_in back in
       elim (cases_Bool (is_false (literals t.entries) a)) [
-        | inl a_false ↦ holds id b b_there (held_by s s_in attached a_false)
+        | inl a_false ↦ holds id b b_there (partner_true s s_in attached a_false)
         | inr a_open ↦ elim (cases_Bool (is_false (literals t.entries) b)) [
-          | inl b_false ↦ holds id a a_there (ap (λ k. is_true (literals t.entries) (literal_at ws k)) (sym (partner_twice s)) ∙ held_by other o_in back b_false)
+          | inl b_false ↦ holds id a a_there (ap (λ k. is_true (literals t.entries) (literal_at ws k)) (sym (partner_twice s)) ∙ partner_true other o_in back b_false)
           | inr b_open ↦ neither_two (literals t.entries) (clause_at clauses id) a b attached a_open b_open a_there b_there
         ]
       ];
 }
   where
-    held_by : (s : ℕ) → s < length ws → IsAttached ws s → is_false (literals t.entries) (literal_at ws s) ≡ true → is_true (literals t.entries) (literal_at ws (partner s)) ≡ true
-    held_by s within attached fails =
+    partner_true : (s : ℕ) → s < length ws → IsAttached ws s → is_false (literals t.entries) (literal_at ws s) ≡ true → is_true (literals t.entries) (literal_at ws (partner s)) ≡ true
+    partner_true s within attached fails =
         let j = place_of_true t.entries (opposite (literal_at ws s)) fails in
-        held_true t.entries (literal_at ws (partner s)) (entry_at t.entries j.0).level (ready.watched s within attached j.0 (omega (arith, j.1, all)) j.1 j.2)
+        true_by_true t.entries (literal_at ws (partner s)) (entry_at t.entries j.0).level (ready.watched s within attached j.0 (omega (arith, j.1, all)) j.1 j.2)
 
     holds : (id : ℕ) (l : SatLit) → is_true (clause_at clauses id) l ≡ true → is_true (literals t.entries) l ≡ true → effect_of (literals t.entries) (clause_at clauses id) ≡ Neither
-    holds id l there is_held = neither_true (literals t.entries) (clause_at clauses id) l is_held (true_not_false t ready.is_trail l is_held) there
+    holds id l there is_so = neither_true (literals t.entries) (clause_at clauses id) l is_so (true_not_false t ready.is_trail l is_so) there
 
 -- one watch was looked at
 pub visited : (clauses : List (List SatLit)) (ws put : List ThreadedWatch) (hs heads : List Head) (old new : Trailing) (f l : SatLit) (rest after : Rest) → IsWalking clauses ws hs old f (links ws rest.left rest.at) → 0 < rest.left → IsTrail new → IsTarget old new (clause_at clauses (rest.at / 2)) (rest.at / 2) (literal_at ws (partner rest.at)) f l → after ≡ record { at = (watch_at ws rest.at).next; left = rest.left - 1 } → put ≡ slice_set ws rest.at (record { literal = l; next = (head_at hs l.0).first }) → heads ≡ slice_set hs l.0 (record { first = rest.at; count = (head_at hs l.0).count + 1 }) → IsWalking clauses put heads new f (links put after.left after.at)

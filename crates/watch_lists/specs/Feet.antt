@@ -9,7 +9,7 @@ use Rattle.trail_core.specs.declared.assigned.Assigned.{Assigned}
 use Rattle.trail_core.specs.Trails.{IsFree, IsPlace, Trailing, entry_at, literals, with_assigned}
 use Rattle.watch_lists.specs.declared.looking.Foot.{Foot}
 use Rattle.watch_lists.specs.declared.looking.Foot.TheVariants.{Two, Rooted, Conflict}
-use Rattle.watch_lists.specs.Watched.{IsHeld, IsRooted}
+use Rattle.watch_lists.specs.Watched.{IsTrueBy, IsRooted}
 
 -- A literal of a clause that isn't false.
 pub record IsOpen (made clause : List SatLit) (literal : SatLit) : Type 0 where
@@ -59,7 +59,7 @@ abbrev pub IsGuarded : List Assigned → SatLit → SatLit → Type 0
 IsGuarded entries literal other = (j : ℕ)
     → j < length entries
     → (entry_at entries j).literal.0 ≡ (opposite literal).0
-    → IsHeld entries other (entry_at entries j).level
+    → IsTrueBy entries other (entry_at entries j).level
 
 -- Two literals of a clause by which it can be watched.
 pub record ArePair (entries : List Assigned) (clause : List SatLit) (first second : SatLit) : Type 0 where

@@ -42,7 +42,7 @@ IsLook trail clause other Unit = IsLeft trail clause other
 IsLook trail clause other Conflict = effect_of (literals trail.entries) clause ≡ AllFalse
 
 -- The watch stays, since the other one is true.
-pub record IsHeldBy (old new : Trailing) (other falsified literal : SatLit) : Type 0 where
+pub record IsSatisfied (old new : Trailing) (other falsified literal : SatLit) : Type 0 where
   pub same : new ≡ old
   pub stays : literal ≡ falsified
   pub other_true : is_true (literals old.entries) other ≡ true
@@ -61,5 +61,5 @@ pub record IsMovedTo (old new : Trailing) (clause : List SatLit) (other literal 
 -- what is watched in place of a literal that became false
 abbrev pub IsTarget : Trailing → Trailing → List SatLit → ℕ → SatLit → SatLit → SatLit → Type 0
 IsTarget old new clause id other falsified literal =
-    IsHeldBy old new other falsified literal
+    IsSatisfied old new other falsified literal
     ⊎ (IsMadeBy old new clause id other falsified literal ⊎ IsMovedTo old new clause other literal)

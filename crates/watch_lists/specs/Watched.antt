@@ -28,7 +28,7 @@ with_clause clause watching = record watching {
 }
 
 -- A literal is true, at a level that isn't greater.
-pub record IsHeld (entries : List Assigned) (literal : SatLit) (level : ℕ) : Type 0 where
+pub record IsTrueBy (entries : List Assigned) (literal : SatLit) (level : ℕ) : Type 0 where
   pub at : ℕ
   pub within : at < length entries
   pub is : (entry_at entries at).literal.0 ≡ literal.0
@@ -40,7 +40,7 @@ IsWatched watches entries walked s = (j : ℕ)
     → j < walked
     → j < length entries
     → (entry_at entries j).literal.0 ≡ (opposite (literal_at watches s)).0
-    → IsHeld entries (literal_at watches (partner s)) (entry_at entries j).level
+    → IsTrueBy entries (literal_at watches (partner s)) (entry_at entries j).level
 
 -- the watches fit a trail
 pub record Fits (watching : Watching) (trail : Trailing) : Type 0 where
@@ -131,7 +131,7 @@ pub record IsWalking (clauses : List (List SatLit)) (watches : List ThreadedWatc
       → s < length watches
       → IsAttached watches s
       → literal_at watches s ≡ literal
-      → IsIn s left ⊎ IsHeld trail.entries (literal_at watches (partner s)) trail.level
+      → IsIn s left ⊎ IsTrueBy trail.entries (literal_at watches (partner s)) trail.level
 
 -- what is attached stays so
 abbrev pub StayAttached : List ThreadedWatch → List ThreadedWatch → Type 0

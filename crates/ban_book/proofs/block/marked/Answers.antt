@@ -1,4 +1,4 @@
-use Rattle.ban_book.proofs.ListLemmas.{marked_none}
+use Rattle.ban_book.proofs.Marked.{marked_none}
 use Rattle.ban_book.proofs.block.marked.Goals as goal
 
 pub loop-port-init : goal.loop-port-init

@@ -9,8 +9,8 @@ use Rattle.ban_book.proofs.clash.clashing.Goals as goal
 
 pub loop-pair-preserved : goal.loop-pair-preserved
 loop-pair-preserved c =
-    All-more (λ (pair : Pair). Clash pair c.args.way → ⊥) c.args.held.now c.loop-pair.pair-index _ c.loop-pair-test.true c.loop-pair.invariant (λ clash. false≢true (sym c.if-clash.false ∙ c.clash.ensures.1 clash))
+    All-more (λ (pair : Pair). Clash pair c.args.way → ⊥) c.args.assigned.now c.loop-pair.pair-index _ c.loop-pair-test.true c.loop-pair.invariant (λ clash. false≢true (sym c.if-clash.false ∙ c.clash.ensures.1 clash))
 
 pub returns-clause-none : goal.returns-clause-none
 returns-clause-none c =
-    none_of_any (λ (pair : Pair). Clash pair c.args.way) c.args.held.now (subst (All (λ (pair : Pair). Clash pair c.args.way → ⊥)) (take_all c.loop-pair.pair-index c.args.held.now c.loop-pair-test.false) c.loop-pair.invariant)
+    none_of_any (λ (pair : Pair). Clash pair c.args.way) c.args.assigned.now (subst (All (λ (pair : Pair). Clash pair c.args.way → ⊥)) (take_all c.loop-pair.pair-index c.args.assigned.now c.loop-pair-test.false) c.loop-pair.invariant)

@@ -14,7 +14,7 @@ loop-pair-init c = record {
 
 pub loop-pair-preserved : goal.loop-pair-preserved
 loop-pair-preserved c =
-    gather_more c.args.held.now c.args.needed.now.items c.loop-pair.needed.items c.add_unless.new.needed.items c.args.way c.args.pairs.now c.loop-pair.pair-index _ c.loop-pair-test.true c.loop-pair.invariant c.in_ok-add_unless.ensures.adds.part c.in_ok-add_unless.ensures.adds.stays c.in_ok-add_unless.ensures.added
+    gather_more c.args.assigned.now c.args.needed.now.items c.loop-pair.needed.items c.add_unless.new.needed.items c.args.way c.args.pairs.now c.loop-pair.pair-index _ c.loop-pair-test.true c.loop-pair.invariant c.in_ok-add_unless.ensures.adds.part c.in_ok-add_unless.ensures.adds.stays c.in_ok-add_unless.ensures.added
 
 pub returns-clause-among : goal.returns-clause-among
 returns-clause-among c =

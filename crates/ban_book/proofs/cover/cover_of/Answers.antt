@@ -1,5 +1,5 @@
 use Rattle.std.proofs.Common.{◌∙◌, sym}
-use Rattle.ban_book.proofs.HoldLemmas.{cover_valid}
+use Rattle.ban_book.proofs.KeepLemmas.{cover_valid}
 use Rattle.ban_book.proofs.cover.cover_of.Goals as goal
 
 pub returns-clause-valid : goal.returns-clause-valid

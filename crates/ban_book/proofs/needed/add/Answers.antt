@@ -4,7 +4,7 @@ use Rattle.std.proofs.lemmas.Bool.{false≢true}
 use Rattle.std.proofs.lemmas.List.Elements.{All-contains_itself, Contains-get_or}
 use Rattle.circuits.specs.declared.port.Pair.{Pair}
 use Rattle.account_core.specs.Ports.{AreOrdered}
-use Rattle.account_core.specs.Held.{StandsBefore}
+use Rattle.account_core.specs.Assigned.{StandsBefore}
 use Rattle.ban_book.proofs.BlockListLemmas.{insert_stays, insert_has, insert_cases}
 use Rattle.ban_book.proofs.OrderLemmas.{ordered_insert}
 use Rattle.ban_book.proofs.needed.add.Goals as goal

@@ -3,7 +3,7 @@ use Rattle.std.proofs.lemmas.Bool.{false≢true}
 use Rattle.std.proofs.lemmas.List.{get_or_default}
 use Rattle.std.proofs.lemmas.List.Elements.{All-more}
 use Rattle.circuits.specs.declared.port.Pair.{Pair}
-use Rattle.account_core.specs.Held.{StandsBefore}
+use Rattle.account_core.specs.Assigned.{StandsBefore}
 use Rattle.ban_book.proofs.needed.place_for.Goals as goal
 
 pub returns-then-not-stands_before-clause-after : goal.returns-then-not-stands_before-clause-after

@@ -1,5 +1,5 @@
 use Rattle.std.proofs.Common.{take, All}
-use Rattle.account_core.specs.Held.{StandsBefore}
+use Rattle.account_core.specs.Assigned.{StandsBefore}
 use Rattle.ban_book.proofs.needed.place_for.Given as goal
 
 abbrev pub invariant-loop-place : goal.invariant-loop-place

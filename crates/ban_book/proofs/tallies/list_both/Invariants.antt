@@ -4,5 +4,5 @@ use Rattle.std.specs.List.{flat_map}
 use Rattle.ban_book.specs.Rows.{both_of}
 use Rattle.ban_book.proofs.tallies.list_both.Given as goal
 
-abbrev pub invariant-loop-told : goal.invariant-loop-told
-invariant-loop-told l = l.numbers ≡ flat_map (both_of l.holds) (take l.told-index l.row)
+abbrev pub invariant-loop-claims : goal.invariant-loop-claims
+invariant-loop-claims l = l.numbers ≡ flat_map (both_of l.holds) (take l.claims-index l.row)

@@ -5,10 +5,10 @@ use Rattle.ban_book.specs.Rows.{one_of}
 use Rattle.ban_book.proofs.RowListLemmas.{flat_taken}
 use Rattle.ban_book.proofs.tallies.list_one.Goals as goal
 
-pub loop-told-preserved : goal.loop-told-preserved
-loop-told-preserved c =
-    flat_taken (one_of c.args.holds) c.args.row.now c.loop-told.told-index _ c.loop-told.numbers c.add_one.new.numbers c.loop-told-test.true c.loop-told.invariant c.in_ok-add_one.ensures
+pub loop-claims-preserved : goal.loop-claims-preserved
+loop-claims-preserved c =
+    flat_taken (one_of c.args.holds) c.args.row.now c.loop-claims.claims-index _ c.loop-claims.numbers c.add_one.new.numbers c.loop-claims-test.true c.loop-claims.invariant c.in_ok-add_one.ensures
 
 pub returns : goal.returns
 returns c =
-    c.loop-told.invariant ∙ ap (flat_map (one_of c.args.holds)) (take_all c.loop-told.told-index c.args.row.now (omega (arith, c.loop-told-test.false)))
+    c.loop-claims.invariant ∙ ap (flat_map (one_of c.args.holds)) (take_all c.loop-claims.claims-index c.args.row.now (omega (arith, c.loop-claims-test.false)))

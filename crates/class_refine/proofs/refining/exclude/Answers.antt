@@ -1,16 +1,16 @@
 use Rattle.std.proofs.Common.{subst, sym}
-use Rattle.account_core.specs.Held.{AreHeld}
-use Rattle.pair_search.proofs.PivotLemmas.{held_known}
+use Rattle.account_core.specs.Assigned.{AreAssignable}
+use Rattle.pair_search.proofs.PivotLemmas.{assigned_known}
 use Rattle.class_refine.specs.Rows.{ShowNothingAt, decided}
 use Rattle.class_refine.specs.Stable.{HaveNoBan, HaveNoSwapMismatch}
 use Rattle.class_refine.proofs.TrailLemmas.{refines_bans, refines_then}
 use Rattle.class_refine.proofs.refining.exclude.Goals as goal
 
-pub exclude_assigned-requires-clause-held : goal.exclude_assigned-requires-clause-held
-exclude_assigned-requires-clause-held c =
+pub exclude_assigned-requires-clause-assigned : goal.exclude_assigned-requires-clause-assigned
+exclude_assigned-requires-clause-assigned c =
     let graphs = c.args.grounds.now.graphs.now in
     let d = c.args.domains.now in
-    subst (AreHeld graphs) (sym c.pairs.ensures.value) (held_known graphs d.inputs d.outputs d.entries c.requires.trail.fit c.entries-lawful.ensures.lawful)
+    subst (AreAssignable graphs) (sym c.pairs.ensures.value) (assigned_known graphs d.inputs d.outputs d.entries c.requires.trail.fit c.entries-lawful.ensures.lawful)
 
 pub returns-in_err-ban-clause-refines : goal.returns-in_err-ban-clause-refines
 returns-in_err-ban-clause-refines c = refines_bans _ _ c.args.book.now c.exclude_assigned.new.book c.args.domains.now c.in_err-ban.ensures.adds

@@ -3,7 +3,7 @@ use Rattle.account_core.specs.Given.{decided_by}
 use Rattle.ban_book.specs.declared.mismatched.Unlike.{Unlike}
 use Rattle.ban_book.specs.Mismatched.{IsBanBy, mismatch_of}
 use Rattle.fact_bans.proofs.ServeLemmas.{served_one, served_then, serves_err, serves_ok}
-use Rattle.fact_bans.proofs.FactLemmas.{told_grows}
+use Rattle.fact_bans.proofs.FactLemmas.{decided_grows}
 use Rattle.ban_book.proofs.MismatchedLemmas.{mismatch_valid, unlike}
 use Rattle.fact_bans.proofs.mismatched.unlike_by.Goals as goal
 
@@ -26,6 +26,6 @@ returns-clause-shown g c = λ pairs carry.
     let mid = g.O.Oracle.known c.decide.new.asker.oracle.now in
     let new = g.O.Oracle.known c.decide-2.new.asker.oracle.now in
     let graphs = (g.O.Oracle.known c.args.asker.now.oracle.now).graphs in
-    let told = told_grows mid new claim c.in_ok-one.one.holds c.in_ok-one.one.number c.in_ok-other.ensures.serves.grows c.in_ok-one.ensures.told in
+    let decided = decided_grows mid new claim c.in_ok-one.one.holds c.in_ok-one.one.number c.in_ok-other.ensures.serves.grows c.in_ok-one.ensures.decided in
     subst (λ (unlike : Unlike). IsBanBy graphs (map decided_by new.facts) pairs (mismatch_of pairs unlike)) (sym c.unlike_of.ensures)
-    (mismatch_valid graphs (map decided_by new.facts) pairs claim image c.in_ok-one.one.holds c.in_ok-other.other.holds c.in_ok-one.one.number c.in_ok-other.other.number carry.known carry.ordered carry.image told c.in_ok-other.ensures.told (unlike c.in_ok-one.one.holds c.in_ok-other.other.holds c.if-one-other.false))
+    (mismatch_valid graphs (map decided_by new.facts) pairs claim image c.in_ok-one.one.holds c.in_ok-other.other.holds c.in_ok-one.one.number c.in_ok-other.other.number carry.known carry.ordered carry.image decided c.in_ok-other.ensures.decided (unlike c.in_ok-one.one.holds c.in_ok-other.other.holds c.if-one-other.false))

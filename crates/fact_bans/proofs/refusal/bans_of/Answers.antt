@@ -2,7 +2,7 @@ use Rattle.std.proofs.Common.{refl, subst}
 use Rattle.std.proofs.lemmas.List.{take_all}
 use Rattle.fact_bans.specs.Referred.{AreReferred}
 use Rattle.fact_bans.proofs.AskingLemmas.{same_none, same_then}
-use Rattle.fact_bans.proofs.HoldingLemmas.{held_one, held_then, holds_err, holds_ok, holds_stop, may_later}
+use Rattle.fact_bans.proofs.MakingLemmas.{made_one, made_then, makes_err, makes_ok, makes_stop, may_later}
 use Rattle.fact_bans.proofs.ReferLemmas.{found_more, found_none}
 use Rattle.fact_bans.proofs.refusal.bans_of.Goals as goal
 
@@ -11,25 +11,25 @@ loop-pair-init g c =
     (same_none, found_none c.args.graphs.now (g.O.Oracle.known c.args.asker.now.oracle.now) c.args.asker.now.ledger.now c.args.book.now c.new-refs.result c.requires.may c.new-refs.ensures)
 
 pub ban_of-requires-clause-may : goal.ban_of-requires-clause-may
-ban_of-requires-clause-may g c = may_later _ _ _ _ _ _ _ c.requires.may c.loop-pair.invariant.1.held
+ban_of-requires-clause-may g c = may_later _ _ _ _ _ _ _ c.requires.may c.loop-pair.invariant.1.made
 
 pub loop-pair-preserved : goal.loop-pair-preserved
 loop-pair-preserved g c =
-    (same_then c.loop-pair.invariant.0 c.in_ok-number.ensures.same, found_more _ _ _ _ _ _ _ _ _ _ c.args.ways.now c.loop-pair.pair-index _ c.in-Some.number _ _ c.loop-pair-test.true c.loop-pair.invariant.1 (held_one _ _ _ _ _ _ _ _ c.in_ok-number.ensures.holds) (rw c.in-Some.is at c.in_ok-number.ensures.covers) c.in_ok-push.ensures.ok)
+    (same_then c.loop-pair.invariant.0 c.in_ok-number.ensures.same, found_more _ _ _ _ _ _ _ _ _ _ c.args.ways.now c.loop-pair.pair-index _ c.in-Some.number _ _ c.loop-pair-test.true c.loop-pair.invariant.1 (made_one _ _ _ _ _ _ _ _ c.in_ok-number.ensures.makes) (rw c.in-Some.is at c.in_ok-number.ensures.covers) c.in_ok-push.ensures.ok)
 
-pub returns-in_err-number-clause-holds : goal.returns-in_err-number-clause-holds
-returns-in_err-number-clause-holds g c =
-    holds_err _ _ _ _ _ _ _ _ _ _ _ c.in_err-number.field-0.0 c.from_residual.ensures.1 c.loop-pair.invariant.1.held c.in_err-number.ensures.holds
+pub returns-in_err-number-clause-makes : goal.returns-in_err-number-clause-makes
+returns-in_err-number-clause-makes g c =
+    makes_err _ _ _ _ _ _ _ _ _ _ _ c.in_err-number.field-0.0 c.from_residual.ensures.1 c.loop-pair.invariant.1.made c.in_err-number.ensures.makes
 
-pub returns-in_default-clause-holds : goal.returns-in_default-clause-holds
-returns-in_default-clause-holds g c = holds_ok _ _ _ _ _ _ _ _ _ refl (held_then _ _ _ _ _ _ _ _ _ _ c.loop-pair.invariant.1.held (held_one _ _ _ _ _ _ _ _ c.in_ok-number.ensures.holds))
+pub returns-in_default-clause-makes : goal.returns-in_default-clause-makes
+returns-in_default-clause-makes g c = makes_ok _ _ _ _ _ _ _ _ _ refl (made_then _ _ _ _ _ _ _ _ _ _ c.loop-pair.invariant.1.made (made_one _ _ _ _ _ _ _ _ c.in_ok-number.ensures.makes))
 
-pub returns-in_err-push-clause-holds : goal.returns-in_err-push-clause-holds
-returns-in_err-push-clause-holds g c =
-    holds_stop _ _ _ _ _ _ _ _ c.from_residual-in_err-push.ensures.1 (held_then _ _ _ _ _ _ _ _ _ _ c.loop-pair.invariant.1.held (held_one _ _ _ _ _ _ _ _ c.in_ok-number.ensures.holds))
+pub returns-in_err-push-clause-makes : goal.returns-in_err-push-clause-makes
+returns-in_err-push-clause-makes g c =
+    makes_stop _ _ _ _ _ _ _ _ c.from_residual-in_err-push.ensures.1 (made_then _ _ _ _ _ _ _ _ _ _ c.loop-pair.invariant.1.made (made_one _ _ _ _ _ _ _ _ c.in_ok-number.ensures.makes))
 
-pub returns-clause-holds : goal.returns-clause-holds
-returns-clause-holds g c = holds_ok _ _ _ _ _ _ _ _ _ refl c.loop-pair.invariant.1.held
+pub returns-clause-makes : goal.returns-clause-makes
+returns-clause-makes g c = makes_ok _ _ _ _ _ _ _ _ _ refl c.loop-pair.invariant.1.made
 
 pub returns-clause-referred : goal.returns-clause-referred
 returns-clause-referred g c =

@@ -23,15 +23,15 @@ decide_both-requires-clause-suits g c = c.loop-input.invariant.1.served.suits
 
 pub loop-input-preserved : goal.loop-input-preserved
 loop-input-preserved g c =
-    (same_then c.loop-input.invariant.0 c.in_ok-told.ensures.same, telling_more _ _ _ _ _ _ _ _ _ _ _ _ c.loop-input.invariant.1 (served_one _ _ _ _ _ c.in_ok-told.ensures.serves) c.in_ok-told.ensures.told c.in_ok-push.ensures.ok)
+    (same_then c.loop-input.invariant.0 c.in_ok-claims.ensures.same, telling_more _ _ _ _ _ _ _ _ _ _ _ _ c.loop-input.invariant.1 (served_one _ _ _ _ _ c.in_ok-claims.ensures.serves) c.in_ok-claims.ensures.decided c.in_ok-push.ensures.ok)
 
-pub returns-in_err-told-clause-serves : goal.returns-in_err-told-clause-serves
-returns-in_err-told-clause-serves g c =
-    serves_err _ _ _ _ _ _ _ c.in_err-told.field-0.0 c.from_residual.ensures.1 c.loop-input.invariant.1.served c.in_err-told.ensures.serves
+pub returns-in_err-claims-clause-serves : goal.returns-in_err-claims-clause-serves
+returns-in_err-claims-clause-serves g c =
+    serves_err _ _ _ _ _ _ _ c.in_err-claims.field-0.0 c.from_residual.ensures.1 c.loop-input.invariant.1.served c.in_err-claims.ensures.serves
 
 pub returns-in_err-push-clause-serves : goal.returns-in_err-push-clause-serves
 returns-in_err-push-clause-serves g c =
-    serves_memory _ _ _ _ _ c.from_residual-in_err-push.ensures.1 (served_then _ _ _ _ _ _ c.loop-input.invariant.1.served (served_one _ _ _ _ _ c.in_ok-told.ensures.serves))
+    serves_memory _ _ _ _ _ c.from_residual-in_err-push.ensures.1 (served_then _ _ _ _ _ _ c.loop-input.invariant.1.served (served_one _ _ _ _ _ c.in_ok-claims.ensures.serves))
 
 pub returns-clause-serves : goal.returns-clause-serves
 returns-clause-serves g c = serves_ok _ _ _ _ _ _ refl c.loop-input.invariant.1.served

@@ -12,4 +12,4 @@ mismatch-requires g c =
     record { may = c.requires.may; input = both.0; output = both.1 }
 
 pub returns : goal.returns
-returns g c = goes_by c.mismatch.ensures.same c.mismatch.ensures.holds refl
+returns g c = goes_by c.mismatch.ensures.same c.mismatch.ensures.makes refl

@@ -3,8 +3,8 @@ use Rattle.circuits.specs.declared.port.Pair.{Pair}
 use Rattle.circuits.specs.Netlists.{Net}
 use Rattle.claim_core.specs.Images.{Extends}
 use Rattle.sim_patterns.specs.Trials.{AreTrials}
-use Rattle.account_core.specs.Held.{AreHeld, IsWhole}
-use Rattle.pair_search.proofs.PivotLemmas.{held_known}
+use Rattle.account_core.specs.Assigned.{AreAssignable, IsWhole}
+use Rattle.pair_search.proofs.PivotLemmas.{assigned_known}
 use Rattle.match_search.proofs.CompareLemmas.{shown_match}
 use Rattle.match_search.proofs.SearchLemmas.{may_ask}
 use Rattle.match_search.proofs.StepLemmas.{goes_asked, may_go_on, same_asker, steps_cut, steps_fail, steps_ok, steps_stop, steps_unkept, way_bans, way_start}
@@ -15,7 +15,7 @@ pub matching_of-requires : goal.matching_of-requires
 matching_of-requires g c =
     let d = c.args.domains.now in
     record {
-      held = subst (AreHeld c.args.graphs.now) (sym c.pairs.ensures.value) (held_known c.args.graphs.now d.inputs d.outputs d.entries c.requires.may.trail.trail.fit c.entries-lawful.ensures.lawful);
+      assigned = subst (AreAssignable c.args.graphs.now) (sym c.pairs.ensures.value) (assigned_known c.args.graphs.now d.inputs d.outputs d.entries c.requires.may.trail.trail.fit c.entries-lawful.ensures.lawful);
       whole = subst (IsWhole c.args.graphs.now) (sym c.pairs.ensures.value) c.requires.whole;
     }
 
@@ -46,12 +46,12 @@ exclude-requires-clause-may g c =
 
 pub returns-in_err-ban-in-Some-clause-steps : goal.returns-in_err-ban-in-Some-clause-steps
 returns-in_err-ban-in-Some-clause-steps g c =
-    steps_cut c.from_residual-in_err-ban-in-Some.ensures.1 (way_bans (way_start c.requires.may) (goes_asked c.requires.may.may c.in_ok-compare_all.ensures.serves)) (same_asker c.in_err-ban-in-Some.ensures.same) c.in_err-ban-in-Some.ensures.holds
+    steps_cut c.from_residual-in_err-ban-in-Some.ensures.1 (way_bans (way_start c.requires.may) (goes_asked c.requires.may.may c.in_ok-compare_all.ensures.serves)) (same_asker c.in_err-ban-in-Some.ensures.same) c.in_err-ban-in-Some.ensures.makes
 
 pub returns-in_ok-ban-in-Some : goal.returns-in_ok-ban-in-Some
 returns-in_ok-ban-in-Some g c = record {
-  steps = steps_ok (way_tried (way_bans (way_start c.requires.may) (goes_asked c.requires.may.may c.in_ok-compare_all.ensures.serves)) c.in_ok-ban-in-Some.ensures.same c.in_ok-ban-in-Some.ensures.holds (subst (λ (net : Net). AreTrials net c.keep.new.self) c.first.ensures.value c.in_ok-keep-in-Some.ensures.trials));
+  steps = steps_ok (way_tried (way_bans (way_start c.requires.may) (goes_asked c.requires.may.may c.in_ok-compare_all.ensures.serves)) c.in_ok-ban-in-Some.ensures.same c.in_ok-ban-in-Some.ensures.makes (subst (λ (net : Net). AreTrials net c.keep.new.self) c.first.ensures.value c.in_ok-keep-in-Some.ensures.trials));
   compared =
       c.in_ok-ban-in-Some.ensures.covers _ c.requires.whole
-      (subst (λ (held : List Pair). Extends held c.in_ok-matching.matching.inputs c.in_ok-matching.matching.outputs) c.pairs.ensures.value c.in_ok-matching.ensures.extends);
+      (subst (λ (assigned : List Pair). Extends assigned c.in_ok-matching.matching.inputs c.in_ok-matching.matching.outputs) c.pairs.ensures.value c.in_ok-matching.ensures.extends);
 }

@@ -13,7 +13,7 @@ returns-then-more-clause-steps g c = steps_ok (way_one c.in_ok-more.ensures.step
 pub delete_beside-requires : goal.delete_beside-requires
 delete_beside-requires g c = record {
   may = may_go_on c.requires.may.may (way_one c.in_ok-more.ensures.steps);
-  held = rw c.in-Some.is at c.next_assigned.ensures;
+  assigned = rw c.in-Some.is at c.next_assigned.ensures;
 }
 
 pub returns-in_err-delete_beside-clause-steps : goal.returns-in_err-delete_beside-clause-steps

@@ -5,13 +5,13 @@ use Rattle.match_search.proofs.unlike.delete_unlike.Goals as goal
 pub loop-way-init : goal.loop-way-init
 loop-way-init g c = record {
   way = way_start c.requires.may;
-  deletes = record { held = c.requires.held; less = omega arith };
+  deletes = record { assigned = c.requires.assigned; less = omega arith };
 }
 
 pub delete_way-requires : goal.delete_way-requires
 delete_way-requires g c = record {
   may = may_go_on c.requires.may.may c.loop-way.invariant.way;
-  held = c.loop-way.invariant.deletes.held;
+  assigned = c.loop-way.invariant.deletes.assigned;
 }
 
 pub returns-in_err-delete_way-clause-steps : goal.returns-in_err-delete_way-clause-steps
@@ -21,7 +21,7 @@ pub loop-way-preserved : goal.loop-way-preserved
 loop-way-preserved g c = record {
   way = way_more c.loop-way.invariant.way c.in_ok-delete_way.ensures.steps;
   deletes = record {
-    held = c.in_ok-delete_way.ensures.deletes.held;
+    assigned = c.in_ok-delete_way.ensures.deletes.assigned;
     less = omega (arith, c.loop-way.invariant.deletes.less, c.in_ok-delete_way.ensures.deletes.less);
   };
 }

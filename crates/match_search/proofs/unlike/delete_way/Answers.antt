@@ -1,8 +1,8 @@
 use Rattle.std.proofs.Common.{arith}
 use Rattle.std.proofs.lemmas.List.Elements.{All-contains}
 use Rattle.account_core.specs.Ports.{IsKnown}
-use Rattle.pair_domains.specs.Trails.{held_in}
-use Rattle.pair_search.proofs.PivotLemmas.{held_known}
+use Rattle.pair_domains.specs.Trails.{assigned_in}
+use Rattle.pair_search.proofs.PivotLemmas.{assigned_known}
 use Rattle.match_search.proofs.AskLemmas.{deletes_one, known_of, shown_one}
 use Rattle.match_search.proofs.StepLemmas.{steps_fail, steps_ok, steps_stop, way_bans, way_start}
 use Rattle.match_search.proofs.unlike.delete_way.Goals as goal
@@ -10,7 +10,7 @@ use Rattle.match_search.proofs.unlike.delete_way.Goals as goal
 pub returns-then-not-is_open : goal.returns-then-not-is_open
 returns-then-not-is_open g c = record {
   steps = steps_ok (way_start c.requires.may);
-  deletes = record { held = c.requires.held; less = omega arith };
+  deletes = record { assigned = c.requires.assigned; less = omega arith };
 }
 
 pub unlike_beside-requires : goal.unlike_beside-requires
@@ -18,7 +18,7 @@ unlike_beside-requires g c =
     let d = c.args.domains.now in
     record {
       may = c.requires.may.may;
-      known = All-contains (IsKnown c.args.graphs.now) (held_in d.entries) c.args.pair (held_known c.args.graphs.now d.inputs d.outputs d.entries c.requires.may.trail.trail.fit c.entries-lawful.ensures.lawful).known c.requires.held;
+      known = All-contains (IsKnown c.args.graphs.now) (assigned_in d.entries) c.args.pair (assigned_known c.args.graphs.now d.inputs d.outputs d.entries c.requires.may.trail.trail.fit c.entries-lawful.ensures.lawful).known c.requires.assigned;
       way = known_of c.args.graphs.now d.inputs d.outputs c.args.way c.requires.may.trail.trail.fit (c.is_open.ensures.known c.if-not-is_open.false);
     }
 
@@ -28,7 +28,7 @@ returns-in_err-unlike-clause-steps g c = steps_fail c.from_residual.ensures.1 (w
 pub returns-in_default : goal.returns-in_default
 returns-in_default g c = record {
   steps = steps_ok (way_bans (way_start c.requires.may) c.in_ok-unlike.ensures.goes_on);
-  deletes = record { held = c.requires.held; less = omega arith };
+  deletes = record { assigned = c.requires.assigned; less = omega arith };
 }
 
 pub returns-in_err-delete-clause-steps : goal.returns-in_err-delete-clause-steps
@@ -42,9 +42,9 @@ returns g c =
     record {
       steps = steps_ok (record {
         same = way.same;
-        held = way.held;
-        trail = shown_one _ _ _ _ _ _ _ _ _ c.in_ok-delete.ensures.deleted way.trail c.requires.held shown;
+        assigned = way.assigned;
+        trail = shown_one _ _ _ _ _ _ _ _ _ c.in_ok-delete.ensures.deleted way.trail c.requires.assigned shown;
         trials = way.trials;
       });
-      deletes = deletes_one _ _ _ _ _ _ c.in_ok-delete.ensures.deleted c.requires.held c.entries-lawful.ensures.lawful (c.is_open.ensures.known c.if-not-is_open.false) (c.is_open.ensures.is c.if-not-is_open.false);
+      deletes = deletes_one _ _ _ _ _ _ c.in_ok-delete.ensures.deleted c.requires.assigned c.entries-lawful.ensures.lawful (c.is_open.ensures.known c.if-not-is_open.false) (c.is_open.ensures.is c.if-not-is_open.false);
     }

@@ -12,4 +12,4 @@ pub returns : goal.returns
 returns c =
     let d = c.args.domains.now in
     let e : Entry = record { pair = c.args.way; fate = Deleted (reason.Clash c.args.pair) } in
-    propagates_one c.args.bans.now d c.delete.new.self e (one_more_of d c.delete.new.self e c.in_ok-delete.ensures.deleted) c.entries-lawful.ensures.lawful c.requires.known c.in_default.ensures.none refl c.requires.justified (c.requires.held, clash_of d.entries c.args.pair c.args.way c.requires.held c.in_default.ensures.none c.requires.kind c.requires.share) (λ graphs facts. tt)
+    propagates_one c.args.bans.now d c.delete.new.self e (one_more_of d c.delete.new.self e c.in_ok-delete.ensures.deleted) c.entries-lawful.ensures.lawful c.requires.known c.in_default.ensures.none refl c.requires.justified (c.requires.assigned, clash_of d.entries c.args.pair c.args.way c.requires.assigned c.in_default.ensures.none c.requires.kind c.requires.share) (λ graphs facts. tt)

@@ -1,6 +1,6 @@
 use Rattle.std.proofs.Common.{◌∙◌, sym, arith}
 use Rattle.pair_domains.proofs.TableLemmas.{in_range}
-use Rattle.pair_search.proofs.StepLemmas.{ports_after, propagates_none, propagates_two, share_of, stays_held}
+use Rattle.pair_search.proofs.StepLemmas.{ports_after, propagates_none, propagates_two, share_of, stays_assigned}
 use Rattle.pair_search.proofs.clashes.delete_ways.Goals as goal
 
 pub loop-number-init : goal.loop-number-init
@@ -18,8 +18,8 @@ way_of-way-requires-clause-below c =
 pub delete_way-requires-clause-justified : goal.delete_way-requires-clause-justified
 delete_way-requires-clause-justified c = c.loop-number.invariant.justified
 
-pub delete_way-requires-clause-held : goal.delete_way-requires-clause-held
-delete_way-requires-clause-held c = stays_held c.args.bans.now c.args.domains.now c.loop-number.domains c.args.pair c.loop-number.invariant c.requires.held
+pub delete_way-requires-clause-assigned : goal.delete_way-requires-clause-assigned
+delete_way-requires-clause-assigned c = stays_assigned c.args.bans.now c.args.domains.now c.loop-number.domains c.args.pair c.loop-number.invariant c.requires.assigned
 
 pub delete_way-requires-clause-kind : goal.delete_way-requires-clause-kind
 delete_way-requires-clause-kind c = sym c.way_of-way.ensures.kind

@@ -1,4 +1,4 @@
--- Held pairs are added one after the other.
+-- Assigned pairs are added one after the other.
 use Rattle.std.proofs.Common.{All, Contains, subst}
 use Rattle.std.proofs.lemmas.List.{take_all}
 use Rattle.std.proofs.lemmas.List.Elements.{All-nil}
@@ -10,7 +10,7 @@ loop-pair-init c = record { part = c.requires.part; among = All-nil (Contains c.
 
 pub loop-pair-preserved : goal.loop-pair-preserved
 loop-pair-preserved c =
-    adding_more c.args.held.now c.loop-pair.needed.items c.add_one.new.needed.items c.args.pairs.now c.loop-pair.pair-index _ c.loop-pair-test.true c.loop-pair.invariant c.in_ok-add_one.ensures.adds.part c.in_ok-add_one.ensures.adds.stays c.in_ok-add_one.ensures.added
+    adding_more c.args.assigned.now c.loop-pair.needed.items c.add_assigned.new.needed.items c.args.pairs.now c.loop-pair.pair-index _ c.loop-pair-test.true c.loop-pair.invariant c.in_ok-add_assigned.ensures.adds.part c.in_ok-add_assigned.ensures.adds.stays c.in_ok-add_assigned.ensures.added
 
 pub returns-clause-among : goal.returns-clause-among
 returns-clause-among c =

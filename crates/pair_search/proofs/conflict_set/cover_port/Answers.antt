@@ -1,7 +1,7 @@
 use Rattle.std.proofs.Common.{sym, ap, subst, ◌∙◌}
 use Rattle.ban_book.specs.declared.block.Block.{Block}
 use Rattle.ban_book.specs.Ways.{block_of, ways_in, IsBlock}
-use Rattle.ban_book.proofs.HoldLemmas.{port_is_block}
+use Rattle.ban_book.proofs.KeepLemmas.{port_is_block}
 use Rattle.ban_book.proofs.ClosedLemmas.{all_of_port}
 use Rattle.pair_domains.specs.Trails.{ports_of}
 use Rattle.pair_search.specs.Named.{AreAllNamed, IsLeftOutOr, IsNamedIn}
@@ -20,4 +20,4 @@ cover_block-requires-clause-named c =
     let d = c.args.view.now.domains.now in
     let port = c.args.port in
     let is = c.in_ok-block.ensures ∙ ap (block_of port.side port.kind port.number) c.ports-count.ensures in
-    subst (λ (b : Block). AreAllNamed c.args.book.now d.entries (ways_in b) (left_out c.args.resolved) c.args.view.now.held.now) (sym is) (all_of_port port.side port.kind port.number (ports_of d.inputs d.outputs port.kind) (λ way. IsLeftOutOr (left_out c.args.resolved) way (IsNamedIn c.args.book.now d.entries c.args.view.now.held.now way)) c.requires.named)
+    subst (λ (b : Block). AreAllNamed c.args.book.now d.entries (ways_in b) (left_out c.args.resolved) c.args.view.now.assigned.now) (sym is) (all_of_port port.side port.kind port.number (ports_of d.inputs d.outputs port.kind) (λ way. IsLeftOutOr (left_out c.args.resolved) way (IsNamedIn c.args.book.now d.entries c.args.view.now.assigned.now way)) c.requires.named)

@@ -1,7 +1,7 @@
 use Rattle.std.proofs.Common.{subst, ◌∙◌, take}
 use Rattle.std.proofs.lemmas.List.{get_or_default}
 use Rattle.pair_domains.specs.declared.entry.Entry.{Entry}
-use Rattle.pair_domains.specs.Trails.{held_in}
+use Rattle.pair_domains.specs.Trails.{assigned_in}
 use Rattle.pair_search.specs.Justified.{IsJustified}
 use Rattle.pair_search.specs.Named.{AreNamed, deleted}
 use Rattle.pair_search.proofs.deletion.deletion_of.Goals as goal
@@ -12,7 +12,7 @@ returns-clause-found c =
     let es = d.entries in
     let gone = deleted c.args.pair c.in-Some.reason in
     let there = c.in-Some.ensures.found in
-    let before = held_in (take there.0 es) in
+    let before = assigned_in (take there.0 es) in
     let named : AreNamed c.args.book.now before c.args.pair c.in-Some.reason = subst (λ (e : Entry). IsJustified d.inputs d.outputs c.args.book.now (take there.0 es) e.pair e.fate) there.2 (c.requires.trail.justified.each there.0 gone there.1) in
     record {
       place = there.0;

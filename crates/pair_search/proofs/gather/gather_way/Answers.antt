@@ -18,5 +18,5 @@ returns-in-Some-clause-adds c = record { part = c.requires.part; stays = All-con
 pub add_named-requires-clause-named : goal.add_named-requires-clause-named
 add_named-requires-clause-named c =
     let es = c.args.view.now.domains.now.entries in
-    let named = not_left_out c.args.skipped c.args.way (IsNamedIn c.args.bans.now es c.args.view.now.held.now c.args.way) (λ same. false≢true (sym c.if-is_left_out.false ∙ c.is_left_out.ensures.1 same)) c.requires.named in
-    one_reason c.args.bans.now es c.args.view.now.held.now c.args.way c.in-Some-reason.reason c.entries-lawful.ensures.lawful.distinct c.in-Some-reason.ensures.found named
+    let named = not_left_out c.args.skipped c.args.way (IsNamedIn c.args.bans.now es c.args.view.now.assigned.now c.args.way) (λ same. false≢true (sym c.if-is_left_out.false ∙ c.is_left_out.ensures.1 same)) c.requires.named in
+    one_reason c.args.bans.now es c.args.view.now.assigned.now c.args.way c.in-Some-reason.reason c.entries-lawful.ensures.lawful.distinct c.in-Some-reason.ensures.found named

@@ -1,15 +1,15 @@
 use Rattle.std.proofs.Common.{rules}
-use Rattle.pair_search.proofs.StepLemmas.{known_after, propagates_two, stays_held}
+use Rattle.pair_search.proofs.StepLemmas.{known_after, propagates_two, stays_assigned}
 use Rattle.pair_search.proofs.propagation.follow_assigned.Goals as goal
 
 pub delete_ways-requires-2-clause-justified : goal.delete_ways-requires-2-clause-justified
 delete_ways-requires-2-clause-justified c = c.in_ok-delete_ways.ensures.justified
 
 pub delete_ways-requires-2-clause-known : goal.delete_ways-requires-2-clause-known
-delete_ways-requires-2-clause-known c = known_after c.args.bans.now c.args.domains.now c.delete_ways.new.domains c.args.pair c.in_ok-delete_ways.ensures (c.is_held.ensures.known c.if-not-is_held.false)
+delete_ways-requires-2-clause-known c = known_after c.args.bans.now c.args.domains.now c.delete_ways.new.domains c.args.pair c.in_ok-delete_ways.ensures (c.is_assigned.ensures.known c.if-not-is_assigned.false)
 
-pub delete_ways-requires-2-clause-held : goal.delete_ways-requires-2-clause-held
-delete_ways-requires-2-clause-held c = stays_held c.args.bans.now c.args.domains.now c.delete_ways.new.domains c.args.pair c.in_ok-delete_ways.ensures (c.is_held.ensures.held c.if-not-is_held.false)
+pub delete_ways-requires-2-clause-assigned : goal.delete_ways-requires-2-clause-assigned
+delete_ways-requires-2-clause-assigned c = stays_assigned c.args.bans.now c.args.domains.now c.delete_ways.new.domains c.args.pair c.in_ok-delete_ways.ensures (c.is_assigned.ensures.assigned c.if-not-is_assigned.false)
 
 pub returns : goal.returns
 returns c =

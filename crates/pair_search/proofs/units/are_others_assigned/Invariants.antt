@@ -1,6 +1,6 @@
 use Rattle.std.proofs.Common.{◌∷◌, take, All, Contains}
-use Rattle.pair_domains.specs.Trails.{held_in}
+use Rattle.pair_domains.specs.Trails.{assigned_in}
 use Rattle.pair_search.proofs.units.are_others_assigned.Given as goal
 
 abbrev pub invariant-loop-pair : goal.invariant-loop-pair
-invariant-loop-pair l = All (Contains (l.way ∷ held_in l.domains.entries)) (take l.pair-index l.pairs)
+invariant-loop-pair l = All (Contains (l.way ∷ assigned_in l.domains.entries)) (take l.pair-index l.pairs)

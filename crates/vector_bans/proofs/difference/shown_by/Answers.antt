@@ -4,7 +4,7 @@ use Rattle.circuits.specs.declared.port.PortKind.TheVariants.{Input, Output}
 use Rattle.account_core.specs.Ports.{IsKnown}
 use Rattle.ban_book.proofs.BlockListLemmas.{among_more}
 use Rattle.vector_bans.specs.Differences.{pair_from, pairs_from}
-use Rattle.vector_bans.proofs.DifferLemmas.{pair_known, shown_whole, shown_as, among_held}
+use Rattle.vector_bans.proofs.DifferLemmas.{pair_known, shown_whole, shown_as, among_assigned}
 use Rattle.vector_bans.proofs.ShownLemmas.{shown_made}
 use Rattle.word_sim.specs.ThreeValues.{of_bit}
 use Rattle.vector_bans.proofs.difference.shown_by.Goals as goal
@@ -21,7 +21,7 @@ pub returns-clause-shown : goal.returns-clause-shown
 returns-clause-shown c =
     shown_made c.args.graphs.now c.in_ok-whole.whole.items c.in_ok-pairs.pairs.items c.from_vec-pairs.result c.pair_from-pair.result c.deref-3.result.now c.in_ok-values.values c.from_vec-pairs.ensures c.deref-3.ensures.value c.in_ok-pairs.ensures
 
-pub returns-clause-held : goal.returns-clause-held
-returns-clause-held c = λ held all extends.
+pub returns-clause-assigned : goal.returns-clause-assigned
+returns-clause-assigned c = λ assigned all extends.
     let whole_is = c.in_ok-whole.ensures ∙ ap (λ p. pairs_from Input c.args.matching.now.inputs ++ p ∷ []) (c.pair_from-pair.ensures ∙ ap (λ e. pair_from Output e c.args.difference.now.output) c.deref.ensures.value) in
-    subst (All (Contains held)) (sym c.from_vec-pairs.ensures) (among_more c.in_ok-pairs.pairs.items c.in_ok-whole.whole.items held c.in_ok-pairs.ensures.among (subst (All (Contains held)) (sym whole_is) (among_held c.args.graphs.now c.args.matching.now c.args.difference.now.output c.requires.ports c.requires.differs.output held all extends)))
+    subst (All (Contains assigned)) (sym c.from_vec-pairs.ensures) (among_more c.in_ok-pairs.pairs.items c.in_ok-whole.whole.items assigned c.in_ok-pairs.ensures.among (subst (All (Contains assigned)) (sym whole_is) (among_assigned c.args.graphs.now c.args.matching.now c.args.difference.now.output c.requires.ports c.requires.differs.output assigned all extends)))

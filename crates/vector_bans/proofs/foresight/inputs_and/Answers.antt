@@ -1,21 +1,21 @@
 use Rattle.std.proofs.Common.{sym, subst}
 use Rattle.std.proofs.lemmas.List.Elements.{Contains-get_or}
-use Rattle.account_core.specs.Held.{IsPart}
+use Rattle.account_core.specs.Assigned.{IsPart}
 use Rattle.ban_book.specs.Rows.{HasOneOutput}
-use Rattle.vector_bans.specs.Differences.{AreHeldInputs}
+use Rattle.vector_bans.specs.Differences.{AreAssignedInputs}
 use Rattle.vector_bans.proofs.ForesightLemmas.{inputs_none, output_one, output_part}
 use Rattle.vector_bans.proofs.foresight.inputs_and.Goals as goal
 
 pub loop-other-init : goal.loop-other-init
-loop-other-init c = subst (AreHeldInputs c.args.held.now) (sym c.new-pairs.ensures.items) (inputs_none c.args.held.now)
+loop-other-init c = subst (AreAssignedInputs c.args.assigned.now) (sym c.new-pairs.ensures.items) (inputs_none c.args.assigned.now)
 
 pub returns-clause-part : goal.returns-clause-part
 returns-clause-part c =
-    subst (IsPart c.args.held.now) (sym c.in_ok-push.ensures.items) (output_part c.args.held.now c.loop-other.pairs.items c.args.pair c.loop-other.invariant c.requires.held c.requires.output)
+    subst (IsPart c.args.assigned.now) (sym c.in_ok-push.ensures.items) (output_part c.args.assigned.now c.loop-other.pairs.items c.args.pair c.loop-other.invariant c.requires.assigned c.requires.output)
 
 pub returns-clause-output : goal.returns-clause-output
 returns-clause-output c =
-    subst (λ l. HasOneOutput l c.args.pair) (sym c.in_ok-push.ensures.items) (output_one c.args.held.now c.loop-other.pairs.items c.args.pair c.loop-other.invariant c.requires.held c.requires.output)
+    subst (λ l. HasOneOutput l c.args.pair) (sym c.in_ok-push.ensures.items) (output_one c.args.assigned.now c.loop-other.pairs.items c.args.pair c.loop-other.invariant c.requires.assigned c.requires.output)
 
 pub add_input-requires-clause-part : goal.add_input-requires-clause-part
 add_input-requires-clause-part c = c.loop-other.invariant.part
@@ -23,8 +23,8 @@ add_input-requires-clause-part c = c.loop-other.invariant.part
 pub add_input-requires-clause-inputs : goal.add_input-requires-clause-inputs
 add_input-requires-clause-inputs c = c.loop-other.invariant.inputs
 
-pub add_input-requires-clause-held : goal.add_input-requires-clause-held
-add_input-requires-clause-held c = Contains-get_or c.args.held.now c.loop-other.other-index _ c.loop-other-test.true
+pub add_input-requires-clause-assigned : goal.add_input-requires-clause-assigned
+add_input-requires-clause-assigned c = Contains-get_or c.args.assigned.now c.loop-other.other-index _ c.loop-other-test.true
 
 pub loop-other-preserved : goal.loop-other-preserved
 loop-other-preserved c = record { part = c.in_ok-add_input.ensures.adds.part; inputs = c.in_ok-add_input.ensures.inputs }

@@ -1,5 +1,5 @@
-use Rattle.vector_bans.specs.Differences.{AreHeldInputs}
+use Rattle.vector_bans.specs.Differences.{AreAssignedInputs}
 use Rattle.vector_bans.proofs.foresight.inputs_and.Given as goal
 
 abbrev pub invariant-loop-other : goal.invariant-loop-other
-invariant-loop-other l = AreHeldInputs l.held l.pairs.items
+invariant-loop-other l = AreAssignedInputs l.assigned l.pairs.items

@@ -44,7 +44,7 @@ invariant_of-self-2 c =
     let size = ap length c.count_at_ports.ensures ∙ changed_size 0 more n m e.pair c.deref_mut.result.now in
     let back = given_back old.gone.len old.gone.items c.deref_mut.result.now counts c.deref_mut.ensures.value size (omega (arith, old.gone.ok.0)) in
     let last : place ≡ length old.entries.items = omega (arith, c.len-place.ensures, old.entries.ok.0) in
-    let kept = kept_deleted n m old.entries.items e old.pairs.items old.places.items old.holders.items old.gone.items place c.self.invariant refl known free last in
-    subst (λ (gs : List ℕ). IsKept n m c.push.new.self.items old.pairs.items (slice_set old.places.items c.pair_number.result (Some place)) old.holders.items gs) (sym (back ∙ written))
-    (subst (λ k. IsKept n m c.push.new.self.items old.pairs.items (slice_set old.places.items k (Some place)) old.holders.items (at_ports 0 more n m e.pair old.gone.items)) (sym c.pair_number.ensures.value)
-    (subst (λ (es : List Entry). IsKept n m es old.pairs.items (slice_set old.places.items (pair_number n m e.pair) (Some place)) old.holders.items (at_ports 0 more n m e.pair old.gone.items)) (sym c.in_ok-push.ensures.items) kept))
+    let kept = kept_deleted n m old.entries.items e old.pairs.items old.places.items old.pairs_at.items old.gone.items place c.self.invariant refl known free last in
+    subst (λ (gs : List ℕ). IsKept n m c.push.new.self.items old.pairs.items (slice_set old.places.items c.pair_number.result (Some place)) old.pairs_at.items gs) (sym (back ∙ written))
+    (subst (λ k. IsKept n m c.push.new.self.items old.pairs.items (slice_set old.places.items k (Some place)) old.pairs_at.items (at_ports 0 more n m e.pair old.gone.items)) (sym c.pair_number.ensures.value)
+    (subst (λ (es : List Entry). IsKept n m es old.pairs.items (slice_set old.places.items (pair_number n m e.pair) (Some place)) old.pairs_at.items (at_ports 0 more n m e.pair old.gone.items)) (sym c.in_ok-push.ensures.items) kept))

@@ -1,0 +1,12 @@
+use Rattle.std.proofs.Common.{All, Contains, subst}
+use Rattle.std.proofs.lemmas.List.{take_all}
+use Rattle.std.proofs.lemmas.List.Elements.{All-more}
+use Rattle.pair_domains.specs.Trails.{assigned_in}
+use Rattle.pair_search.proofs.units.unassigned.Goals as goal
+
+pub loop-pair-preserved : goal.loop-pair-preserved
+loop-pair-preserved c =
+    All-more (Contains (assigned_in c.args.domains.now.entries)) c.args.pairs.now c.loop-pair.pair-index _ c.loop-pair-test.true c.loop-pair.invariant (c.is_assigned.ensures.assigned c.if-not-is_assigned.false)
+
+pub returns : goal.returns
+returns c = subst (All (Contains (assigned_in c.args.domains.now.entries))) (take_all c.loop-pair.pair-index c.args.pairs.now c.loop-pair-test.false) c.loop-pair.invariant

@@ -1,6 +1,0 @@
-use Rattle.std.proofs.Common.{take, All, Contains}
-use Rattle.pair_domains.specs.Trails.{held_in}
-use Rattle.pair_search.proofs.units.unheld.Given as goal
-
-abbrev pub invariant-loop-pair : goal.invariant-loop-pair
-invariant-loop-pair l = All (Contains (held_in l.domains.entries)) (take l.pair-index l.pairs)
