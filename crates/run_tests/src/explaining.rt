@@ -29,13 +29,13 @@ fn told_over<S: Shelf>(
     requires { (S.state shelf.old).mode ≡ Closed }
 {
     let words = words_of(alloc, words)?;
-    let told = EndedRun {
+    let ended = EndedRun {
         words: words.as_slice(),
         outcome,
         fault,
         readable: true,
     };
-    Ok(explain(alloc, &told, shelf))
+    Ok(explain(alloc, &ended, shelf))
 }
 
 /// How a run on these files ends.
