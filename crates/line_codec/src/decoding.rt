@@ -1,5 +1,5 @@
-//! Lines of a log, read from their bytes. What was written reads back. Bytes that are missing read as 0, and a number
-//! that has more than 64 bits as the greatest of those.
+//! Lines of a log, read from their bytes. What was written reads back. Bytes that are missing read as 0, a number that
+//! has more than 64 bits as the greatest of those, and a delta that leads below 0 as 0.
 
 ghost use Rattle.std.specs.Prelude.{◌≡◌, ◌+◌, ◌<◌, ◌≤◌, ◌∷◌, [], ⊤, All, IfNone, IfOk, IfSome, drop, length, nat_le};
 ghost use Rattle.std.specs.Prelude.{if◌then◌else◌, ◌-◌};
