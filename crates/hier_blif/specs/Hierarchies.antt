@@ -1,5 +1,5 @@
--- Files of models: the circuit that a file is, or its first fault (Berkeley Logic Interchange Format, 1992; the order of
--- faults and the limits are this project's).
+-- Files of models: the circuit that a file is, or its first fault (Berkeley Logic Interchange Format, 1992; the order
+-- of faults and the limits are this project's).
 use Rattle.std.specs.Prelude.{◌≡◌, ℕ, ◌<◌, ◌≤◌, ◌⊎◌, Bool, true, List, [], length, map, All, Some, slice_index_or}
 use Rattle.text_core.specs.Piece.{Piece}
 use Rattle.circuits.specs.Netlists.{Net, function_of}
