@@ -1,5 +1,5 @@
--- The parts of an account in bytes (this project's binary format). Numbers are in network byte order: ports in four bytes,
--- all others in eight. A list is its length and then its values.
+-- The parts of an account in bytes (this project's binary format). Numbers are in network byte order: ports in four
+-- bytes, all others in eight. A list is its length and then its values.
 use Rattle.std.specs.Prelude.{ℕ, ◌<◌, ◌^◌, Bool, List, [], ◌∷◌, ◌++◌, Option, None, Some, if◌then◌else◌}
 use Rattle.circuits.specs.declared.port.Pair.{Pair}
 use Rattle.circuits.specs.declared.port.PortKind.{PortKind}

@@ -1,5 +1,5 @@
--- What stands in an account after its header, in bytes (this project's binary format): entries, each a tag, how many bytes
--- its body has, and the body.
+-- What stands in an account after its header, in bytes (this project's binary format): entries, each a tag, how many
+-- bytes its body has, and the body.
 use Rattle.std.specs.Prelude.{◌≡◌, ℕ, ◌<◌, ◌^◌, List, [], ◌∷◌, ◌++◌, length, Result, Ok, Err}
 use Rattle.account_core.specs.declared.conclusion.Conclusion.TheVariants.{NonePorts, NoneBan, Match}
 use Rattle.account_core.specs.declared.fact.FactHead.TheVariants.{Fails, Holds}

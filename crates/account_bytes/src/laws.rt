@@ -10,7 +10,8 @@ pub fn one_entry()
     ensures { IsPrefixCode entry_bytes EntryFits }
 {}
 
-/// Bytes that begin with an entry, bytes of another form and bytes that end too early are three different things.
+/// Bytes that begin with an entry, bytes that begin with a whole frame that is no entry's, and bytes that end before a
+/// frame does are three different things.
 pub fn one_answer()
     ensures entry_is_whole { (text left : List ℕ) (entry : AnyEntry) → BeginsWith entry_bytes EntryFits text entry left
         → BeginsNone frame_bytes FrameFits text

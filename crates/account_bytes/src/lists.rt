@@ -13,7 +13,7 @@ use byte_form::{ByteReader, put_u64};
 use items::Items;
 use std::alloc::{AllocError, Global};
 
-/// Writes how many values a list has, and these.
+/// Writes how many values a list has, and then its values.
 pub(crate) fn put_list<T: ByteForm>(list: &[T], out: &mut Vec<u8>) -> Result<(), AllocError>
     ensures fits { OnOk result (ListFits T.fits list.now) }
     ensures bytes { OnOk result (out.new.items ≡ out.old.items ++ list_bytes T.bytes list.now) }
@@ -33,7 +33,7 @@ fn put_count<T>(list: &[T], out: &mut Vec<u8>) -> Result<(), AllocError>
     put_u64(list.len() as u64, out)
 }
 
-// Takes as many values.
+// Takes `count` values.
 fn read_items<T: ByteForm + Drop>(
     alloc: Global,
     count: u64,

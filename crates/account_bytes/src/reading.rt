@@ -20,9 +20,9 @@ use std::alloc::Global;
 /// Why no entry is read.
 #[derive(Clone, Copy, Debug, Drop, PartialEq, Eq)]
 pub enum EntryStop {
-    /// The bytes end before the entry's last byte.
+    /// The bytes end before the last byte of the frame, whatever its tag.
     Cut,
-    /// No entry begins with this byte, or its body has another form, or ends before or after the length that is said.
+    /// No entry begins with this byte, or its body has another form or hasn't the length that is said.
     Malformed,
     /// Out of memory.
     Memory,
@@ -60,7 +60,7 @@ fn next_frame<'a>(text: &mut ByteReader<'a>) -> Option<(u8, &'a [u8])>
     Some((tag, body))
 }
 
-// The same, where what stops it is told.
+// The entry of a tag and body, or why there is none.
 fn read_body(alloc: Global, tag: u8, body: &[u8]) -> Result<Entry, FormStop>
     ensures { ReadsBody tag body.now result }
 {

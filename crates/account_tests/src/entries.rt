@@ -5,9 +5,9 @@ use byte_form::ByteReader;
 use std::alloc::{AllocError, Global};
 use std::test::Fail;
 
-/// That the port counts differ; the end; that fact 258 is dropped; that the claim of the first circuit's output 0 and its
-/// input 10, which is 1, holds; the empty clause, by clauses 0 and 1; that no match has output 0 go to output 0 plain, by
-/// a mismatch of facts 0 and 1.
+/// That the port counts differ; the end; that fact 258 is dropped; that the claim of the first circuit's output 0 and
+/// its input 10, which is 1, holds; the empty clause, by clauses 0 and 1; that no match has output 0 go to output 0
+/// plain, by a mismatch of facts 0 and 1.
 static ENTRIES: [&[u8]; 6] = [
     &[5, 0, 0, 0, 0, 0, 0, 0, 0],
     &[8, 0, 0, 0, 0, 0, 0, 0, 0],

@@ -21,7 +21,7 @@ use Rattle.blif_reader.specs.declared.directive.Directive.{Directive}
 use Rattle.blif_reader.specs.declared.directive.Directive.TheVariants.{Names}
 use Rattle.blif_reader.specs.declared.covers.Covers.{Covers}
 use Rattle.blif_reader.specs.Directives.{directive_of, is_names}
-use Rattle.blif_reader.specs.declared.survey.Port.{Port}
+use Rattle.blif_reader.specs.declared.survey.PortWord.{PortWord}
 use Rattle.blif_reader.specs.JoinedLines.{word_of}
 use Rattle.blif_reader.specs.Firsts.{NoneIs}
 use Rattle.blif_reader.specs.Names.{same_name, port_words, words_of_kind, input_words, defined_on, defined_words, read_words, is_undefined}
@@ -37,11 +37,11 @@ use Rattle.std.proofs.lemmas.List.{get_or-map, length-map}
 use Rattle.std.proofs.Math.Seq.{take-length, get_or-append_seam}
 use borrow.Author.Tests.{not-false}
 
-pub port_names-bytes : (kind : PortKind) (ports : List Port) → port_names kind ports ≡ bytes_of (words_of_kind kind ports)
-port_names-bytes kind ports = sym (map-map (λ (w : Piece). w.bytes) (λ (p : Port). p.word) _)
+pub port_names-bytes : (kind : PortKind) (ports : List PortWord) → port_names kind ports ≡ bytes_of (words_of_kind kind ports)
+port_names-bytes kind ports = sym (map-map (λ (w : Piece). w.bytes) (λ (p : PortWord). p.word) _)
 
 -- the ports are distinct, and these are the names of the inputs
-pub inputs_named : (lines : List (List Piece)) (ports : List Port) (inputs outputs : List (List ℕ)) → AreDeclared lines → ports ≡ port_words lines → AreNamed ports (length ports) inputs outputs → AreDistinct lines × (inputs ≡ bytes_of (input_words lines))
+pub inputs_named : (lines : List (List Piece)) (ports : List PortWord) (inputs outputs : List (List ℕ)) → AreDeclared lines → ports ≡ port_words lines → AreNamed ports (length ports) inputs outputs → AreDistinct lines × (inputs ≡ bytes_of (input_words lines))
 inputs_named lines ports inputs outputs declared same named =
     let all = subst (λ ps. AreNamed ps (length ps) inputs outputs) same named in
     (record { declared = declared; once = all.once }, all.inputs_are ∙ (ap (port_names Input) (take-length (port_words lines)) ∙ port_names-bytes Input (port_words lines)))
@@ -56,7 +56,7 @@ repeated_port lines kind at declared found = record {
 }
 
 -- the names that are defined were added to those of the inputs: names are defined once, and these are the names of the signals
-pub names_numbered : (lines : List (List Piece)) (ports : List Port) (defined : List Piece) (inputs outputs names : List (List ℕ))
+pub names_numbered : (lines : List (List Piece)) (ports : List PortWord) (defined : List Piece) (inputs outputs names : List (List ℕ))
     → AreDeclared lines
     → ports ≡ port_words lines
     → defined ≡ defined_words lines

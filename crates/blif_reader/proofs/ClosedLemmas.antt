@@ -17,7 +17,7 @@ use Rattle.net_file.specs.declared.fault.NetKind.{NetKind}
 use Rattle.net_file.specs.declared.fault.NetKind.TheVariants as fault
 use Rattle.blif_reader.specs.declared.directive.Directive.{Directive}
 use Rattle.blif_reader.specs.declared.directive.Directive.TheVariants.{Inputs, Outputs, Names, Row}
-use Rattle.blif_reader.specs.declared.survey.Port.{Port}
+use Rattle.blif_reader.specs.declared.survey.PortWord.{PortWord}
 use Rattle.blif_reader.specs.Directives.{directive_of, is_row, is_names, is_end}
 use Rattle.blif_reader.specs.Firsts.{NoneIs}
 use Rattle.blif_reader.specs.Rows.{operand_count, has_widths, row_widths, literal_bytes, opening, row_fault, rows_of}
@@ -170,13 +170,13 @@ known_outputs names (line ∷ lines) known =
     All-append (IsKnownIn names) (outputs_by (directive_of line) line) (outputs_in lines) (outputs_by_directive names (directive_of line) line (All-front (IsKnownIn names) (read_on (directive_of line) line) (read_words lines) known)) (known_outputs names lines (All-back (IsKnownIn names) (read_on (directive_of line) line) (read_words lines) known))
 
 -- the words of output ports are those of the output lines
-filter_same : (kind : PortKind) (words : List Piece) (rest : List Port) → map (λ (p : Port). p.word) (filter (λ (p : Port). is_same_kind p.kind Output) (named_ports kind words ++ rest)) ≡ cond (is_same_kind kind Output) words [] ++ map (λ (p : Port). p.word) (filter (λ (p : Port). is_same_kind p.kind Output) rest)
+filter_same : (kind : PortKind) (words : List Piece) (rest : List PortWord) → map (λ (p : PortWord). p.word) (filter (λ (p : PortWord). is_same_kind p.kind Output) (named_ports kind words ++ rest)) ≡ cond (is_same_kind kind Output) words [] ++ map (λ (p : PortWord). p.word) (filter (λ (p : PortWord). is_same_kind p.kind Output) rest)
 filter_same Output [] rest = refl
 filter_same Input [] rest = refl
 filter_same Output (word ∷ words) rest = ap (λ ws. word ∷ ws) (filter_same Output words rest)
 filter_same Input (word ∷ words) rest = filter_same Input words rest
 
-outputs_on : (directive : Directive) (line : List Piece) (rest : List Port) → map (λ (p : Port). p.word) (filter (λ (p : Port). is_same_kind p.kind Output) (ports_on directive line ++ rest)) ≡ outputs_by directive line ++ map (λ (p : Port). p.word) (filter (λ (p : Port). is_same_kind p.kind Output) rest)
+outputs_on : (directive : Directive) (line : List Piece) (rest : List PortWord) → map (λ (p : PortWord). p.word) (filter (λ (p : PortWord). is_same_kind p.kind Output) (ports_on directive line ++ rest)) ≡ outputs_by directive line ++ map (λ (p : PortWord). p.word) (filter (λ (p : PortWord). is_same_kind p.kind Output) rest)
 outputs_on Inputs line rest = filter_same Input (drop 1 line) rest
 outputs_on Outputs line rest = filter_same Output (drop 1 line) rest
 outputs_on other line rest = refl

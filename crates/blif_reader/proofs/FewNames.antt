@@ -12,7 +12,7 @@ use Rattle.text_core.specs.Lines.{lines}
 use Rattle.text_core.specs.Words.{is_not_empty}
 use Rattle.blif_reader.specs.declared.directive.Directive.{Directive}
 use Rattle.blif_reader.specs.declared.directive.Directive.TheVariants.{Inputs, Outputs, Names}
-use Rattle.blif_reader.specs.declared.survey.Port.{Port}
+use Rattle.blif_reader.specs.declared.survey.PortWord.{PortWord}
 use Rattle.blif_reader.specs.JoinedLines.{placed, lines_at, words_at, is_comment_sign, content, ends_with_backslash, without_backslash, goes_on, line_words, onto_next, joined, has_words}
 use Rattle.blif_reader.specs.Directives.{directive_of}
 use Rattle.blif_reader.specs.Names.{is_same_kind, named_ports, ports_on, port_words, words_of_kind, input_words, defined_on, defined_words}
@@ -102,16 +102,16 @@ total-words : (bytes : List ℕ) → total (joined (lines_at (record { bytes = b
 total-words bytes = omega (arith, total-joined 0 (lines bytes), total-lines bytes)
 
 -- the words of a line that name inputs or are defined
-few_of_kind : (kind : PortKind) (ports : List Port) → length (words_of_kind kind ports) ≤ length ports
+few_of_kind : (kind : PortKind) (ports : List PortWord) → length (words_of_kind kind ports) ≤ length ports
 few_of_kind kind [] = omega arith
 few_of_kind kind (port ∷ ports) =
-    let word = λ (p : Port). p.word in
-    let test = λ (p : Port). is_same_kind p.kind kind in
+    let word = λ (p : PortWord). p.word in
+    let test = λ (p : PortWord). is_same_kind p.kind kind in
     omega (arith, length-map (filter test (port ∷ ports)) word, length-map (filter test ports) word, one_more_at_most (test port) port (filter test ports), few_of_kind kind ports)
 
 few_named_ports : (kind : PortKind) (line : List Piece) → length (named_ports kind (drop 1 line)) ≤ length line
 few_named_ports kind line =
-    let port : Piece → Port = λ word. record { kind = kind; word = word } in
+    let port : Piece → PortWord = λ word. record { kind = kind; word = word } in
     omega (arith, length-map (drop 1 line) port, length-drop 1 line)
 
 -- how many names a line gives to inputs and signals

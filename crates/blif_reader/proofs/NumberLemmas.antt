@@ -13,7 +13,7 @@ use Rattle.text_core.specs.Piece.{Piece}
 use Rattle.circuits.specs.declared.port.PortKind.{PortKind}
 use Rattle.circuits.specs.declared.port.PortKind.TheVariants.{Input, Output}
 use Rattle.net_file.specs.declared.fault.NetKind.TheVariants as fault
-use Rattle.blif_reader.specs.declared.survey.Port.{Port}
+use Rattle.blif_reader.specs.declared.survey.PortWord.{PortWord}
 use Rattle.blif_reader.specs.Names.{is_same_kind, same_name, repeats_port, is_redefined, words_of_kind}
 use Rattle.blif_reader.specs.Numbers.{IsAdded, bytes_of, port_names, NoneBefore, AreNamed, AreDefined, IsRepeatedPort, IsRepeatedName}
 use Rattle.blif_reader.specs.Ports.{IsExcess}
@@ -83,31 +83,31 @@ map-cond : {X Y : Type 0} (f : X → Y) (t : Bool) (x : X) (xs : List X) → map
 map-cond f true x xs = refl
 map-cond f false x xs = refl
 
-pub repeats_named : (earlier : List Port) (port : Port) → repeats_port earlier port ≡ list_any (bytes_eq port.word.bytes) (port_names port.kind earlier)
+pub repeats_named : (earlier : List PortWord) (port : PortWord) → repeats_port earlier port ≡ list_any (bytes_eq port.word.bytes) (port_names port.kind earlier)
 repeats_named [] port = refl
 repeats_named (other ∷ earlier) port =
     let t = is_same_kind other.kind port.kind in
     repeats_by_test t port.word.bytes other.word.bytes (port_names port.kind earlier) (repeats_port earlier port) (repeats_named earlier port)
-    ∙ ap (list_any (bytes_eq port.word.bytes)) (sym (map-cond (λ (p : Port). p.word.bytes) t other (filter (λ p. is_same_kind p.kind port.kind) earlier)))
+    ∙ ap (list_any (bytes_eq port.word.bytes)) (sym (map-cond (λ (p : PortWord). p.word.bytes) t other (filter (λ p. is_same_kind p.kind port.kind) earlier)))
 
 -- a kind is the same as itself
 self_same : (kind : PortKind) → is_same_kind kind kind ≡ true
 self_same Input = refl
 self_same Output = refl
 
-port_names-push : (kind : PortKind) (earlier : List Port) (port : Port) → port_names kind (earlier ++ port ∷ []) ≡ port_names kind earlier ++ cond (is_same_kind port.kind kind) (port.word.bytes ∷ []) []
+port_names-push : (kind : PortKind) (earlier : List PortWord) (port : PortWord) → port_names kind (earlier ++ port ∷ []) ≡ port_names kind earlier ++ cond (is_same_kind port.kind kind) (port.word.bytes ∷ []) []
 port_names-push kind earlier port =
-    let name = λ (p : Port). p.word.bytes in
-    let test = λ (p : Port). is_same_kind p.kind kind in
+    let name = λ (p : PortWord). p.word.bytes in
+    let test = λ (p : PortWord). is_same_kind p.kind kind in
     ap (map name) (filter-append test earlier (port ∷ []))
     ∙ (map-append name (filter test earlier) (filter test (port ∷ [])) ∙ ap (λ ns. map name (filter test earlier) ++ ns) (map-cond name (is_same_kind port.kind kind) port []))
 
 -- the names of the kind that a port is of, and of the other
-names_of_same_kind : (kind : PortKind) (earlier : List Port) (port : Port) → port.kind ≡ kind → port_names kind (earlier ++ port ∷ []) ≡ port_names kind earlier ++ port.word.bytes ∷ []
+names_of_same_kind : (kind : PortKind) (earlier : List PortWord) (port : PortWord) → port.kind ≡ kind → port_names kind (earlier ++ port ∷ []) ≡ port_names kind earlier ++ port.word.bytes ∷ []
 names_of_same_kind kind earlier port e =
     port_names-push kind earlier port ∙ ap (λ t. port_names kind earlier ++ cond t (port.word.bytes ∷ []) []) (ap (λ t. is_same_kind t kind) e ∙ self_same kind)
 
-names_of_other_kind : (kind other : PortKind) (earlier : List Port) (port : Port) → port.kind ≡ kind → is_same_kind kind other ≡ false → port_names other (earlier ++ port ∷ []) ≡ port_names other earlier
+names_of_other_kind : (kind other : PortKind) (earlier : List PortWord) (port : PortWord) → port.kind ≡ kind → is_same_kind kind other ≡ false → port_names other (earlier ++ port ∷ []) ≡ port_names other earlier
 names_of_other_kind kind other earlier port e h =
     port_names-push other earlier port
     ∙ (ap (λ t. port_names other earlier ++ cond t (port.word.bytes ∷ []) []) (ap (λ t. is_same_kind t other) e ∙ h) ∙ append-nil (port_names other earlier))
@@ -116,25 +116,25 @@ added_name : (name : List ℕ) (old new : List (List ℕ)) → IsAdded name true
 added_name name old new is = (not-true (list_any (bytes_eq name) old) (sym is.told), is.names)
 
 -- one port more is named
-more_of_kind : (kind : PortKind) (ports : List Port) (k : ℕ) (port : Port) (old new : List (List ℕ)) → k < length ports → ((d : Port) → get_or ports k d ≡ port) → port.kind ≡ kind → NoneBefore repeats_port ports k → old ≡ port_names kind (take k ports) → IsAdded port.word.bytes true old new → NoneBefore repeats_port ports (k + 1) × (new ≡ port_names kind (take (k + 1) ports))
+more_of_kind : (kind : PortKind) (ports : List PortWord) (k : ℕ) (port : PortWord) (old new : List (List ℕ)) → k < length ports → ((d : PortWord) → get_or ports k d ≡ port) → port.kind ≡ kind → NoneBefore repeats_port ports k → old ≡ port_names kind (take k ports) → IsAdded port.word.bytes true old new → NoneBefore repeats_port ports (k + 1) × (new ≡ port_names kind (take (k + 1) ports))
 more_of_kind kind ports k port old new h is e once o a =
     let added = added_name port.word.bytes old new a in
     let more : take (k + 1) ports ≡ take k ports ++ port ∷ [] = take_more ports k port h ∙ ap (λ p. take k ports ++ p ∷ []) (is port) in
     let none : repeats_port (take k ports) port ≡ false = repeats_named (take k ports) port ∙ (ap (λ t. list_any (bytes_eq port.word.bytes) (port_names t (take k ports))) e ∙ (ap (list_any (bytes_eq port.word.bytes)) (sym o) ∙ added.0)) in
     (NoneBefore-more repeats_port ports port k is once none, added.1 ∙ (ap (λ ns. ns ++ port.word.bytes ∷ []) o ∙ (sym (names_of_same_kind kind (take k ports) port e) ∙ ap (port_names kind) (sym more))))
 
-rest_of_kind : (kind other : PortKind) (ports : List Port) (k : ℕ) (port : Port) (old new : List (List ℕ)) → k < length ports → ((d : Port) → get_or ports k d ≡ port) → port.kind ≡ kind → is_same_kind kind other ≡ false → old ≡ port_names other (take k ports) → new ≡ old → new ≡ port_names other (take (k + 1) ports)
+rest_of_kind : (kind other : PortKind) (ports : List PortWord) (k : ℕ) (port : PortWord) (old new : List (List ℕ)) → k < length ports → ((d : PortWord) → get_or ports k d ≡ port) → port.kind ≡ kind → is_same_kind kind other ≡ false → old ≡ port_names other (take k ports) → new ≡ old → new ≡ port_names other (take (k + 1) ports)
 rest_of_kind kind other ports k port old new h is e differ o n =
     let more : take (k + 1) ports ≡ take k ports ++ port ∷ [] = take_more ports k port h ∙ ap (λ p. take k ports ++ p ∷ []) (is port) in
     n ∙ (o ∙ (sym (names_of_other_kind kind other (take k ports) port e differ) ∙ ap (port_names other) (sym more)))
 
 -- what adding a port's name does to the names of both kinds
-abbrev pub AddsPort : Bool → Port → List (List ℕ) → List (List ℕ) → List (List ℕ) → List (List ℕ) → Type 0
+abbrev pub AddsPort : Bool → PortWord → List (List ℕ) → List (List ℕ) → List (List ℕ) → List (List ℕ) → Type 0
 AddsPort added port inputs outputs inputs2 outputs2 =
     (port.kind ≡ Input → IsAdded port.word.bytes added inputs inputs2 × (outputs2 ≡ outputs))
     × (port.kind ≡ Output → IsAdded port.word.bytes added outputs outputs2 × (inputs2 ≡ inputs))
 
-named_by_kind : (kind : PortKind) (ports : List Port) (k : ℕ) (port : Port) (inputs outputs inputs2 outputs2 : List (List ℕ)) → k < length ports → ((d : Port) → get_or ports k d ≡ port) → port.kind ≡ kind → AreNamed ports k inputs outputs → AddsPort true port inputs outputs inputs2 outputs2 → AreNamed ports (k + 1) inputs2 outputs2
+named_by_kind : (kind : PortKind) (ports : List PortWord) (k : ℕ) (port : PortWord) (inputs outputs inputs2 outputs2 : List (List ℕ)) → k < length ports → ((d : PortWord) → get_or ports k d ≡ port) → port.kind ≡ kind → AreNamed ports k inputs outputs → AddsPort true port inputs outputs inputs2 outputs2 → AreNamed ports (k + 1) inputs2 outputs2
 named_by_kind Input ports k port inputs outputs inputs2 outputs2 h is e named adds =
     let a = adds.0 e in
     let more = more_of_kind Input ports k port inputs inputs2 h is e named.once named.inputs_are a.0 in
@@ -152,21 +152,21 @@ named_by_kind Output ports k port inputs outputs inputs2 outputs2 h is e named a
       outputs_are = more.1;
     }
 
-pub named_more : (ports : List Port) (k : ℕ) (port : Port) (inputs outputs inputs2 outputs2 : List (List ℕ)) → k < length ports → ((d : Port) → get_or ports k d ≡ port) → AreNamed ports k inputs outputs → AddsPort true port inputs outputs inputs2 outputs2 → AreNamed ports (k + 1) inputs2 outputs2
+pub named_more : (ports : List PortWord) (k : ℕ) (port : PortWord) (inputs outputs inputs2 outputs2 : List (List ℕ)) → k < length ports → ((d : PortWord) → get_or ports k d ≡ port) → AreNamed ports k inputs outputs → AddsPort true port inputs outputs inputs2 outputs2 → AreNamed ports (k + 1) inputs2 outputs2
 named_more ports k port inputs outputs inputs2 outputs2 h is named adds =
     named_by_kind port.kind ports k port inputs outputs inputs2 outputs2 h is refl named adds
 
 there : (name : List ℕ) (old new : List (List ℕ)) → IsAdded name false old new → list_any (bytes_eq name) old ≡ true
 there name old new is = not-false (list_any (bytes_eq name) old) (sym is.told)
 
-repeated_by_kind : (kind : PortKind) (ports : List Port) (k : ℕ) (port : Port) (inputs outputs inputs2 outputs2 : List (List ℕ)) → port.kind ≡ kind → AreNamed ports k inputs outputs → AddsPort false port inputs outputs inputs2 outputs2 → list_any (bytes_eq port.word.bytes) (port_names kind (take k ports)) ≡ true
+repeated_by_kind : (kind : PortKind) (ports : List PortWord) (k : ℕ) (port : PortWord) (inputs outputs inputs2 outputs2 : List (List ℕ)) → port.kind ≡ kind → AreNamed ports k inputs outputs → AddsPort false port inputs outputs inputs2 outputs2 → list_any (bytes_eq port.word.bytes) (port_names kind (take k ports)) ≡ true
 repeated_by_kind Input ports k port inputs outputs inputs2 outputs2 e named adds =
     ap (list_any (bytes_eq port.word.bytes)) (sym named.inputs_are) ∙ there port.word.bytes inputs inputs2 (adds.0 e).0
 repeated_by_kind Output ports k port inputs outputs inputs2 outputs2 e named adds =
     ap (list_any (bytes_eq port.word.bytes)) (sym named.outputs_are) ∙ there port.word.bytes outputs outputs2 (adds.1 e).0
 
 -- a port is the first that repeats
-pub repeated : (ports : List Port) (k : ℕ) (port : Port) (inputs outputs inputs2 outputs2 : List (List ℕ)) → k < length ports → ((d : Port) → get_or ports k d ≡ port) → AreNamed ports k inputs outputs → AddsPort false port inputs outputs inputs2 outputs2 → IsRepeatedPort ports fault.DuplicatePort port.word.at
+pub repeated : (ports : List PortWord) (k : ℕ) (port : PortWord) (inputs outputs inputs2 outputs2 : List (List ℕ)) → k < length ports → ((d : PortWord) → get_or ports k d ≡ port) → AreNamed ports k inputs outputs → AddsPort false port inputs outputs inputs2 outputs2 → IsRepeatedPort ports fault.DuplicatePort port.word.at
 repeated ports k port inputs outputs inputs2 outputs2 h is named adds = record {
   is = refl;
   place = k;
@@ -175,7 +175,7 @@ repeated ports k port inputs outputs inputs2 outputs2 h is named adds = record {
     here = λ d. ap (repeats_port (take k ports)) (is d) ∙ (repeats_named (take k ports) port ∙ repeated_by_kind port.kind ports k port inputs outputs inputs2 outputs2 refl named adds);
     none_before = named.once;
   };
-  offset = λ d. ap (λ (p : Port). p.word.at) (sym (is d));
+  offset = λ d. ap (λ (p : PortWord). p.word.at) (sym (is d));
 }
 
 -- a name is an input's or was defined exactly where it is among the names
@@ -216,18 +216,18 @@ pub at_place : {X : Type 0} (xs : List X) (k : ℕ) (x : X) → k < length xs �
 at_place xs k x h is d = get_or_default xs k d x h ∙ sym is
 
 -- the words of ports of a kind
-pub words_of_kind-append : (kind : PortKind) (xs ys : List Port) → words_of_kind kind (xs ++ ys) ≡ words_of_kind kind xs ++ words_of_kind kind ys
+pub words_of_kind-append : (kind : PortKind) (xs ys : List PortWord) → words_of_kind kind (xs ++ ys) ≡ words_of_kind kind xs ++ words_of_kind kind ys
 words_of_kind-append kind xs ys =
-    let test = λ (p : Port). is_same_kind p.kind kind in
-    ap (map (λ (p : Port). p.word)) (filter-append test xs ys) ∙ map-append (λ (p : Port). p.word) (filter test xs) (filter test ys)
+    let test = λ (p : PortWord). is_same_kind p.kind kind in
+    ap (map (λ (p : PortWord). p.word)) (filter-append test xs ys) ∙ map-append (λ (p : PortWord). p.word) (filter test xs) (filter test ys)
 
-self_kind : (kind : PortKind) (port : Port) (rest : List Port) → port.kind ≡ kind → words_of_kind kind (port ∷ rest) ≡ port.word ∷ words_of_kind kind rest
+self_kind : (kind : PortKind) (port : PortWord) (rest : List PortWord) → port.kind ≡ kind → words_of_kind kind (port ∷ rest) ≡ port.word ∷ words_of_kind kind rest
 self_kind kind port rest e =
-    let test = λ (p : Port). is_same_kind p.kind kind in
-    ap (λ t. map (λ (p : Port). p.word) (cond t (port ∷ filter test rest) (filter test rest))) (ap (λ t. is_same_kind t kind) e ∙ self_same kind)
+    let test = λ (p : PortWord). is_same_kind p.kind kind in
+    ap (λ t. map (λ (p : PortWord). p.word) (cond t (port ∷ filter test rest) (filter test rest))) (ap (λ t. is_same_kind t kind) e ∙ self_same kind)
 
 -- a port after as many as the limit is the first beyond it
-pub excess : (kind : PortKind) (ports : List Port) (k : ℕ) (port : Port) (at : ℕ) → k < length ports → ((d : Port) → get_or ports k d ≡ port) → port.kind ≡ kind → length (words_of_kind kind (take k ports)) ≡ 1024 → at ≡ port.word.at → IsExcess (words_of_kind kind ports) at
+pub excess : (kind : PortKind) (ports : List PortWord) (k : ℕ) (port : PortWord) (at : ℕ) → k < length ports → ((d : PortWord) → get_or ports k d ≡ port) → port.kind ≡ kind → length (words_of_kind kind (take k ports)) ≡ 1024 → at ≡ port.word.at → IsExcess (words_of_kind kind ports) at
 excess kind ports k port at h is e full a =
     let before = words_of_kind kind (take k ports) in
     let after = words_of_kind kind (drop (suc k) ports) in

@@ -8,7 +8,7 @@ use Rattle.circuits.specs.Levels.{IsAcyclic}
 use Rattle.circuits.proofs.OneOrder.{one_first_looped, acyclic_not_looped}
 use Rattle.net_file.specs.declared.fault.NetKind.{NetKind}
 use Rattle.net_file.proofs.OneFault.{IsOne, either}
-use Rattle.blif_reader.specs.declared.survey.Port.{Port}
+use Rattle.blif_reader.specs.declared.survey.PortWord.{PortWord}
 use Rattle.blif_reader.specs.JoinedLines.{word_of}
 use Rattle.blif_reader.specs.Firsts.{NoneIs}
 use Rattle.blif_reader.specs.Names.{input_words, defined_words, read_words, port_words, repeats_port, is_redefined, is_undefined}
@@ -44,7 +44,7 @@ one_at_first found words a b one other =
 
 one_port : (lines : List (List Piece)) → IsOne (IsPortFault lines)
 one_port lines f g a b one other =
-    let none : Port = record { kind = Input; word = nothing } in
+    let none : PortWord = record { kind = Input; word = nothing } in
     let same : one.place ≡ other.place = one_first repeats_port (port_words lines) none one.place other.place one.first other.first in
     (one.is ∙ sym other.is, one.offset none ∙ (ap (λ k. (get_or (port_words lines) k none).word.at) same ∙ sym (other.offset none)))
 

@@ -11,7 +11,7 @@ use Rattle.circuits.specs.Levels.{IsAcyclic}
 use Rattle.circuits.proofs.Looped.{acyclic_or_looped}
 use Rattle.net_file.specs.declared.fault.NetKind.{NetKind}
 use Rattle.net_file.specs.declared.fault.NetKind.TheVariants as fault
-use Rattle.blif_reader.specs.declared.survey.Port.{Port}
+use Rattle.blif_reader.specs.declared.survey.PortWord.{PortWord}
 use Rattle.blif_reader.specs.JoinedLines.{word_of}
 use Rattle.blif_reader.specs.Firsts.{IsFirst, NoneIs}
 use Rattle.blif_reader.specs.Directives.{is_inputs, is_outputs}
@@ -70,7 +70,7 @@ module _ (end : ℕ) (lines : List (List Piece)) where
 
   distinct : AreDeclared lines → HasFault ⊎ AreDistinct lines
   distinct declared =
-      let none_port : Port = record { kind = Input; word = nothing } in
+      let none_port : PortWord = record { kind = Input; word = nothing } in
       elim (first_or_none repeats_port (port_words lines)) [
         | inr none ↦ inr (record { declared = declared; once = none })
         | inl found ↦ inl (
@@ -81,7 +81,7 @@ module _ (end : ℕ) (lines : List (List Piece)) where
             is = refl;
             place = found.0;
             first = found.1;
-            offset = λ d. ap (λ (p : Port). p.word.at) (get_or_default (port_words lines) found.0 none_port d found.1.there);
+            offset = λ d. ap (λ (p : PortWord). p.word.at) (get_or_default (port_words lines) found.0 none_port d found.1.there);
           }))),
         )
       ]

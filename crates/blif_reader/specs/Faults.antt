@@ -8,7 +8,7 @@ use Rattle.net_file.specs.declared.fault.NetKind.{NetKind}
 use Rattle.net_file.specs.declared.fault.NetKind.TheVariants as fault
 use Rattle.blif_reader.specs.declared.directive.Directive.{Directive}
 use Rattle.blif_reader.specs.declared.directive.Directive.TheVariants.{Model, Names, Subckt, Latch, DontCares, Unknown, Row}
-use Rattle.blif_reader.specs.declared.survey.Port.{Port}
+use Rattle.blif_reader.specs.declared.survey.PortWord.{PortWord}
 use Rattle.blif_reader.specs.JoinedLines.{word_of}
 use Rattle.blif_reader.specs.Directives.{directive_of, is_model, is_inputs, is_outputs, is_end}
 use Rattle.blif_reader.specs.Firsts.{IsFirst, NoneIs}
@@ -101,7 +101,7 @@ pub record IsPortFault (lines : List (List Piece)) (kind : NetKind) (at : ℕ) :
   pub is : kind ≡ fault.DuplicatePort
   pub place : ℕ
   pub first : IsFirst repeats_port (port_words lines) place
-  pub offset : (d : Port) → at ≡ (slice_index_or (port_words lines) place d).word.at
+  pub offset : (d : PortWord) → at ≡ (slice_index_or (port_words lines) place d).word.at
 
 -- The first name that is defined again.
 pub record IsRedefinedFault (lines : List (List Piece)) (kind : NetKind) (at : ℕ) : Type 0 where

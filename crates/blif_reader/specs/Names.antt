@@ -8,7 +8,7 @@ use Rattle.circuits.specs.declared.port.PortKind.TheVariants.{Input, Output}
 use Rattle.blif_reader.specs.JoinedLines.{word_of}
 use Rattle.blif_reader.specs.declared.directive.Directive.{Directive}
 use Rattle.blif_reader.specs.declared.directive.Directive.TheVariants.{Inputs, Outputs, Names}
-use Rattle.blif_reader.specs.declared.survey.Port.{Port}
+use Rattle.blif_reader.specs.declared.survey.PortWord.{PortWord}
 use Rattle.blif_reader.specs.Directives.{directive_of}
 use Rattle.blif_reader.specs.Rows.{operand_count}
 
@@ -23,20 +23,20 @@ is_same_kind Output Output = true
 is_same_kind one other = false
 
 -- words, as ports of a kind
-abbrev pub named_ports : PortKind → List Piece → List Port
+abbrev pub named_ports : PortKind → List Piece → List PortWord
 named_ports kind words = map (λ word. record { kind = kind; word = word }) words
 
 -- the ports that a line names, by what it is: the words after its first
-abbrev pub ports_on : Directive → List Piece → List Port
+abbrev pub ports_on : Directive → List Piece → List PortWord
 ports_on Inputs line = named_ports Input (drop 1 line)
 ports_on Outputs line = named_ports Output (drop 1 line)
 ports_on other line = []
 
-abbrev pub port_words : List (List Piece) → List Port
+abbrev pub port_words : List (List Piece) → List PortWord
 port_words lines = flat_map (λ line. ports_on (directive_of line) line) lines
 
 -- the words that name ports of a kind
-abbrev pub words_of_kind : PortKind → List Port → List Piece
+abbrev pub words_of_kind : PortKind → List PortWord → List Piece
 words_of_kind kind ports = map (λ port. port.word) (filter (λ port. is_same_kind port.kind kind) ports)
 
 abbrev pub input_words : List (List Piece) → List Piece
@@ -67,7 +67,7 @@ abbrev pub read_words : List (List Piece) → List Piece
 read_words lines = flat_map (λ line. read_on (directive_of line) line) lines
 
 -- a port's name is that of an earlier port of its kind
-abbrev pub repeats_port : List Port → Port → Bool
+abbrev pub repeats_port : List PortWord → PortWord → Bool
 repeats_port earlier port =
     list_any (λ other. is_same_kind other.kind port.kind && same_name port.word other.word) earlier
 

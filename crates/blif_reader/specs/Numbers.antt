@@ -11,7 +11,7 @@ use Rattle.circuits.specs.declared.port.PortKind.{PortKind}
 use Rattle.circuits.specs.declared.port.PortKind.TheVariants.{Input, Output}
 use Rattle.net_file.specs.declared.fault.NetKind.{NetKind}
 use Rattle.net_file.specs.declared.fault.NetKind.TheVariants as fault
-use Rattle.blif_reader.specs.declared.survey.Port.{Port}
+use Rattle.blif_reader.specs.declared.survey.PortWord.{PortWord}
 use Rattle.blif_reader.specs.Firsts.{IsFirst}
 use Rattle.blif_reader.specs.Names.{is_same_kind, repeats_port, is_redefined}
 use Rattle.blif_reader.specs.Faults.{IsAtFirst}
@@ -30,7 +30,7 @@ abbrev pub bytes_of : List Piece → List (List ℕ)
 bytes_of words = map (λ word. word.bytes) words
 
 -- the names of the ports of a kind
-abbrev pub port_names : PortKind → List Port → List (List ℕ)
+abbrev pub port_names : PortKind → List PortWord → List (List ℕ)
 port_names kind ports = map (λ port. port.word.bytes) (filter (λ port. is_same_kind port.kind kind) ports)
 
 -- the test finds none of the first elements
@@ -38,7 +38,7 @@ abbrev pub NoneBefore : {X : Type 0} → (List X → X → Bool) → List X → 
 NoneBefore {X} found xs count = (k : ℕ) (d : X) → k < count → found (take k xs) (slice_index_or xs k d) ≡ false
 
 -- The first ports are named, each kind once.
-pub record AreNamed (ports : List Port) (count : ℕ) (inputs outputs : List (List ℕ)) : Type 0 where
+pub record AreNamed (ports : List PortWord) (count : ℕ) (inputs outputs : List (List ℕ)) : Type 0 where
   pub once : NoneBefore repeats_port ports count
   pub inputs_are : inputs ≡ port_names Input (take count ports)
   pub outputs_are : outputs ≡ port_names Output (take count ports)
@@ -49,11 +49,11 @@ pub record AreDefined (inputs defined : List Piece) (count : ℕ) (names : List 
   pub names_are : names ≡ bytes_of (inputs ++ take count defined)
 
 -- a port's name is that of an earlier one
-pub record IsRepeatedPort (ports : List Port) (kind : NetKind) (at : ℕ) : Type 0 where
+pub record IsRepeatedPort (ports : List PortWord) (kind : NetKind) (at : ℕ) : Type 0 where
   pub is : kind ≡ fault.DuplicatePort
   pub place : ℕ
   pub first : IsFirst repeats_port ports place
-  pub offset : (d : Port) → at ≡ (slice_index_or ports place d).word.at
+  pub offset : (d : PortWord) → at ≡ (slice_index_or ports place d).word.at
 
 -- a defined name is defined again
 pub record IsRepeatedName (inputs defined : List Piece) (kind : NetKind) (at : ℕ) : Type 0 where

@@ -17,5 +17,5 @@ pub use laws::blif_is_a_format;
 pub use lines::JoinedLines;
 pub use names::{PortNames, add_name, find_name, name_ports};
 pub use rows::{OpenCover, RowWords, words_of_row};
-pub use survey::{Port, take_words};
+pub use survey::{PortWord, take_words};
 pub use whole::read;

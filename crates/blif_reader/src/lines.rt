@@ -92,7 +92,7 @@ impl<'a> JoinedLines<'a> {
         }
     }
 
-    // Goes on on the next line, if there is one.
+    // Continues the line that is being read with the next one, if there is one.
     fn go_on(&mut self)
         requires { self.old.goes_on ≡ true }
         ensures words { words_at self.old.line ≡ [] → words_left self.new

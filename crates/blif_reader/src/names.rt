@@ -8,7 +8,7 @@ ghost use Rattle.net_file.specs.Stops.{IsStopBy};
 ghost use Rattle.blif_reader.specs.Numbers.{names_of, bytes_of, IsAdded, AreNamed, AreDefined, IsRepeatedPort};
 ghost use Rattle.blif_reader.specs.Numbers.{IsRepeatedName};
 
-use crate::survey::Port;
+use crate::survey::PortWord;
 use circuits::PortKind;
 use indexmap::IndexSet;
 use net_file::{NetFault, NetKind, NetStop};
@@ -23,7 +23,7 @@ pub struct PortNames<'a> {
 }
 
 /// Names the ports. The fault is at the first word that names a port of the same kind again.
-pub fn name_ports<'a>(alloc: Global, ports: &[Port<'a>]) -> Result<PortNames<'a>, NetStop>
+pub fn name_ports<'a>(alloc: Global, ports: &[PortWord<'a>]) -> Result<PortNames<'a>, NetStop>
     ensures named { IfOk result (λ named.
         AreNamed ports.now (length ports.now) (names_of named.inputs) (names_of named.outputs)) }
     ensures stop { IfErr result (IsStopBy (IsRepeatedPort ports.now)) }
@@ -37,7 +37,7 @@ pub fn name_ports<'a>(alloc: Global, ports: &[Port<'a>]) -> Result<PortNames<'a>
 }
 
 // Names the ports where none is named so far.
-fn name_all<'a>(ports: &[Port<'a>], named: &mut PortNames<'a>) -> Result<(), NetStop>
+fn name_all<'a>(ports: &[PortWord<'a>], named: &mut PortNames<'a>) -> Result<(), NetStop>
     requires { AreNamed ports.now 0 (names_of named.old.inputs) (names_of named.old.outputs) }
     ensures named { OnOk result
         (AreNamed ports.now (length ports.now) (names_of named.new.inputs) (names_of named.new.outputs)) }
@@ -55,7 +55,7 @@ fn name_all<'a>(ports: &[Port<'a>], named: &mut PortNames<'a>) -> Result<(), Net
 }
 
 // Adds the name of a port to those of its kind. Says whether it was added.
-fn add_port<'a>(named: &mut PortNames<'a>, port: &Port<'a>) -> Result<bool, AllocError>
+fn add_port<'a>(named: &mut PortNames<'a>, port: &PortWord<'a>) -> Result<bool, AllocError>
     ensures inputs { port.now.kind ≡ PortKind.Input → IfOk result
         (λ added. IsAdded port.now.word.bytes added (names_of named.old.inputs) (names_of named.new.inputs)
         × (names_of named.new.outputs ≡ names_of named.old.outputs)) }

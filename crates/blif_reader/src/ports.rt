@@ -6,7 +6,7 @@ ghost use Rattle.blif_reader.specs.Numbers.{port_names};
 ghost use Rattle.blif_reader.specs.Names.{words_of_kind};
 ghost use Rattle.blif_reader.specs.Ports.{IsExcess};
 
-use crate::survey::Port;
+use crate::survey::PortWord;
 use circuits::PortKind;
 use items::Items;
 use net_file::Name;
@@ -16,7 +16,7 @@ use std::alloc::{AllocError, Global};
 const MOST_PORTS: u32 = 1024;
 
 /// The offset of the first port of a kind beyond the limit, if there are more.
-pub(crate) fn find_excess(ports: &[Port<'_>], kind: PortKind) -> Option<u64>
+pub(crate) fn find_excess(ports: &[PortWord<'_>], kind: PortKind) -> Option<u64>
     ensures { MatchOption result (length (words_of_kind kind ports.now) ≤ most_ports)
         (λ at. IsExcess (words_of_kind kind ports.now) at) }
 {
@@ -35,7 +35,7 @@ pub(crate) fn find_excess(ports: &[Port<'_>], kind: PortKind) -> Option<u64>
 /// The names of the ports of a kind, in the order of the text.
 pub(crate) fn names_of_kind(
     alloc: Global,
-    ports: &[Port<'_>],
+    ports: &[PortWord<'_>],
     kind: PortKind,
 ) -> Result<Items<Name>, AllocError>
     ensures { IfOk result (λ names. names ≡ port_names kind ports.now) }

@@ -21,7 +21,7 @@ use text_core::Span;
 
 /// A word that names a port.
 #[derive(Drop)]
-pub struct Port<'a> {
+pub struct PortWord<'a> {
     pub kind: PortKind,
     pub word: Span<'a>,
 }
@@ -30,7 +30,7 @@ pub struct Port<'a> {
 #[derive(Drop)]
 pub(crate) struct Survey<'a> {
     /// The words that name ports, in the order of the text.
-    pub(crate) ports: Vec<Port<'a>>,
+    pub(crate) ports: Vec<PortWord<'a>>,
     /// The names that covers define, in the order of the text.
     pub(crate) defined: Vec<Span<'a>>,
     pub(crate) has_model: bool,
@@ -227,14 +227,14 @@ pub fn take_words<'a>(
 fn take_ports<'a>(
     kind: PortKind,
     lines: &mut JoinedLines<'a>,
-    ports: &mut Vec<Port<'a>>,
+    ports: &mut Vec<PortWord<'a>>,
 ) -> Result<(), AllocError>
     ensures ports { OnOk result (ports.new.items ≡ ports.old.items
         ++ named_ports kind (words_left lines.old)) }
     ensures lines { OnOk result (lines_left lines.new ≡ lines_left lines.old) }
 {
     while let Some(word) = lines.next_word() {
-        ports.push(Port { kind, word })?;
+        ports.push(PortWord { kind, word })?;
     }
     Ok(())
 }

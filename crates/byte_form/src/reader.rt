@@ -53,7 +53,7 @@ impl<'a> ByteReader<'a> {
         Some(*byte)
     }
 
-    /// Takes as many bytes. Where fewer are left, it is None.
+    /// Takes `count` bytes. Where fewer are left, it is None.
     pub fn next_bytes(&mut self, count: u64) -> Option<&'a [u8]>
         ensures bytes { IfSome result (λ bytes. self.old ≡ bytes.now ++ self.new) }
         ensures count { IfSome result (λ bytes. length bytes.now ≡ count) }

@@ -34,13 +34,13 @@ pub struct EndedRun<'a> {
 
 /// What the end of a run means, in lines that end with a line feed; nothing where the report says it all. Files are
 /// read again for it, and none is changed. Where that fails, or there is no memory, less is said.
-pub fn explain<S: Shelf>(alloc: Global, told: &EndedRun<'_>, shelf: &mut S) -> String
+pub fn explain<S: Shelf>(alloc: Global, ended: &EndedRun<'_>, shelf: &mut S) -> String
     requires { (S.state shelf.old).mode ≡ Closed }
     ensures { SameFiles (S.state shelf.old) (S.state shelf.new) }
 {
     let mut text = String::new(alloc);
     // what can't be said is left out
-    let _ = put_explanation(alloc, told, shelf, &mut text);
+    let _ = put_explanation(alloc, ended, shelf, &mut text);
     text
 }
 
@@ -80,30 +80,30 @@ fn name_of(words: &[String], which: Which) -> Option<&str> {
 
 fn put_explanation<S: Shelf>(
     alloc: Global,
-    told: &EndedRun<'_>,
+    ended: &EndedRun<'_>,
     shelf: &mut S,
     text: &mut String,
 ) -> Result<(), ReadStop>
     requires { (S.state shelf.old).mode ≡ Closed }
     ensures { SameFiles (S.state shelf.old) (S.state shelf.new) }
 {
-    match told.outcome {
-        Outcome::Usage => put_usage(told.words, text),
-        Outcome::Absent(which) => put_file(told, *which, "there is no such file", text),
-        Outcome::TooLarge(which) => put_file(told, *which, "longer than 67,108,864 bytes", text),
-        Outcome::ReadFault => put_fault(told.fault, "a file couldn't be read", text),
-        Outcome::WriteFault => put_fault(told.fault, "the report couldn't be written", text),
+    match ended.outcome {
+        Outcome::Usage => put_usage(ended.words, text),
+        Outcome::Absent(which) => put_file(ended, *which, "there is no such file", text),
+        Outcome::TooLarge(which) => put_file(ended, *which, "longer than 67,108,864 bytes", text),
+        Outcome::ReadFault => put_fault(ended.fault, "a file couldn't be read", text),
+        Outcome::WriteFault => put_fault(ended.fault, "the report couldn't be written", text),
         Outcome::Malformed { which, kind, at } => {
             let fault = NetFault {
                 kind: *kind,
                 at: *at,
             };
-            put_netlist_fault(alloc, told, *which, fault, shelf, text)
+            put_netlist_fault(alloc, ended, *which, fault, shelf, text)
         }
-        Outcome::Rejected { line, why } => { put_rejected(alloc, told, *line, *why, shelf, text) }
-        Outcome::Matched(_) => put_matched(told.words, text),
-        Outcome::NoMatching => put_no_matching(alloc, told, shelf, text),
-        Outcome::Spent(ledger) => put_spent(alloc, told, ledger, shelf, text),
+        Outcome::Rejected { line, why } => { put_rejected(alloc, ended, *line, *why, shelf, text) }
+        Outcome::Matched(_) => put_matched(ended.words, text),
+        Outcome::NoMatching => put_no_matching(alloc, ended, shelf, text),
+        Outcome::Spent(ledger) => put_spent(alloc, ended, ledger, shelf, text),
         _ => Ok(()),
     }
 }
@@ -133,12 +133,12 @@ fn put_matched(words: &[String], text: &mut String) -> Result<(), ReadStop> {
 
 /// Says something of a file.
 fn put_file(
-    told: &EndedRun<'_>,
+    ended: &EndedRun<'_>,
     which: Which,
     what: &str,
     text: &mut String,
 ) -> Result<(), ReadStop> {
-    match name_of(told.words, which) {
+    match name_of(ended.words, which) {
         Some(name) => Ok(writeln!(text, "{}: {what}", TerminalText::name(name))?),
         None => Ok(()),
     }
@@ -158,7 +158,7 @@ fn put_fault(
 
 fn put_netlist_fault<S: Shelf>(
     alloc: Global,
-    told: &EndedRun<'_>,
+    ended: &EndedRun<'_>,
     which: Which,
     fault: NetFault,
     shelf: &mut S,
@@ -167,8 +167,8 @@ fn put_netlist_fault<S: Shelf>(
     requires { (S.state shelf.old).mode ≡ Closed }
     ensures { SameFiles (S.state shelf.old) (S.state shelf.new) }
 {
-    match name_of(told.words, which) {
-        Some(name) if told.readable => put_malformed(alloc, name, fault, shelf, text),
+    match name_of(ended.words, which) {
+        Some(name) if ended.readable => put_malformed(alloc, name, fault, shelf, text),
         Some(name) => put_unread(name, fault, text),
         None => Ok(()),
     }
@@ -177,7 +177,7 @@ fn put_netlist_fault<S: Shelf>(
 /// Says of a rejected account which line is wrong, and what the line is.
 fn put_rejected<S: Shelf>(
     alloc: Global,
-    told: &EndedRun<'_>,
+    ended: &EndedRun<'_>,
     line: u64,
     why: Why,
     shelf: &mut S,
@@ -186,7 +186,7 @@ fn put_rejected<S: Shelf>(
     requires { (S.state shelf.old).mode ≡ Closed }
     ensures { SameFiles (S.state shelf.old) (S.state shelf.new) }
 {
-    let Some(name) = name_of(told.words, Which::Account) else {
+    let Some(name) = name_of(ended.words, Which::Account) else {
         return Ok(());
     };
     writeln!(
@@ -195,7 +195,7 @@ fn put_rejected<S: Shelf>(
         TerminalText::name(name),
         meaning_of_line(why)
     )?;
-    if !told.readable {
+    if !ended.readable {
         return Ok(());
     }
     let mut search = LineSearch::new(alloc, line);
@@ -213,15 +213,15 @@ fn put_line(line: &[u8], text: &mut String) -> Result<(), ReadStop> {
 
 fn put_no_matching<S: Shelf>(
     alloc: Global,
-    told: &EndedRun<'_>,
+    ended: &EndedRun<'_>,
     shelf: &mut S,
     text: &mut String,
 ) -> Result<(), ReadStop>
     requires { (S.state shelf.old).mode ≡ Closed }
     ensures { SameFiles (S.state shelf.old) (S.state shelf.new) }
 {
-    match command_asked(told.words) {
-        Some(Command::Match(asked)) if told.readable => put_refusal(alloc, &asked, shelf, text),
+    match command_asked(ended.words) {
+        Some(Command::Match(asked)) if ended.readable => put_refusal(alloc, &asked, shelf, text),
         _ => Ok(()),
     }
 }
@@ -229,7 +229,7 @@ fn put_no_matching<S: Shelf>(
 /// Says that a budget was spent, on lines of which lengths, and what budget is enough for the circuits.
 fn put_spent<S: Shelf>(
     alloc: Global,
-    told: &EndedRun<'_>,
+    ended: &EndedRun<'_>,
     ledger: &Ledger,
     shelf: &mut S,
     text: &mut String,
@@ -238,11 +238,11 @@ fn put_spent<S: Shelf>(
     ensures { SameFiles (S.state shelf.old) (S.state shelf.new) }
 {
     put_lines(alloc, ledger, text)?;
-    match command_asked(told.words) {
-        Some(Command::Match(asked)) if told.readable => {
+    match command_asked(ended.words) {
+        Some(Command::Match(asked)) if ended.readable => {
             put_enough_of_two(alloc, &asked, shelf, text)
         }
-        Some(Command::Info(asked)) if told.readable => put_enough_of_one(
+        Some(Command::Info(asked)) if ended.readable => put_enough_of_one(
             alloc, &asked, shelf, text,
         ),
         _ => Ok(()),

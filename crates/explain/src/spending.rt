@@ -62,7 +62,7 @@ pub(crate) fn put_lines(alloc: Global, ledger: &Ledger, text: &mut String) -> Re
     put_lengths(&lengths, text)
 }
 
-/// How many literals up to so many of the lines have that are left.
+/// Counts the next `count` lines by length.
 fn lengths_of(
     alloc: Global,
     count: u64,
@@ -106,7 +106,7 @@ pub(crate) fn put_enough_of_two<S: Shelf>(
     put_enough(&Graphs::new(&first.graph, &second.graph), text)
 }
 
-/// Says what budget is enough for what is known of a netlist.
+/// Says what budget is enough for `info` of a netlist.
 pub(crate) fn put_enough_of_one<S: Shelf>(
     alloc: Global,
     asked: &Info<'_>,

@@ -34,11 +34,11 @@ impl fmt::Display for Slot {
     }
 }
 
-/// The words after a command's name: so many are wanted, and the others may be left out.
+/// The words after a command's name: so many are required, and the others may be left out.
 #[derive(Clone, Copy)]
 struct CommandForm {
     slots: &'static [Slot],
-    wanted: usize,
+    required: usize,
 }
 
 const MATCH: &[Slot] = &[
@@ -61,7 +61,7 @@ const TRIAL: &[Slot] = &[Slot::Number];
 
 /// The form of the words after a command's name, where there is such a command.
 fn form_of(command: &str) -> Option<CommandForm> {
-    let (slots, wanted) = match command {
+    let (slots, required) = match command {
         "match" => (MATCH, 3),
         "check" => (CHECK, 3),
         "restore" => (RESTORE, 4),
@@ -70,7 +70,7 @@ fn form_of(command: &str) -> Option<CommandForm> {
         "trial" => (TRIAL, 1),
         _ => return None,
     };
-    Some(CommandForm { slots, wanted })
+    Some(CommandForm { slots, required })
 }
 
 /// Why the words of a command line are of no form.
@@ -82,7 +82,7 @@ pub enum WordFault<'a> {
     UnknownCommand(&'a str),
     /// A word that asks for something else than a run has others beside it.
     NotAlone(&'a str),
-    /// This word is wanted and isn't there.
+    /// This word is required and isn't there.
     Missing(Slot),
     /// This word and those after it are more than the command takes.
     TooMany(&'a str),
@@ -147,7 +147,7 @@ pub fn fault_of_words(words: &[String]) -> Option<WordFault<'_>> {
     if let Some(word) = operands.get(form.slots.len()) {
         return Some(WordFault::TooMany(word.as_str()));
     }
-    if operands.len() < form.wanted {
+    if operands.len() < form.required {
         let slot = form.slots.get(operands.len())?;
         return Some(WordFault::Missing(*slot));
     }

@@ -8,8 +8,8 @@ use std::alloc::{AllocError, Global};
 use std::fs;
 use std::test::Fail;
 
-/// Tables of limits, and the limit on the size of a file. The soft limit is the first column after the name of its line.
-/// A table without such a line sets no limit, nor does one whose column is no number of 64 bits.
+/// Tables of limits, and the limit on the size of a file. The soft limit is the first column after the name of its
+/// line. A table without such a line sets no limit, nor does one whose column is no number of 64 bits.
 static LIMITS: [(&str, Option<u64>); 8] = [
     (
         "Limit  Soft Limit  Hard Limit  Units\nMax cpu time  7  8  seconds\nMax file size  1024  2048  bytes\n",

@@ -8,7 +8,7 @@ use Rattle.std.proofs.lemmas.List.Elements.{All-nil, All-cons, All-contains, Con
 use Rattle.text_core.specs.Piece.{Piece}
 use Rattle.circuits.specs.declared.port.PortKind.{PortKind}
 use Rattle.circuits.specs.declared.port.PortKind.TheVariants.{Input, Output}
-use Rattle.blif_reader.specs.declared.survey.Port.{Port}
+use Rattle.blif_reader.specs.declared.survey.PortWord.{PortWord}
 use Rattle.blif_reader.specs.Names.{same_name, is_same_kind, named_ports, words_of_kind, repeats_port, is_redefined}
 use Rattle.hier_blif.specs.declared.fault.HierKind.TheVariants as wrong
 use Rattle.hier_blif.specs.declared.model.InstanceLine.{InstanceLine}
@@ -61,28 +61,28 @@ name_differs : (kind other : Bool) → kind ≡ true → (kind && other) ≡ fal
 name_differs true other e h = h
 name_differs false other e h = cc e
 
-differ_of_kind : (kind : PortKind) (earlier : List Port) (port e : Port) → Contains earlier e → e.kind ≡ kind → is_same_kind port.kind kind ≡ true → repeats_port earlier port ≡ false → bytes_eq port.word.bytes e.word.bytes ≡ false
+differ_of_kind : (kind : PortKind) (earlier : List PortWord) (port e : PortWord) → Contains earlier e → e.kind ≡ kind → is_same_kind port.kind kind ≡ true → repeats_port earlier port ≡ false → bytes_eq port.word.bytes e.word.bytes ≡ false
 differ_of_kind kind earlier port e held is same h =
-    let none = All-contains (λ (other : Port). (is_same_kind other.kind port.kind && same_name port.word other.word) ≡ false) earlier e (none_passes (λ (other : Port). is_same_kind other.kind port.kind && same_name port.word other.word) earlier h) held in
+    let none = All-contains (λ (other : PortWord). (is_same_kind other.kind port.kind && same_name port.word other.word) ≡ false) earlier e (none_passes (λ (other : PortWord). is_same_kind other.kind port.kind && same_name port.word other.word) earlier h) held in
     let kinds : is_same_kind e.kind port.kind ≡ true = ap (λ k. is_same_kind e.kind k) (kinds_same port.kind kind same ∙ sym is) ∙ kind_itself e.kind in
     name_differs (is_same_kind e.kind port.kind) (same_name port.word e.word) kinds none
 
-of_kind_by : (t : Bool) (kind : PortKind) (port e : Port) (ports : List Port) → is_same_kind port.kind kind ≡ t → (t ≡ true → bytes_eq port.word.bytes e.word.bytes ≡ false) → All (λ (word : Piece). bytes_eq word.bytes e.word.bytes ≡ false) (words_of_kind kind ports) → All (λ (word : Piece). bytes_eq word.bytes e.word.bytes ≡ false) (map (λ (p : Port). p.word) (cond t (port ∷ filter (λ (p : Port). is_same_kind p.kind kind) ports) (filter (λ (p : Port). is_same_kind p.kind kind) ports)))
+of_kind_by : (t : Bool) (kind : PortKind) (port e : PortWord) (ports : List PortWord) → is_same_kind port.kind kind ≡ t → (t ≡ true → bytes_eq port.word.bytes e.word.bytes ≡ false) → All (λ (word : Piece). bytes_eq word.bytes e.word.bytes ≡ false) (words_of_kind kind ports) → All (λ (word : Piece). bytes_eq word.bytes e.word.bytes ≡ false) (map (λ (p : PortWord). p.word) (cond t (port ∷ filter (λ (p : PortWord). is_same_kind p.kind kind) ports) (filter (λ (p : PortWord). is_same_kind p.kind kind) ports)))
 of_kind_by true kind port e ports is here rest =
     All-cons (λ (word : Piece). bytes_eq word.bytes e.word.bytes ≡ false) port.word (words_of_kind kind ports) (here refl) rest
 of_kind_by false kind port e ports is here rest = rest
 
-kind_apart_from : (kind : PortKind) (earlier ports : List Port) (e : Port) → Contains earlier e → e.kind ≡ kind → found_after repeats_port earlier ports ≡ [] → All (λ (word : Piece). bytes_eq word.bytes e.word.bytes ≡ false) (words_of_kind kind ports)
+kind_apart_from : (kind : PortKind) (earlier ports : List PortWord) (e : PortWord) → Contains earlier e → e.kind ≡ kind → found_after repeats_port earlier ports ≡ [] → All (λ (word : Piece). bytes_eq word.bytes e.word.bytes ≡ false) (words_of_kind kind ports)
 kind_apart_from kind earlier [] e held is h = All-nil (λ (word : Piece). bytes_eq word.bytes e.word.bytes ≡ false)
 kind_apart_from kind earlier (port ∷ ports) e held is h =
     let here = clear repeats_port earlier port ports h in
     of_kind_by (is_same_kind port.kind kind) kind port e ports refl (λ same. differ_of_kind kind earlier port e held is same here.0) (kind_apart_from kind (earlier ++ port ∷ []) ports e (Contains-append_left earlier (port ∷ []) e held) is here.1)
 
-kind_apart_by : (t : Bool) (kind : PortKind) (port : Port) (ports : List Port) → is_same_kind port.kind kind ≡ t → (t ≡ true → All (λ (word : Piece). bytes_eq word.bytes port.word.bytes ≡ false) (words_of_kind kind ports)) → AreApart (λ (word : Piece). word.bytes) (words_of_kind kind ports) → AreApart (λ (word : Piece). word.bytes) (map (λ (p : Port). p.word) (cond t (port ∷ filter (λ (p : Port). is_same_kind p.kind kind) ports) (filter (λ (p : Port). is_same_kind p.kind kind) ports)))
+kind_apart_by : (t : Bool) (kind : PortKind) (port : PortWord) (ports : List PortWord) → is_same_kind port.kind kind ≡ t → (t ≡ true → All (λ (word : Piece). bytes_eq word.bytes port.word.bytes ≡ false) (words_of_kind kind ports)) → AreApart (λ (word : Piece). word.bytes) (words_of_kind kind ports) → AreApart (λ (word : Piece). word.bytes) (map (λ (p : PortWord). p.word) (cond t (port ∷ filter (λ (p : PortWord). is_same_kind p.kind kind) ports) (filter (λ (p : PortWord). is_same_kind p.kind kind) ports)))
 kind_apart_by true kind port ports is here rest = (here refl, rest)
 kind_apart_by false kind port ports is here rest = rest
 
-kind_apart : (kind : PortKind) (earlier ports : List Port) → found_after repeats_port earlier ports ≡ [] → AreApart (λ (word : Piece). word.bytes) (words_of_kind kind ports)
+kind_apart : (kind : PortKind) (earlier ports : List PortWord) → found_after repeats_port earlier ports ≡ [] → AreApart (λ (word : Piece). word.bytes) (words_of_kind kind ports)
 kind_apart kind earlier [] h = tt
 kind_apart kind earlier (port ∷ ports) h =
     let here = clear repeats_port earlier port ports h in
@@ -97,10 +97,10 @@ no_inputs : (words : List Piece) → words_of_kind Input (named_ports Output wor
 no_inputs [] = refl
 no_inputs (word ∷ words) = no_inputs words
 
-words-append : (one other : List Port) → words_of_kind Input (one ++ other) ≡ words_of_kind Input one ++ words_of_kind Input other
+words-append : (one other : List PortWord) → words_of_kind Input (one ++ other) ≡ words_of_kind Input one ++ words_of_kind Input other
 words-append one other =
-    let test = λ (p : Port). is_same_kind p.kind Input in
-    ap (map (λ (p : Port). p.word)) (filter-append test one other) ∙ map-append (λ (p : Port). p.word) (filter test one) (filter test other)
+    let test = λ (p : PortWord). is_same_kind p.kind Input in
+    ap (map (λ (p : PortWord). p.word)) (filter-append test one other) ∙ map-append (λ (p : PortWord). p.word) (filter test one) (filter test other)
 
 inputs_of_line : (line : ModelLine) → words_of_kind Input (ports_on line) ≡ inputs_on line
 inputs_of_line (Inputs words) = all_inputs words
@@ -130,7 +130,7 @@ named_apart models h =
     let redefined = parts_empty (redefined_faults models) models seven.0 in
     record {
       inputs = λ model held.
-          let none = map_empty (λ (p : Port). p.word) (found_in repeats_port (ports_of model)) (map_empty (fault_at wrong.DuplicatePort) _ (All-contains (λ m. port_faults m ≡ []) models model ports held)) in
+          let none = map_empty (λ (p : PortWord). p.word) (found_in repeats_port (ports_of model)) (map_empty (fault_at wrong.DuplicatePort) _ (All-contains (λ m. port_faults m ≡ []) models model ports held)) in
           subst (AreApart (λ (word : Piece). word.bytes)) (inputs_among_ports model.lines) (kind_apart Input [] (ports_of model) none);
       defined = λ model held.
           let none = map_empty (fault_at wrong.Redefined) _ (All-contains (λ m. redefined_faults models m ≡ []) models model redefined held) in

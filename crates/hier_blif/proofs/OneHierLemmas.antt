@@ -114,7 +114,7 @@ module _ (end : ℕ) (lines : List (List Piece)) where
   no_recursion f fault good =
       let P = λ (l : InstanceLine). HasDepth (models_of lines) (model_of (models_of lines) l) in
       let has = All-head P fault.line fault.first.after (All-back P fault.first.before (fault.line ∷ fault.first.after) (subst (All P) fault.first.whole good.deep)) in
-      cc (has.1, fault.first.endless has.0)
+      cc (has.1, fault.first.recursive has.0)
 
   no_size : (f : HierFault) (depth : ℕ) → IsSizeFault end lines f → AreSmall lines depth → ⊥
   no_size f depth fault good =
@@ -146,7 +146,7 @@ module _ (end : ℕ) (lines : List (List Piece)) where
   one_recursion : IsOne (IsRecursionFault lines)
   one_recursion f g one other =
       let P = λ (l : InstanceLine). HasDepth (models_of lines) (model_of (models_of lines) l) in
-      let same = first_same P one.first.before other.first.before one.line other.line one.first.after other.first.after (sym one.first.whole ∙ other.first.whole) one.first.deep other.first.deep (λ has. cc (has.1, one.first.endless has.0)) (λ has. cc (has.1, other.first.endless has.0)) in
+      let same = first_same P one.first.before other.first.before one.line other.line one.first.after other.first.after (sym one.first.whole ∙ other.first.whole) one.first.deep other.first.deep (λ has. cc (has.1, one.first.recursive has.0)) (λ has. cc (has.1, other.first.recursive has.0)) in
       one.is ∙ (ap (λ (l : InstanceLine). at_recursion l.at) same ∙ sym other.is)
 
   one_size : IsOne (IsSizeFault end lines)

@@ -15,5 +15,5 @@ abbrev pub actual_of : List ℕ → List ℕ
 actual_of word = drop (length (formal_of word) + 1) word
 
 -- a word that has no `=`, or nothing before its first one or nothing after it: then one of the two parts is empty
-abbrev pub is_no_binding : Piece → Bool
-is_no_binding word = length (formal_of word.bytes) == 0 || length (actual_of word.bytes) == 0
+abbrev pub is_malformed_binding : Piece → Bool
+is_malformed_binding word = length (formal_of word.bytes) == 0 || length (actual_of word.bytes) == 0

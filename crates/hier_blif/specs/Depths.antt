@@ -1,5 +1,6 @@
 -- How deep models have instances in them, and how many. A model without instances has depth 1, another one is one
--- deeper than the deepest model of its instances; a model that has an instance of itself in it has no depth.
+-- deeper than the deepest model of its instances; a model has no depth where it, or a model in it, has an instance of
+-- itself in it.
 use Rattle.std.specs.Prelude.{◌≡◌, ℕ, zero, suc, ◌+◌, Bool, true, false, List, ◌∷◌, ◌++◌, length, All}
 use Rattle.std.specs.List.{list_all, sum_by}
 use Rattle.hier_blif.specs.declared.model.InstanceLine.{InstanceLine}
@@ -18,12 +19,12 @@ abbrev pub HasNoDepth : List BlifModel → BlifModel → Type 0
 HasNoDepth models model = (depth : ℕ) → is_within models depth model ≡ false
 
 -- The first of the instances of all models whose model has no depth.
-pub record IsFirstEndless (models : List BlifModel) (line : InstanceLine) : Type 0 where
+pub record IsFirstRecursive (models : List BlifModel) (line : InstanceLine) : Type 0 where
   pub before : List InstanceLine
   pub after : List InstanceLine
   pub whole : all_instances models ≡ before ++ line ∷ after
   pub deep : All (λ other. HasDepth models (model_of models other)) before
-  pub endless : HasNoDepth models (model_of models line)
+  pub recursive : HasNoDepth models (model_of models line)
 
 -- how many instances a model within this depth makes, itself as one, and how many covers they have
 abbrev pub instances_within : List BlifModel → ℕ → BlifModel → ℕ

@@ -1,5 +1,5 @@
--- Files of models: the circuit that a file is, or its first fault (Berkeley Logic Interchange Format, 1992; the order of
--- faults and the limits are this project's).
+-- Files of models: the circuit that a file is, or its first fault (Berkeley Logic Interchange Format, 1992; the order
+-- of faults and the limits are this project's).
 use Rattle.std.specs.Prelude.{◌≡◌, ℕ, ◌<◌, ◌≤◌, ◌⊎◌, Bool, true, List, [], length, map, All, Some, slice_index_or}
 use Rattle.text_core.specs.Piece.{Piece}
 use Rattle.circuits.specs.Netlists.{Net, function_of}
@@ -18,7 +18,7 @@ use Rattle.hier_blif.specs.LineFaults.{fault_at, AreSound, IsLineFault}
 use Rattle.hier_blif.specs.Names.{inputs_of, outputs_of, all_instances, model_of}
 use Rattle.hier_blif.specs.NameFaults.{name_faults}
 use Rattle.hier_blif.specs.Stops.{first_of}
-use Rattle.hier_blif.specs.Depths.{is_within, HasDepth, IsFirstEndless, instances_within, size_within}
+use Rattle.hier_blif.specs.Depths.{is_within, HasDepth, IsFirstRecursive, instances_within, size_within}
 use Rattle.hier_blif.specs.Nested.{OfNames, FitsNested, nested_outputs, AreSameOnNames}
 use Rattle.hier_blif.specs.Flattening.{FlatCover, flat_covers, IsFlattened}
 
@@ -31,7 +31,7 @@ pub record AreNamed (lines : List (List Piece)) : Type 0 where
   pub sound : AreSound lines
   pub named : name_faults (models_of lines) ≡ []
 
--- And no instance's model has an instance of itself in it.
+-- And each instance's model has a depth: neither it nor a model in it has an instance of itself in it.
 pub record AreDeep (lines : List (List Piece)) : Type 0 where
   pub named : AreNamed lines
   pub deep : All (λ line. HasDepth (models_of lines) (model_of (models_of lines) line)) (all_instances (models_of lines))
@@ -65,7 +65,7 @@ pub record IsNameFault (lines : List (List Piece)) (fault : HierFault) : Type 0 
 pub record IsRecursionFault (lines : List (List Piece)) (fault : HierFault) : Type 0 where
   pub named : AreNamed lines
   pub line : InstanceLine
-  pub first : IsFirstEndless (models_of lines) line
+  pub first : IsFirstRecursive (models_of lines) line
   pub is : fault ≡ record { kind = wrong.Recursion; at = line.at }
 
 -- More instances and covers than the limit, at the file's end.
@@ -112,7 +112,7 @@ pub record IsGatesFault (end : ℕ) (lines : List (List Piece)) (fault : HierFau
   pub many : most_gates < gates_in circuit
   pub is : fault ≡ record { kind = wrong.TooManyGates; at = end }
 
--- The first fault of a file: of its lines; of names; of instances in themselves; of the size; of the top's ports; of
+-- The first fault of a file: of its lines; of names; of instances without a depth; of the size; of the top's ports; of
 -- cycles; of the number of gates.
 abbrev pub IsFaultOfLines : ℕ → List (List Piece) → HierFault → Type 0
 IsFaultOfLines end lines fault =

@@ -1,4 +1,4 @@
--- The numbers that the program prints for what is wrong with a file of models, and what faults of rows are here.
+-- The numbers of what is wrong with a file of models, and what faults of rows are here.
 use Rattle.std.specs.Prelude.{ℕ}
 use Rattle.net_file.specs.declared.fault.NetKind.{NetKind}
 use Rattle.net_file.specs.declared.fault.NetKind.TheVariants as row

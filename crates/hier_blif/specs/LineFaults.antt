@@ -17,7 +17,7 @@ use Rattle.hier_blif.specs.declared.fault.HierFault.{HierFault}
 use Rattle.hier_blif.specs.declared.fault.HierKind.{HierKind}
 use Rattle.hier_blif.specs.declared.fault.HierKind.TheVariants as wrong
 use Rattle.hier_blif.specs.Kinds.{kind_of_row}
-use Rattle.hier_blif.specs.Bindings.{is_no_binding}
+use Rattle.hier_blif.specs.Bindings.{is_malformed_binding}
 
 -- a fault at a word
 abbrev pub fault_at : HierKind → Piece → HierFault
@@ -54,7 +54,7 @@ model_fault taken line =
 abbrev pub instance_fault : List Piece → Option HierFault
 instance_fault line =
     if length line == 1 then at_line wrong.Directive line
-    else option_map (fault_at wrong.Binding) (find is_no_binding (drop 2 line))
+    else option_map (fault_at wrong.Binding) (find is_malformed_binding (drop 2 line))
 
 -- what is wrong with a line, by what it is, whether its name is taken as a model's, and what is wrong with it as a row
 abbrev pub fault_by_directive : Bool → Option NetKind → List Piece → Directive → Option HierFault

@@ -5,7 +5,7 @@ use Rattle.std.specs.List.{flat_map, list_any, position_or_len}
 use Rattle.std.specs.Str.{bytes_eq}
 use Rattle.text_core.specs.Piece.{Piece}
 use Rattle.circuits.specs.declared.port.PortKind.TheVariants as port
-use Rattle.blif_reader.specs.declared.survey.Port.{Port}
+use Rattle.blif_reader.specs.declared.survey.PortWord.{PortWord}
 use Rattle.blif_reader.specs.Names.{named_ports}
 use Rattle.hier_blif.specs.declared.model.CoverLine.{CoverLine}
 use Rattle.hier_blif.specs.declared.model.InstanceLine.{InstanceLine}
@@ -31,12 +31,12 @@ abbrev pub outputs_of : BlifModel → List Piece
 outputs_of model = flat_map outputs_on model.lines
 
 -- ports of both kinds
-abbrev pub ports_on : ModelLine → List Port
+abbrev pub ports_on : ModelLine → List PortWord
 ports_on (Inputs words) = named_ports port.Input words
 ports_on (Outputs words) = named_ports port.Output words
 ports_on other = []
 
-abbrev pub ports_of : BlifModel → List Port
+abbrev pub ports_of : BlifModel → List PortWord
 ports_of model = flat_map ports_on model.lines
 
 -- the covers of a model, and its instances

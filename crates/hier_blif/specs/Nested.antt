@@ -1,5 +1,5 @@
--- What a circuit of models means (Berkeley Logic Interchange Format, 1992): each instance has the names of its model for
--- itself, and shares those that are bound with the instance in which it stands.
+-- What a circuit of models means (Berkeley Logic Interchange Format, 1992): each instance has the names of its model
+-- for itself, and shares those that are bound with the instance in which it stands.
 use Rattle.std.specs.Prelude.{◌≡◌, ℕ, Bool, true, List, [], ◌∷◌, ◌++◌, map, All, Some, slice_get}
 use Rattle.circuits.specs.Literals.{EachAt, bit}
 use Rattle.circuits.specs.Circuits.{cover_bit}

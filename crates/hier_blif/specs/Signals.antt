@@ -1,5 +1,5 @@
--- A numbering of the names of all instances, worked out from the top down: which cover of an instance defines a name, and
--- what its inputs are bound to.
+-- A numbering of the names of all instances, worked out from the top down: which cover of an instance defines a name,
+-- and what its inputs are bound to.
 use Rattle.std.specs.Prelude.{ℕ, zero, suc, ◌+◌, List, [], ◌∷◌, length, filter, take, Option, None, Some, slice_get, if◌then◌else◌}
 use Rattle.std.specs.List.{find, position_or_len}
 use Rattle.std.specs.Str.{bytes_eq}

@@ -2,7 +2,7 @@
 
 ghost use Rattle.std.specs.Prelude.{◌≡◌, ◌<◌, ◌≤◌, length, option_map};
 ghost use Rattle.std.specs.List.{find, position_or_len};
-ghost use Rattle.hier_blif.specs.Bindings.{is_equals, formal_of, actual_of, is_no_binding};
+ghost use Rattle.hier_blif.specs.Bindings.{is_equals, formal_of, actual_of, is_malformed_binding};
 
 use text_core::Span;
 
@@ -29,19 +29,19 @@ fn equals_place(word: &[u8]) -> usize
     word.iter().take_while(|byte| **byte != b'=').count()
 }
 
-/// Whether a word binds nothing: it has no `=`, or nothing before it, or nothing after it.
-fn is_no_binding(word: &Span<'_>) -> bool
-    ensures { result ≡ is_no_binding word.now }
+/// Whether a word is no binding: it has no `=`, or nothing before it, or nothing after it.
+fn is_malformed_binding(word: &Span<'_>) -> bool
+    ensures { result ≡ is_malformed_binding word.now }
 {
     formal_of(word.bytes()).is_empty() | actual_of(word.bytes()).is_empty()
 }
 
-/// The place of the first word that binds nothing.
-pub(crate) fn find_no_binding(words: &[Span<'_>]) -> Option<u64>
-    ensures { result ≡ option_map (λ word. word.at) (find is_no_binding words.now) }
+/// The place of the first word that is no binding.
+pub(crate) fn find_malformed_binding(words: &[Span<'_>]) -> Option<u64>
+    ensures { result ≡ option_map (λ word. word.at) (find is_malformed_binding words.now) }
 {
     for word in words.iter() {
-        if is_no_binding(word) {
+        if is_malformed_binding(word) {
             return Some(word.at());
         }
     }

@@ -1,4 +1,4 @@
-//! Why a hierarchy wasn't read.
+//! Why a file of models wasn't read.
 
 ghost use Rattle.std.specs.Prelude.{◌≡◌};
 ghost use Rattle.hier_blif.specs.Kinds.{kind_number, kind_of_row};
@@ -8,8 +8,8 @@ use std::alloc::{AllocError, AllocFailed};
 use std::fmt;
 use thiserror::Error;
 
-/// What is wrong with a file of models. Each kind has a number, which the program prints; those up to 32 have the
-/// numbers of the same faults of a file of one model.
+/// What is wrong with a file of models. Each kind has a number; those up to 32 have the numbers of the same faults of a
+/// file of one model.
 #[derive(Clone, Copy, Debug, Drop, PartialEq, Eq)]
 pub enum HierKind {
     /// 4: the top has more inputs than the limit.
@@ -55,7 +55,7 @@ pub enum HierKind {
     FormalTwice,
     /// 45: an input of the model isn't bound.
     Unbound,
-    /// 46: an instance's model has an instance of itself in it, however deep.
+    /// 46: an instance's model has no depth: it, or a model in it, has an instance of itself in it.
     Recursion,
     /// 47: the flattened circuit has too many instances and covers.
     TooBig,
@@ -158,7 +158,7 @@ pub enum HierStop {
     /// The file is malformed: its first fault.
     #[error("{0}")]
     Fault(HierFault),
-    /// There was no memory for the netlist.
+    /// There was no memory for the models.
     #[error("out of memory")]
     Memory,
 }

@@ -27,7 +27,7 @@ pub fn flattened_means_nested()
         → HasFunction models top graph }
 {}
 
-/// A file of models is one flat circuit at most, or it has one first fault, at one place: one of them, and never both.
+/// A file of models is one flat circuit at most, and has one first fault at most, at one place; never both.
 pub fn hier_blif_is_a_format()
     ensures one { (bytes : List ℕ) (one_depth other_depth : ℕ) (one other : Circuit)
         → AreHierarchy (blif_lines bytes) one_depth one

@@ -16,7 +16,7 @@ ghost use Rattle.hier_blif.specs.Models.{models_of, no_name, empty_model};
 ghost use Rattle.hier_blif.specs.LineFaults.{IsLineFault, AreSound};
 ghost use Rattle.hier_blif.specs.Reading.{Advances, IsReading, closed, fault_of, with_lines, with_row};
 
-use crate::bindings::find_no_binding;
+use crate::bindings::find_malformed_binding;
 use crate::fault::{HierKind, HierStop, fault_at};
 use crate::model::{BlifModel, CoverLine, InstanceLine, ModelLine};
 use blif_reader::{
@@ -133,16 +133,16 @@ impl<'a> Reader<'a> {
     {
         let at = first.at();
         // Only the cover tells how wide a row should be, so that a row is in one is asked first.
-        let Some(known) = self.in_cover else {
+        let Some(open) = self.in_cover else {
             return Err(fault_at(at, HierKind::RowOutside));
         };
         let Some(row) = words_of_row(first, lines) else {
             return Err(fault_at(at, HierKind::RowWidth));
         };
-        let output = known.check_row(&row).map_err(|kind| row_fault(at, kind))?;
+        let output = open.check_row(&row).map_err(|kind| row_fault(at, kind))?;
         self.add_row(alloc, &row, output)?;
         self.in_cover = Some(OpenCover {
-            operands: known.operands,
+            operands: open.operands,
             output: Some(output),
         });
         self.begun = true;
@@ -201,7 +201,7 @@ impl<'a> Reader<'a> {
             return Err(fault_at(at, HierKind::Directive));
         };
         let words = take_words(alloc, lines)?;
-        if let Some(word) = find_no_binding(&words) {
+        if let Some(word) = find_malformed_binding(&words) {
             return Err(fault_at(word, HierKind::Binding));
         }
         let bindings = Items::from_vec(words);

@@ -6,25 +6,22 @@ use Rattle.std.proofs.lemmas.List.{drop_all, drop_at, drop_more, get_or_default,
 use Rattle.std.proofs.lemmas.List.Elements.{All-get_or}
 use Rattle.cnf_core.specs.declared.literal.SatLit.{SatLit}
 use Rattle.cnf_core.specs.declared.log.LogLine.{LogLine}
-use Rattle.line_codec.specs.LineBytes.{AreWords, IsOfWords, IsWord, ReadsBack, clause_bytes, groups, line_bytes, literal_numbers, number_bytes, numbers_bytes, step_bytes, steps_bytes}
+use Rattle.text_core.specs.Groups.{groups}
+use Rattle.text_core.proofs.Extending.{one_part}
+use Rattle.line_codec.specs.LineBytes.{AreWords, IsOfWords, IsWord, ReadsBack, clause_bytes, line_bytes, literal_numbers, number_bytes, numbers_bytes, delta_bytes, deltas_bytes}
 
 -- ---- written
 
--- a part was written of what was left
-pub one_part : (now new written left whole : List ℕ) → now ++ (written ++ left) ≡ whole → new ≡ now ++ written → new ++ left ≡ whole
-one_part now new written left whole before put =
-    ap (λ text. text ++ left) put ∙ append_assoc now written left ∙ before
-
 -- one number more, of those that are left
-pub steps_more : (now new : List ℕ) (from to : ℕ) (numbers whole : List ℕ) (k : ℕ) (d : ℕ) → k < length numbers → to ≡ get_or numbers k d → now ++ steps_bytes from (drop k numbers) ≡ whole → new ≡ now ++ step_bytes from to → new ++ steps_bytes to (drop (k + 1) numbers) ≡ whole
-steps_more now new from to numbers whole k d there to_is before put =
+pub deltas_more : (now new : List ℕ) (from to : ℕ) (numbers whole : List ℕ) (k : ℕ) (d : ℕ) → k < length numbers → to ≡ get_or numbers k d → now ++ deltas_bytes from (drop k numbers) ≡ whole → new ≡ now ++ delta_bytes from to → new ++ deltas_bytes to (drop (k + 1) numbers) ≡ whole
+deltas_more now new from to numbers whole k d there to_is before put =
     let left : drop k numbers ≡ to ∷ drop (k + 1) numbers = drop_more numbers k d there ∙ ap (λ n. n ∷ drop (k + 1) numbers) (sym to_is) in
-    one_part now new (step_bytes from to) (steps_bytes to (drop (k + 1) numbers)) whole (ap (λ ns. now ++ steps_bytes from ns) (sym left) ∙ before) put
+    one_part now new (delta_bytes from to) (deltas_bytes to (drop (k + 1) numbers)) whole (ap (λ ns. now ++ deltas_bytes from ns) (sym left) ∙ before) put
 
 -- all of them
-pub steps_all : (now whole : List ℕ) (from : ℕ) (numbers : List ℕ) (k : ℕ) → length numbers ≤ k → now ++ steps_bytes from (drop k numbers) ≡ whole → now ≡ whole
-steps_all now whole from numbers k past before =
-    sym (append-nil now) ∙ (ap (λ ns. now ++ steps_bytes from ns) (sym (drop_all k numbers past)) ∙ before)
+pub deltas_all : (now whole : List ℕ) (from : ℕ) (numbers : List ℕ) (k : ℕ) → length numbers ≤ k → now ++ deltas_bytes from (drop k numbers) ≡ whole → now ≡ whole
+deltas_all now whole from numbers k past before =
+    sym (append-nil now) ∙ (ap (λ ns. now ++ deltas_bytes from ns) (sym (drop_all k numbers past)) ∙ before)
 
 -- a list's length and its numbers have 64 bits, where all was written
 pub clause_words : {E : Type 0} (r : Result (Unit {0}) E) (clause : List SatLit) (count : ℕ) → count ≡ length clause → IsWord count → OnOk r (All IsWord (literal_numbers clause)) → OnOk r (AreWords (literal_numbers clause))
@@ -50,31 +47,31 @@ as_literal n = record { 0 = n }
 -- The next of some numbers was read, and the others are left.
 pub record IsNext (numbers rest : List ℕ) (count to : ℕ) (bytes : List ℕ) : Type 0 where
   pub number_is : (d : ℕ) → to ≡ get_or numbers count d
-  pub left : bytes ≡ steps_bytes to (drop (count + 1) numbers) ++ rest
+  pub left : bytes ≡ deltas_bytes to (drop (count + 1) numbers) ++ rest
 
-pub next_is : (numbers rest : List ℕ) (from to count : ℕ) (before after : List ℕ) → count < length numbers → All IsWord numbers → before ≡ steps_bytes from (drop count numbers) ++ rest → ReadsBack IsWord (step_bytes from) before after to → IsNext numbers rest count to after
+pub next_is : (numbers rest : List ℕ) (from to count : ℕ) (before after : List ℕ) → count < length numbers → All IsWord numbers → before ≡ deltas_bytes from (drop count numbers) ++ rest → ReadsBack IsWord (delta_bytes from) before after to → IsNext numbers rest count to after
 next_is numbers rest from to count before after there words left told =
     let n = get_or numbers count 0 in
-    let others = steps_bytes n (drop (count + 1) numbers) in
-    let first : before ≡ step_bytes from n ++ (others ++ rest) = left ∙ (ap (λ ns. steps_bytes from ns ++ rest) (drop_more numbers count 0 there) ∙ append_assoc (step_bytes from n) others rest) in
+    let others = deltas_bytes n (drop (count + 1) numbers) in
+    let first : before ≡ delta_bytes from n ++ (others ++ rest) = left ∙ (ap (λ ns. deltas_bytes from ns ++ rest) (drop_more numbers count 0 there) ∙ append_assoc (delta_bytes from n) others rest) in
     let read = told n (others ++ rest) (All-get_or IsWord numbers count 0 there words) first in
     record {
       number_is = λ d. read.0 ∙ get_or_default numbers count 0 d there;
-      left = read.1 ∙ ap (λ m. steps_bytes m (drop (count + 1) numbers) ++ rest) (sym read.0);
+      left = read.1 ∙ ap (λ m. deltas_bytes m (drop (count + 1) numbers) ++ rest) (sym read.0);
     }
 
 -- one number more
-pub numbers_more : (numbers rest : List ℕ) (from to count : ℕ) (before after items more : List ℕ) → count < length numbers → All IsWord numbers → items ≡ take count numbers → before ≡ steps_bytes from (drop count numbers) ++ rest → ReadsBack IsWord (step_bytes from) before after to → more ≡ items ++ to ∷ [] → (more ≡ take (count + 1) numbers) × (after ≡ steps_bytes to (drop (count + 1) numbers) ++ rest)
+pub numbers_more : (numbers rest : List ℕ) (from to count : ℕ) (before after items more : List ℕ) → count < length numbers → All IsWord numbers → items ≡ take count numbers → before ≡ deltas_bytes from (drop count numbers) ++ rest → ReadsBack IsWord (delta_bytes from) before after to → more ≡ items ++ to ∷ [] → (more ≡ take (count + 1) numbers) × (after ≡ deltas_bytes to (drop (count + 1) numbers) ++ rest)
 numbers_more numbers rest from to count before after items more there words items_are left told put =
     let next = next_is numbers rest from to count before after there words left told in
     (put ∙ (ap (λ xs. xs ++ to ∷ []) items_are ∙ (ap (λ n. take count numbers ++ n ∷ []) (next.number_is 0) ∙ sym (take_more numbers count 0 there))), next.left)
 
-pub numbers_all : (numbers rest : List ℕ) (from count : ℕ) (bytes items : List ℕ) → length numbers ≤ count → items ≡ take count numbers → bytes ≡ steps_bytes from (drop count numbers) ++ rest → (items ≡ numbers) × (bytes ≡ rest)
+pub numbers_all : (numbers rest : List ℕ) (from count : ℕ) (bytes items : List ℕ) → length numbers ≤ count → items ≡ take count numbers → bytes ≡ deltas_bytes from (drop count numbers) ++ rest → (items ≡ numbers) × (bytes ≡ rest)
 numbers_all numbers rest from count bytes items past items_are left =
-    (items_are ∙ take_all count numbers past, left ∙ ap (λ ns. steps_bytes from ns ++ rest) (drop_all count numbers past))
+    (items_are ∙ take_all count numbers past, left ∙ ap (λ ns. deltas_bytes from ns ++ rest) (drop_all count numbers past))
 
 -- one literal more
-pub literals_more : (clause : List SatLit) (rest : List ℕ) (from to count : ℕ) (before after : List ℕ) (items more : List SatLit) → count < length clause → All IsWord (literal_numbers clause) → items ≡ take count clause → before ≡ steps_bytes from (drop count (literal_numbers clause)) ++ rest → ReadsBack IsWord (step_bytes from) before after to → more ≡ items ++ as_literal to ∷ [] → (more ≡ take (count + 1) clause) × (after ≡ steps_bytes to (drop (count + 1) (literal_numbers clause)) ++ rest)
+pub literals_more : (clause : List SatLit) (rest : List ℕ) (from to count : ℕ) (before after : List ℕ) (items more : List SatLit) → count < length clause → All IsWord (literal_numbers clause) → items ≡ take count clause → before ≡ deltas_bytes from (drop count (literal_numbers clause)) ++ rest → ReadsBack IsWord (delta_bytes from) before after to → more ≡ items ++ as_literal to ∷ [] → (more ≡ take (count + 1) clause) × (after ≡ deltas_bytes to (drop (count + 1) (literal_numbers clause)) ++ rest)
 literals_more clause rest from to count before after items more there words items_are left told put =
     let numbers = literal_numbers clause in
     let next = next_is numbers rest from to count before after (omega (arith, there, length-map clause (λ (l : SatLit). l.0))) words left told in
@@ -82,21 +79,21 @@ literals_more clause rest from to count before after items more there words item
     let is : to ≡ literal.0 = next.number_is 0 ∙ get_or-map (λ (l : SatLit). l.0) clause count (as_literal 0) 0 there in
     (put ∙ (ap (λ xs. xs ++ as_literal to ∷ []) items_are ∙ (ap (λ (n : ℕ). take count clause ++ as_literal n ∷ []) is ∙ sym (take_more clause count (as_literal 0) there))), next.left)
 
-pub literals_all : (clause : List SatLit) (rest : List ℕ) (from count : ℕ) (bytes : List ℕ) (items : List SatLit) → length clause ≤ count → items ≡ take count clause → bytes ≡ steps_bytes from (drop count (literal_numbers clause)) ++ rest → (items ≡ clause) × (bytes ≡ rest)
+pub literals_all : (clause : List SatLit) (rest : List ℕ) (from count : ℕ) (bytes : List ℕ) (items : List SatLit) → length clause ≤ count → items ≡ take count clause → bytes ≡ deltas_bytes from (drop count (literal_numbers clause)) ++ rest → (items ≡ clause) × (bytes ≡ rest)
 literals_all clause rest from count bytes items past items_are left =
-    (items_are ∙ take_all count clause past, left ∙ ap (λ ns. steps_bytes from ns ++ rest) (drop_all count (literal_numbers clause) (omega (arith, past, length-map clause (λ (l : SatLit). l.0)))))
+    (items_are ∙ take_all count clause past, left ∙ ap (λ ns. deltas_bytes from ns ++ rest) (drop_all count (literal_numbers clause) (omega (arith, past, length-map clause (λ (l : SatLit). l.0)))))
 
 -- a list after its length
-pub clause_read : {V E : Type 0} (items : V → List SatLit) (before mid after : List ℕ) (count : ℕ) (r : Result V E) → ReadsBack IsWord number_bytes before mid count → IfOk r (λ v. ReadsBack (λ clause. (length clause ≡ count) × All IsWord (literal_numbers clause)) (λ clause. steps_bytes 0 (literal_numbers clause)) mid after (items v)) → IfOk r (λ v. ReadsBack (λ clause. AreWords (literal_numbers clause)) clause_bytes before after (items v))
+pub clause_read : {V E : Type 0} (items : V → List SatLit) (before mid after : List ℕ) (count : ℕ) (r : Result V E) → ReadsBack IsWord number_bytes before mid count → IfOk r (λ v. ReadsBack (λ clause. (length clause ≡ count) × All IsWord (literal_numbers clause)) (λ clause. deltas_bytes 0 (literal_numbers clause)) mid after (items v)) → IfOk r (λ v. ReadsBack (λ clause. AreWords (literal_numbers clause)) clause_bytes before after (items v))
 clause_read items before mid after count (Ok v) told others = λ written rest words is.
     let numbers = literal_numbers written in
-    let first = told (length numbers) (steps_bytes 0 numbers ++ rest) words.few (is ∙ append_assoc (number_bytes (length numbers)) (steps_bytes 0 numbers) rest) in
+    let first = told (length numbers) (deltas_bytes 0 numbers ++ rest) words.few (is ∙ append_assoc (number_bytes (length numbers)) (deltas_bytes 0 numbers) rest) in
     others written rest (sym (length-map written (λ (l : SatLit). l.0)) ∙ sym first.0, words.each) first.1
 clause_read items before mid after count (Err e) told others = tt
 
-pub hints_read : {V E : Type 0} (items : V → List ℕ) (before mid after : List ℕ) (count : ℕ) (r : Result V E) → ReadsBack IsWord number_bytes before mid count → IfOk r (λ v. ReadsBack (λ numbers. (length numbers ≡ count) × All IsWord numbers) (steps_bytes 0) mid after (items v)) → IfOk r (λ v. ReadsBack AreWords numbers_bytes before after (items v))
+pub hints_read : {V E : Type 0} (items : V → List ℕ) (before mid after : List ℕ) (count : ℕ) (r : Result V E) → ReadsBack IsWord number_bytes before mid count → IfOk r (λ v. ReadsBack (λ numbers. (length numbers ≡ count) × All IsWord numbers) (deltas_bytes 0) mid after (items v)) → IfOk r (λ v. ReadsBack AreWords numbers_bytes before after (items v))
 hints_read items before mid after count (Ok v) told others = λ written rest words is.
-    let first = told (length written) (steps_bytes 0 written ++ rest) words.few (is ∙ append_assoc (number_bytes (length written)) (steps_bytes 0 written) rest) in
+    let first = told (length written) (deltas_bytes 0 written ++ rest) words.few (is ∙ append_assoc (number_bytes (length written)) (deltas_bytes 0 written) rest) in
     others written rest (sym first.0, words.each) first.1
 hints_read items before mid after count (Err e) told others = tt
 
@@ -119,7 +116,7 @@ some_group (suc more) n = cond_both (ltb n 128) (n ∷ []) ((128 + n % 128) ∷ 
 pub some_line : (line : LogLine) (rest : List ℕ) → 0 < length (line_bytes line ++ rest)
 some_line line rest =
     let number = number_bytes (length (literal_numbers line.clause)) in
-    let literals = steps_bytes 0 (literal_numbers line.clause) in
+    let literals = deltas_bytes 0 (literal_numbers line.clause) in
     let hints = numbers_bytes line.hints in
     omega (arith, some_group 9 (length (literal_numbers line.clause)), length-append number literals, length-append (number ++ literals) hints, length-append ((number ++ literals) ++ hints) rest)
 

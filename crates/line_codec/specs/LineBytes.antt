@@ -1,15 +1,11 @@
--- Lines of a log as bytes: each list of numbers as its length and the ways from one number to the next, in groups of seven bits,
--- the lowest first (LEB128: DWARF 5, section 7.6; the first group of a way has its direction in place of a seventh bit).
-use Rattle.std.specs.Prelude.{◌≡◌, ℕ, zero, suc, ◌+◌, ◌-◌, ◌/◌, ◌%◌, ◌^◌, ◌<◌, Bool, true, false, List, [], ◌∷◌, ◌++◌, length, map, All, nat_lt, nat_le}
+-- Lines of a log as bytes: each list of numbers as its length and the deltas from one number to the next, in LEB128
+-- (DWARF 5, section 7.6; the first group of a delta has its sign in place of a seventh bit).
+use Rattle.std.specs.Prelude.{◌≡◌, ℕ, ◌+◌, ◌-◌, ◌/◌, ◌%◌, ◌^◌, ◌<◌, Bool, true, false, List, [], ◌∷◌, ◌++◌, length, map, All, nat_le}
 use Rattle.std.specs.Prelude.{if◌then◌else◌}
 use Rattle.std.specs.List.{flat_map}
+use Rattle.text_core.specs.Groups.{groups}
 use Rattle.cnf_core.specs.declared.literal.SatLit.{SatLit}
 use Rattle.cnf_core.specs.declared.log.LogLine.{LogLine}
-
--- a number below 128 is its own last group; of any other the low seven bits come first, marked by the eighth
-abbrev pub groups : ℕ → ℕ → List ℕ
-groups zero n = n ∷ []
-groups (suc more) n = if nat_lt n 128 then n ∷ [] else (128 + n % 128) ∷ groups more (n / 128)
 
 -- a number of 64 bits has ten groups at most
 abbrev pub number_bytes : ℕ → List ℕ
@@ -19,30 +15,30 @@ number_bytes n = groups 9 n
 abbrev pub mark_if : Bool → ℕ → ℕ
 mark_if is_so bit = if is_so then bit else 0
 
--- the low six bits of how far a way goes stand in its first group, with its direction; the others follow, if there are any
+-- the low six bits of a delta's magnitude stand in its first group, with its sign and a mark where others follow
 abbrev pub low_of : ℕ → ℕ
-low_of far = if nat_le 64 far then far % 64 else far
+low_of magnitude = if nat_le 64 magnitude then magnitude % 64 else magnitude
 
-abbrev pub way_first : Bool → ℕ → ℕ
-way_first back far = mark_if (nat_le 64 far) 128 + mark_if back 64 + low_of far
+abbrev pub signed_first : Bool → ℕ → ℕ
+signed_first negative magnitude = mark_if (nat_le 64 magnitude) 128 + mark_if negative 64 + low_of magnitude
 
-abbrev pub way_rest : ℕ → List ℕ
-way_rest far = if nat_le 64 far then number_bytes (far / 64) else []
+abbrev pub signed_rest : ℕ → List ℕ
+signed_rest magnitude = if nat_le 64 magnitude then number_bytes (magnitude / 64) else []
 
-abbrev pub way_bytes : Bool → ℕ → List ℕ
-way_bytes back far = way_first back far ∷ way_rest far
+abbrev pub signed_bytes : Bool → ℕ → List ℕ
+signed_bytes negative magnitude = signed_first negative magnitude ∷ signed_rest magnitude
 
--- the way from one number to another
-abbrev pub step_bytes : ℕ → ℕ → List ℕ
-step_bytes from to = if nat_le from to then way_bytes false (to - from) else way_bytes true (from - to)
+-- the delta from one number to another
+abbrev pub delta_bytes : ℕ → ℕ → List ℕ
+delta_bytes from to = if nat_le from to then signed_bytes false (to - from) else signed_bytes true (from - to)
 
--- the ways from a number to the first of a list, from that one to the second, and so on
-abbrev pub steps_bytes : ℕ → List ℕ → List ℕ
-steps_bytes from [] = []
-steps_bytes from (to ∷ numbers) = step_bytes from to ++ steps_bytes to numbers
+-- the deltas from a number to the first of a list, from that one to the second, and so on
+abbrev pub deltas_bytes : ℕ → List ℕ → List ℕ
+deltas_bytes from [] = []
+deltas_bytes from (to ∷ numbers) = delta_bytes from to ++ deltas_bytes to numbers
 
 abbrev pub numbers_bytes : List ℕ → List ℕ
-numbers_bytes numbers = number_bytes (length numbers) ++ steps_bytes 0 numbers
+numbers_bytes numbers = number_bytes (length numbers) ++ deltas_bytes 0 numbers
 
 -- the numbers of literals
 abbrev pub literal_numbers : List SatLit → List ℕ

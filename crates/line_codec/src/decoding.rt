@@ -1,12 +1,14 @@
-//! Lines of a log, read from their bytes. What was written reads back. Bytes that are missing read as 0, and a number
-//! that has more than 64 bits as the greatest of those.
+//! Lines of a log, read from their bytes. What was written reads back. Bytes that are missing read as 0, a number that
+//! has more than 64 bits as the greatest of those, and a delta that leads below 0 as 0.
 
 ghost use Rattle.std.specs.Prelude.{◌≡◌, ◌+◌, ◌<◌, ◌≤◌, ◌∷◌, [], ⊤, All, IfNone, IfOk, IfSome, drop, length, nat_le};
 ghost use Rattle.std.specs.Prelude.{if◌then◌else◌, ◌-◌};
-ghost use Rattle.line_codec.specs.LineBytes.{AreWords, IsOfWords, IsWord, ReadsBack, clause_bytes, groups, line_bytes};
-ghost use Rattle.line_codec.specs.LineBytes.{literal_numbers, low_of, number_bytes, numbers_bytes, step_bytes};
-ghost use Rattle.line_codec.specs.LineBytes.{steps_bytes, way_rest};
+ghost use Rattle.text_core.specs.Groups.{groups};
+ghost use Rattle.line_codec.specs.LineBytes.{AreWords, IsOfWords, IsWord, ReadsBack, clause_bytes, line_bytes};
+ghost use Rattle.line_codec.specs.LineBytes.{literal_numbers, low_of, number_bytes, numbers_bytes, delta_bytes};
+ghost use Rattle.line_codec.specs.LineBytes.{deltas_bytes, signed_rest};
 
+use crate::layout::{GROUP_VALUES, LOW_VALUES, MORE, MORE_GROUPS, NEGATIVE};
 use cnf_core::{LogLine, SatLit};
 use items::Items;
 use std::alloc::{AllocError, Global};
@@ -53,13 +55,13 @@ fn next_literals(
 ) -> Result<Vec<SatLit>, AllocError>
     ensures reads { IfOk result
         (λ read. ReadsBack (λ clause. (length clause ≡ count) × All IsWord (literal_numbers clause))
-        (λ clause. steps_bytes 0 (literal_numbers clause)) cursor.old.bytes cursor.new.bytes read.items) }
+        (λ clause. deltas_bytes 0 (literal_numbers clause)) cursor.old.bytes cursor.new.bytes read.items) }
     ensures end { cursor.new.at + length cursor.new.bytes ≡ cursor.old.at + length cursor.old.bytes }
 {
     let mut literals = Vec::new(alloc);
     let mut from = 0;
     for _literal in 0..count {
-        from = next_step(cursor, from);
+        from = next_delta(cursor, from);
         literals.push(SatLit(from))?;
     }
     Ok(literals)
@@ -72,42 +74,43 @@ fn next_hints(alloc: Global, cursor: &mut Cursor<'_>) -> Result<Vec<u64>, AllocE
     ensures end { cursor.new.at + length cursor.new.bytes ≡ cursor.old.at + length cursor.old.bytes }
 {
     let count = next_number(cursor);
-    next_steps(alloc, cursor, count)
+    next_deltas(alloc, cursor, count)
 }
 
-fn next_steps(alloc: Global, cursor: &mut Cursor<'_>, count: u64) -> Result<Vec<u64>, AllocError>
+fn next_deltas(alloc: Global, cursor: &mut Cursor<'_>, count: u64) -> Result<Vec<u64>, AllocError>
     ensures reads { IfOk result
-        (λ read. ReadsBack (λ numbers. (length numbers ≡ count) × All IsWord numbers) (steps_bytes 0)
+        (λ read. ReadsBack (λ numbers. (length numbers ≡ count) × All IsWord numbers) (deltas_bytes 0)
         cursor.old.bytes cursor.new.bytes read.items) }
     ensures end { cursor.new.at + length cursor.new.bytes ≡ cursor.old.at + length cursor.old.bytes }
 {
     let mut numbers = Vec::new(alloc);
     let mut from = 0;
     for _number in 0..count {
-        from = next_step(cursor, from);
+        from = next_delta(cursor, from);
         numbers.push(from)?;
     }
     Ok(numbers)
 }
 
-// Reads the way from a number, and answers where it leads.
-fn next_step(cursor: &mut Cursor<'_>, from: u64) -> u64
-    ensures reads { ReadsBack IsWord (step_bytes from) cursor.old.bytes cursor.new.bytes result }
+// Reads the delta from a number, and answers the number to which it leads.
+fn next_delta(cursor: &mut Cursor<'_>, from: u64) -> u64
+    ensures reads { ReadsBack IsWord (delta_bytes from) cursor.old.bytes cursor.new.bytes result }
     ensures end { cursor.new.at + length cursor.new.bytes ≡ cursor.old.at + length cursor.old.bytes }
 {
     let first = next_byte(cursor);
-    let short = without(first, 128);
-    let far = next_far(cursor, first >= 128, without(short, 64));
-    if short >= 64 {
-        from.saturating_sub(far)
+    let short = without(first, MORE);
+    let magnitude = next_magnitude(cursor, first >= MORE, without(short, NEGATIVE));
+    if short >= NEGATIVE {
+        from.saturating_sub(magnitude)
     } else {
-        from.saturating_add(far)
+        from.saturating_add(magnitude)
     }
 }
 
-// How far a way goes, of which the low six bits were read, and whether there are more.
-fn next_far(cursor: &mut Cursor<'_>, more: bool, low: u8) -> u64
-    ensures reads { ReadsBack (λ far. IsWord far × (more ≡ nat_le 64 far) × (low ≡ low_of far)) way_rest
+// The magnitude of a delta, of which the low six bits were read, and whether there are more.
+fn next_magnitude(cursor: &mut Cursor<'_>, more: bool, low: u8) -> u64
+    ensures reads { ReadsBack
+        (λ magnitude. IsWord magnitude × (more ≡ nat_le 64 magnitude) × (low ≡ low_of magnitude)) signed_rest
         cursor.old.bytes cursor.new.bytes result }
     ensures end { cursor.new.at + length cursor.new.bytes ≡ cursor.old.at + length cursor.old.bytes }
 {
@@ -115,7 +118,8 @@ fn next_far(cursor: &mut Cursor<'_>, more: bool, low: u8) -> u64
         return u64::from(low);
     }
     let high = next_number(cursor);
-    high.saturating_mul(64).saturating_add(u64::from(low))
+    high.saturating_mul(LOW_VALUES)
+        .saturating_add(u64::from(low))
 }
 
 // A byte less a bit, where it has at least so much.
@@ -129,7 +133,7 @@ fn next_number(cursor: &mut Cursor<'_>) -> u64
     ensures reads { ReadsBack IsWord number_bytes cursor.old.bytes cursor.new.bytes result }
     ensures end { cursor.new.at + length cursor.new.bytes ≡ cursor.old.at + length cursor.old.bytes }
 {
-    next_groups(cursor, 9)
+    next_groups(cursor, MORE_GROUPS)
 }
 
 // Reads a number that has this many groups after its first one at most.
@@ -138,15 +142,15 @@ fn next_groups(cursor: &mut Cursor<'_>, more: u32) -> u64
     ensures end { cursor.new.at + length cursor.new.bytes ≡ cursor.old.at + length cursor.old.bytes }
 {
     let group = next_byte(cursor);
-    if group < 128 {
+    if group < MORE {
         return u64::from(group);
     }
     if more == 0 {
         return u64::from(group);
     }
     let high = next_groups(cursor, more - 1);
-    high.saturating_mul(128)
-        .saturating_add(u64::from(group - 128))
+    high.saturating_mul(GROUP_VALUES)
+        .saturating_add(u64::from(group - MORE))
 }
 
 fn next_byte(cursor: &mut Cursor<'_>) -> u8

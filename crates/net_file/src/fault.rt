@@ -22,7 +22,7 @@ pub enum NetKind {
     TooManyOutputs,
     /// 6: there are more gates, or AIGER variables, than the limit.
     TooManyGates,
-    /// 7: an AIGER line hasn't exactly the wanted number of words, or a word isn't a number.
+    /// 7: an AIGER line hasn't exactly the required number of words, or a word isn't a number.
     BadLine,
     /// 8: an AIGER literal is above the greatest one; or what a line defines is odd, or the constant.
     BadLiteral,
@@ -36,7 +36,7 @@ pub enum NetKind {
     Cycle,
     /// 13: an AIGER symbol line isn't one, or names no port, or a port that has a name already.
     BadSymbol,
-    /// 14: the AIGER file ends where a line is wanted.
+    /// 14: the AIGER file ends where a line is required.
     Truncated,
     /// 20: a BLIF directive isn't known, a `.names` line has no word after it, or a line stands after `.end`.
     Directive,

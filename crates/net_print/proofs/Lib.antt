@@ -1,4 +1,3 @@
 pub mod Orders
 pub mod Parts
 pub mod Steps
-pub mod Groups

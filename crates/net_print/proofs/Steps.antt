@@ -1,11 +1,7 @@
 -- Texts that are written one after the other.
 use Rattle.std.proofs.Common.{◌≡◌, ℕ, suc, ◌+◌, ◌-◌, ◌<◌, List, ◌∷◌, ◌++◌, refl, sym, ap, ◌∙◌, append_assoc, arith}
 use Rattle.std.specs.List.{range_with_len}
-
--- one more part of what is left
-pub one_part : (now new written left whole : List ℕ) → now ++ (written ++ left) ≡ whole → new ≡ now ++ written → new ++ left ≡ whole
-one_part now new written left whole before put =
-    ap (λ text. text ++ left) put ∙ append_assoc now written left ∙ before
+use Rattle.text_core.proofs.Extending.{one_part}
 
 -- three parts, and four, at the end of a text
 pub three_parts : (old a b c m n whole : List ℕ) → m ≡ old ++ a → n ≡ m ++ b → whole ≡ a ++ (b ++ c) → n ++ c ≡ old ++ whole

@@ -1,5 +1,5 @@
--- A netlist as the lines of a BLIF file (Berkeley Logic Interchange Format, 1992), each as its words: the constant is the
--- cover `z` without rows, and each gate and each output is a cover of one row.
+-- A netlist as the lines of a BLIF file (Berkeley Logic Interchange Format, 1992), each as its words: the constant is
+-- the cover `z` without rows, and each gate and each output is a cover of one row.
 use Rattle.std.specs.Prelude.{ℕ, ◌+◌, ◌-◌, ◌==◌, List, [], ◌∷◌, ◌++◌, length, map, codes, nat_lt, if◌then◌else◌}
 use Rattle.std.specs.List.{join_with_byte, range_with_len, flat_map}
 use Rattle.std.specs.Fmt.{decimal}

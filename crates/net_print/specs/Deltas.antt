@@ -1,12 +1,8 @@
 -- The gates of the binary AIGER form as they are printed (AIGER 1.9): two deltas each, in groups of seven bits, the
 -- lowest first.
-use Rattle.std.specs.Prelude.{ℕ, zero, suc, ◌+◌, ◌-◌, ◌*◌, ◌/◌, ◌%◌, min, max, List, [], ◌∷◌, ◌++◌, nat_lt, if◌then◌else◌}
+use Rattle.std.specs.Prelude.{ℕ, ◌+◌, ◌-◌, ◌*◌, min, max, List, [], ◌∷◌, ◌++◌}
+use Rattle.text_core.specs.Groups.{groups}
 use Rattle.circuits.specs.declared.netlist.Gate.{Gate}
-
--- a number below 128 is its own last group; of any other the low seven bits come first, marked by the eighth
-abbrev pub groups : ℕ → ℕ → List ℕ
-groups zero n = n ∷ []
-groups (suc more) n = if nat_lt n 128 then n ∷ [] else (128 + n % 128) ∷ groups more (n / 128)
 
 -- a number of 32 bits has five groups at most
 abbrev pub delta_groups : ℕ → List ℕ

@@ -3,7 +3,7 @@
 ghost use Rattle.std.specs.Prelude.{◌≡◌, ◌+◌, ◌*◌, ◌≤◌, ◌<◌, ◌^◌, max, ◌++◌, length, OnOk, OnErr};
 ghost use Rattle.text_core.specs.Extends.{Extends};
 ghost use Rattle.net_core.specs.Graph.{AreInOrder};
-ghost use Rattle.net_print.specs.Deltas.{groups, delta_groups, gate_deltas, deltas};
+ghost use Rattle.net_print.specs.Deltas.{delta_groups, gate_deltas, deltas};
 ghost use Rattle.net_print.specs.Files.{aig_text};
 
 use crate::rows::{Header, OutputRows};
@@ -11,7 +11,10 @@ use crate::symbols::{Symbols, symbols_of};
 use net_core::{Gate, Graph};
 use net_file::Named;
 use std::alloc::AllocError;
-use text_core::{Chain, Parts, put_all};
+use text_core::{Chain, Parts, put_all, put_leb128};
+
+/// A delta has five groups of seven bits at most.
+const MORE_GROUPS: u32 = 4;
 
 /// Writes a netlist at the end of `out` as a file of the binary form of AIGER: the header, a line for each output, two
 /// deltas for each gate, the greater operand first, and a symbol for each port.
@@ -115,19 +118,10 @@ fn put_gate(variable: u64, gate: Gate, out: &mut Vec<u8>) -> Result<(), AllocErr
     put_delta(greater - lesser, out)
 }
 
-// Writes a number in groups of seven bits.
 fn put_delta(delta: u64, out: &mut Vec<u8>) -> Result<(), AllocError>
     requires { delta < 2 ^ 34 }
     ensures ok { OnOk result (out.new.items ≡ out.old.items ++ delta_groups delta) }
     ensures kept { Extends out.old.items out.new.items }
 {
-    let mut rest = delta;
-    let mut more = 4u32;
-    while (more > 0) & (rest >= 128) {
-        out.push(128 + (rest % 128) as u8)?;
-        rest /= 128;
-        more -= 1;
-    }
-    out.push(rest as u8)?;
-    Ok(())
+    put_leb128(delta, MORE_GROUPS, out)
 }

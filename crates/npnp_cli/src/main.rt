@@ -36,12 +36,12 @@ fn run_words(rt: HostRuntime) -> io::Result<u8> {
     let words = words_after_name(&rt)?;
     match Notice::asked(&words) {
         Some(notice) => Ok(put_notice(&rt, notice)),
-        None => Ok(run_told(rt, &words)?.status()),
+        None => Ok(run_explained(rt, &words)?.status()),
     }
 }
 
 /// Runs the program on the words, and tells people what they mean and what came of them.
-fn run_told(rt: HostRuntime, words: &[String]) -> io::Result<Outcome> {
+fn run_explained(rt: HostRuntime, words: &[String]) -> io::Result<Outcome> {
     let people = People::new(rt.clone()?);
     people.warn(words);
     let mut shelf = shelf_for(rt.clone()?, words)?;

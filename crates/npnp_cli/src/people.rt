@@ -67,7 +67,7 @@ impl People {
         outcome: &Outcome,
         fault: Option<FailedFile<'_>>,
     ) -> io::Result<()> {
-        let told = EndedRun {
+        let ended = EndedRun {
             words,
             outcome,
             fault,
@@ -75,7 +75,7 @@ impl People {
         };
         // another shelf: that of the run may stand in the middle of a file
         let mut shelf = DiskShelf::new(self.rt.clone()?);
-        let text = explain(self.rt.alloc(), &told, &mut shelf);
+        let text = explain(self.rt.alloc(), &ended, &mut shelf);
         eprint!(self.rt; "{text}")
     }
 }

@@ -5,7 +5,8 @@ use Rattle.std.proofs.lemmas.Bool.{ltb-true}
 use Rattle.circuits.specs.declared.netlist.Gate.{Gate}
 use Rattle.aiger_reader.specs.Deltas.{IsInGroups, BeginsGates}
 use Rattle.aiger_reader.proofs.DeltaLemmas.{more_groups}
-use Rattle.net_print.specs.Deltas.{groups, delta_groups, deltas}
+use Rattle.text_core.specs.Groups.{groups}
+use Rattle.net_print.specs.Deltas.{delta_groups, deltas}
 
 -- numbers below this have one group more than `more` at most
 abbrev top : ℕ → ℕ

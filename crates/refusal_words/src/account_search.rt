@@ -11,7 +11,7 @@ use std::alloc::Global;
 
 /// Takes an account's records, one after another.
 pub(crate) trait RecordSearch {
-    /// Takes the next record, and says whether those after it are wanted too.
+    /// Takes the next record, and says whether those after it are needed too.
     fn next(&mut self, record: Record) -> Need;
 }
 
@@ -82,7 +82,7 @@ impl Text {
         Ok(Need::More)
     }
 
-    /// The next record; None where more bytes are wanted first, or a line isn't good.
+    /// The next record; None where more bytes are needed first, or a line isn't good.
     fn next(&mut self, alloc: Global) -> Result<Option<Record>, ReadStop> {
         match self.reader.next(alloc) {
             Ok(record) => Ok(record),

@@ -8,7 +8,7 @@ use check_steps::{PIECE, ReadStop, zeros};
 use shelf_core::Shelf;
 use std::alloc::Global;
 
-/// Whether more of a file is wanted.
+/// Whether more of a file is needed.
 #[derive(Clone, Copy, Debug, PartialEq, Eq)]
 pub enum Need {
     More,
@@ -17,12 +17,12 @@ pub enum Need {
 
 /// Whoever looks for something in a file that comes in pieces.
 pub trait Seek {
-    /// Takes the next bytes of the file, and says whether those after them are wanted too.
+    /// Takes the next bytes of the file, and says whether those after them are needed too.
     fn take(&mut self, alloc: Global, piece: &[u8]) -> Result<Need, ReadStop>;
 }
 
 /// Hands what stands under a name to whoever looks for something there, up to the piece after which nothing more is
-/// wanted. A file that isn't there has no bytes.
+/// needed. A file that isn't there has no bytes.
 pub fn seek_in<S: Shelf, K: Seek>(
     alloc: Global,
     shelf: &mut S,

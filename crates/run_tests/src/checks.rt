@@ -24,12 +24,19 @@ static MATCHES: [Row; 7] = [
     Row {
         files: [A, B, TABLE],
         status: 0,
-        report: b"accepted match\ninput 0 i0 = not input 1 i1\ninput 1 i1 = input 0 i0\noutput 0 o0 = not output 1 o1\noutput 1 o1 = output 0 o0\n",
+        report: b"accepted match\n\
+                  input 0 i0 = not input 1 i1\n\
+                  input 1 i1 = input 0 i0\n\
+                  output 0 o0 = not output 1 o1\n\
+                  output 1 o1 = output 0 o0\n",
     },
     Row {
         files: [AND, OR, AND_OR],
         status: 0,
-        report: b"accepted match\ninput 0 i0 = not input 0 i0\ninput 1 i1 = not input 1 i1\noutput 0 o0 = not output 0 o0\n",
+        report: b"accepted match\n\
+                  input 0 i0 = not input 0 i0\n\
+                  input 1 i1 = not input 1 i1\n\
+                  output 0 o0 = not output 0 o0\n",
     },
     Row {
         files: [
@@ -71,7 +78,11 @@ static MATCHES: [Row; 7] = [
             b"npnp 1\nmatch i0+0 i1+1 i2+2 i3+3 i4+4 i5+5 i6+6 i7+7 i8+8 i9+9 i10+10 i11+11 i12+12\nend\n",
         ],
         status: 0,
-        report: b"accepted match\ninput 0 i0 = input 0 i0\ninput 1 i1 = input 1 i1\ninput 2 i2 = input 2 i2\ninput 3 i3 = input 3 i3\ninput 4 i4 = input 4 i4\ninput 5 i5 = input 5 i5\ninput 6 i6 = input 6 i6\ninput 7 i7 = input 7 i7\ninput 8 i8 = input 8 i8\ninput 9 i9 = input 9 i9\ninput 10 i10 = input 10 i10\ninput 11 i11 = input 11 i11\ninput 12 i12 = input 12 i12\n",
+        report: b"accepted match\ninput 0 i0 = input 0 i0\ninput 1 i1 = input 1 i1\ninput 2 i2 = input 2 i2\n\
+                  input 3 i3 = input 3 i3\ninput 4 i4 = input 4 i4\ninput 5 i5 = input 5 i5\n\
+                  input 6 i6 = input 6 i6\ninput 7 i7 = input 7 i7\ninput 8 i8 = input 8 i8\n\
+                  input 9 i9 = input 9 i9\ninput 10 i10 = input 10 i10\ninput 11 i11 = input 11 i11\n\
+                  input 12 i12 = input 12 i12\n",
     },
 ];
 
@@ -122,7 +133,11 @@ fn rejects_an_account_of_other_netlists(rt: HostRuntime) -> Result<(), Fail> {
 
 /// A match of the two: the lines of a log derive that gates are equal, up to the last one, which is empty.
 const C17_ACCOUNT: &[u8] =
-    b"npnp 1\nmatch i0+2 i1+4 i2-1 i3+3 i4+0 o0+1 o1+0\nl 14 25 : 19 20 6\nl 13 26 : 1 2 24\nl 17 28 : 7 8 27 39\nl 20 33 : 31 32 40 41 15\nl : 37 38 42\nl 15 24 : 4 5 21\nl 12 27 : 22 23 3\nl 16 29 : 25 26 39 9\nl 21 32 : 13 14 40 41 33\nl : 37 38 42\nl 14 25 : 19 20 6\nl 17 28 : 7 8 27 39\nl 19 30 : 10 11 30 39\nl 22 35 : 34 35 40 41 18\nl : 37 38 42\nl 15 24 : 4 5 21\nl 16 29 : 25 26 39 9\nl 18 31 : 28 29 39 12\nl 23 34 : 16 17 40 41 36\nl : 37 38 42\nend\n";
+    b"npnp 1\nmatch i0+2 i1+4 i2-1 i3+3 i4+0 o0+1 o1+0\nl 14 25 : 19 20 6\nl 13 26 : 1 2 24\nl 17 28 : 7 8 27 39\n\
+      l 20 33 : 31 32 40 41 15\nl : 37 38 42\nl 15 24 : 4 5 21\nl 12 27 : 22 23 3\nl 16 29 : 25 26 39 9\n\
+      l 21 32 : 13 14 40 41 33\nl : 37 38 42\nl 14 25 : 19 20 6\nl 17 28 : 7 8 27 39\nl 19 30 : 10 11 30 39\n\
+      l 22 35 : 34 35 40 41 18\nl : 37 38 42\nl 15 24 : 4 5 21\nl 16 29 : 25 26 39 9\nl 18 31 : 28 29 39 12\n\
+      l 23 34 : 16 17 40 41 36\nl : 37 38 42\nend\n";
 
 /// The NAND of two inputs, and an account that pairs the ports of two such circuits in their order.
 const NAND: &[u8] = b".inputs a b\n.outputs y\n.names a b y\n11 0\n";
@@ -137,7 +152,14 @@ static OF_BOTH_FORMATS: [Row; 5] = [
     Row {
         files: [C17, C17_MOVED, C17_ACCOUNT],
         status: 0,
-        report: b"accepted match\ninput 0 1 = input 2 i2\ninput 1 2 = input 4 i4\ninput 2 3 = not input 1 i1\ninput 3 6 = input 3 i3\ninput 4 7 = input 0 i0\noutput 0 22 = output 1 o1\noutput 1 23 = output 0 o0\n",
+        report: b"accepted match\n\
+                  input 0 1 = input 2 i2\n\
+                  input 1 2 = input 4 i4\n\
+                  input 2 3 = not input 1 i1\n\
+                  input 3 6 = input 3 i3\n\
+                  input 4 7 = input 0 i0\n\
+                  output 0 22 = output 1 o1\n\
+                  output 1 23 = output 0 o0\n",
     },
     Row {
         files: [
@@ -161,10 +183,23 @@ static OF_BOTH_FORMATS: [Row; 5] = [
         files: [
             MIXED,
             MIXED,
-            b"npnp 1\nmatch i0+0 i1+1 o0+0 o1+1 o2+2\nl : 7 8 4 5 3\nl : 7 8 1 2 6\nl : 0 8\nl : 0 7\nl : 0 7\nl : 0 8\nend\n",
+            b"npnp 1\n\
+              match i0+0 i1+1 o0+0 o1+1 o2+2\n\
+              l : 7 8 4 5 3\n\
+              l : 7 8 1 2 6\n\
+              l : 0 8\n\
+              l : 0 7\n\
+              l : 0 7\n\
+              l : 0 8\n\
+              end\n",
         ],
         status: 0,
-        report: b"accepted match\ninput 0 a = input 0 a\ninput 1 b = input 1 b\noutput 0 y = output 0 y\noutput 1 one = output 1 one\noutput 2 zero = output 2 zero\n",
+        report: b"accepted match\n\
+                  input 0 a = input 0 a\n\
+                  input 1 b = input 1 b\n\
+                  output 0 y = output 0 y\n\
+                  output 1 one = output 1 one\n\
+                  output 2 zero = output 2 zero\n",
     },
     Row {
         files: [
@@ -204,13 +239,27 @@ static INFOS: [(&[&str], &[u8], u8, &[u8]); 9] = [
         &["info", "A", "174960"],
         AND,
         0,
-        b"inputs 2\noutputs 1\ngates 1\noutput 0 o0 support 2\ninput 0 i0 positive\ninput 1 i1 positive\npair 0 1 symmetric\n",
+        b"inputs 2\n\
+          outputs 1\n\
+          gates 1\n\
+          output 0 o0 support 2\n\
+          input 0 i0 positive\n\
+          input 1 i1 positive\n\
+          pair 0 1 symmetric\n",
     ),
     (
         &["info", "A"],
         MIXED,
         0,
-        b"inputs 2\noutputs 3\ngates 1\noutput 0 y support 2\ninput 0 a negative\ninput 1 b negative\npair 0 1 symmetric\noutput 1 one support 0\noutput 2 zero support 0\n",
+        b"inputs 2\n\
+          outputs 3\n\
+          gates 1\n\
+          output 0 y support 2\n\
+          input 0 a negative\n\
+          input 1 b negative\n\
+          pair 0 1 symmetric\n\
+          output 1 one support 0\n\
+          output 2 zero support 0\n",
     ),
     (
         &["info", "A", "18446744073709551615"],
@@ -223,7 +272,13 @@ static INFOS: [(&[&str], &[u8], u8, &[u8]); 9] = [
         &["info", "A", "00000000000000001000"],
         b"aag 3 2 0 1 1\n2\n4\n6\n6 2 5\n",
         0,
-        b"inputs 2\noutputs 1\ngates 1\noutput 0 o0 support 2\ninput 0 i0 positive\ninput 1 i1 negative\npair 0 1 skew\n",
+        b"inputs 2\n\
+          outputs 1\n\
+          gates 1\n\
+          output 0 o0 support 2\n\
+          input 0 i0 positive\n\
+          input 1 i1 negative\n\
+          pair 0 1 skew\n",
     ),
     // an input that is read by gates, and that the output doesn't depend on
     (

@@ -29,13 +29,13 @@ fn told_over<S: Shelf>(
     requires { (S.state shelf.old).mode ≡ Closed }
 {
     let words = words_of(alloc, words)?;
-    let told = EndedRun {
+    let ended = EndedRun {
         words: words.as_slice(),
         outcome,
         fault,
         readable: true,
     };
-    Ok(explain(alloc, &told, shelf))
+    Ok(explain(alloc, &ended, shelf))
 }
 
 /// How a run on these files ends.
@@ -102,23 +102,31 @@ static MALFORMED: [(&[u8], &str); 15] = [
     ),
     (
         b".inputs a\n.outputs y\n.gate inv a=a O=y\n",
-        "A:3:1: a directive that is not known or out of place\n  .gate inv a=a O=y\nA: replace the cells by what they compute, by their library: `abc -c 'read_genlib LIBRARY; read_blif F; unmap; write_blif G'`, or of Liberty `yosys -p 'read_liberty LIBRARY; read_blif F; hierarchy -auto-top; flatten; techmap; write_blif G'`\n",
+        "A:3:1: a directive that is not known or out of place\n  .gate inv a=a O=y\n\
+         A: replace the cells by what they compute, by their library: `abc -c 'read_genlib LIBRARY; read_blif F; \
+         unmap; write_blif G'`, or of Liberty `yosys -p 'read_liberty LIBRARY; read_blif F; hierarchy -auto-top; \
+         flatten; techmap; write_blif G'`\n",
     ),
     (
         b".inputs a\n.outputs y\n.subckt m x=a z=y\n",
-        "A:3:1: a directive that is not known or out of place\n  .subckt m x=a z=y\nA: flatten it to one model: `yosys -p 'read_blif F; hierarchy -auto-top; flatten; write_blif G'`\n",
+        "A:3:1: a directive that is not known or out of place\n  .subckt m x=a z=y\n\
+         A: flatten it to one model: `yosys -p 'read_blif F; hierarchy -auto-top; flatten; write_blif G'`\n",
     ),
     (
         b".model m\n.inputs a\n.outputs a\n.end\n.model n\n",
-        "A:5:1: a second model: one is read\n  .model n\nA: flatten it to one model: `yosys -p 'read_blif F; hierarchy -auto-top; flatten; write_blif G'`\n",
+        "A:5:1: a second model: one is read\n  .model n\n\
+         A: flatten it to one model: `yosys -p 'read_blif F; hierarchy -auto-top; flatten; write_blif G'`\n",
     ),
     (
         b".inputs a\n.outputs q\n.latch a q re c 0\n",
-        "A:3:1: a latch: only combinational netlists are read\n  .latch a q re c 0\nA: cut it at the registers, so that their outputs are inputs: `abc -c 'read_blif F; comb; write_blif G'`\n",
+        "A:3:1: a latch: only combinational netlists are read\n  .latch a q re c 0\n\
+         A: cut it at the registers, so that their outputs are inputs: `abc -c 'read_blif F; comb; write_blif G'`\n",
     ),
     (
         b"aig 3 1 1 1 1\n6\n6\n\x02\x02",
-        "A:1:1: latches: only combinational netlists are read\n  aig 3 1 1 1 1\nA: cut it at the registers, so that their outputs are inputs: `abc -c 'read_aiger F; comb; write_aiger G'`\n",
+        "A:1:1: latches: only combinational netlists are read\n  aig 3 1 1 1 1\n\
+         A: cut it at the registers, so that their outputs are inputs: `abc -c 'read_aiger F; comb; write_aiger \
+         G'`\n",
     ),
     (
         b"",
@@ -130,11 +138,14 @@ static MALFORMED: [(&[u8], &str); 15] = [
     ),
     (
         b"// a half adder\n/* of\nours */ module m(a, y);\n",
-        "A:1:1: a row outside a cover\n  // a half adder\nA: this looks like Verilog: `yosys -p 'read_verilog F; synth -flatten; write_blif G'`\n",
+        "A:1:1: a row outside a cover\n  // a half adder\n\
+         A: this looks like Verilog: `yosys -p 'read_verilog F; synth -flatten; write_blif G'`\n",
     ),
     (
         b"library (cells) {\n",
-        "A:1:1: a row outside a cover\n  library (cells) {\nA: this looks like a Liberty library, not a netlist: of a cell, `yosys -p 'read_liberty F; prep -top CELL; techmap; write_blif G'`\n",
+        "A:1:1: a row outside a cover\n  library (cells) {\n\
+         A: this looks like a Liberty library, not a netlist: of a cell, `yosys -p 'read_liberty F; prep -top CELL; \
+         techmap; write_blif G'`\n",
     ),
 ];
 
@@ -177,12 +188,28 @@ fn tells_which_line_is_wrong(rt: HostRuntime) -> Result<(), Fail> {
 }
 
 /// The refusal of the AND and the exclusive or that the formats' document shows.
-const REFUSAL: &[u8] =
-    b"npnp 1\nfails b 0 up 0 =01\nfails b 0 down 0 =10\nfails b 0 up 1 =10\nfails b 0 down 1 =01\nholds a 0 up 0\nl : 0 7 1\nban o0+0 : tally binate 0 1 2 3 / 4\nban o0-0 : tally binate 0 1 2 3 / 4\nban : cover out 0 / 0 / 0 1\nnone ban 2\nend\n";
+const REFUSAL: &[u8] = b"npnp 1\n\
+      fails b 0 up 0 =01\n\
+      fails b 0 down 0 =10\n\
+      fails b 0 up 1 =10\n\
+      fails b 0 down 1 =01\n\
+      holds a 0 up 0\n\
+      l : 0 7 1\n\
+      ban o0+0 : tally binate 0 1 2 3 / 4\n\
+      ban o0-0 : tally binate 0 1 2 3 / 4\n\
+      ban : cover out 0 / 0 / 0 1\n\
+      none ban 2\n\
+      end\n";
 
 /// Accounts that are only read for what their last exclusions say.
-const BY_MISMATCH: &[u8] =
-    b"npnp 1\nfails b 0 up 1 =10\nholds a 0 up 0\nl : 0 7 1\nban i0+1 o0+0 : mismatch 0 1\nban : cover in 0 1 / 1 / 0 0 0 -\nnone ban 1\nend\n";
+const BY_MISMATCH: &[u8] = b"npnp 1\n\
+      fails b 0 up 1 =10\n\
+      holds a 0 up 0\n\
+      l : 0 7 1\n\
+      ban i0+1 o0+0 : mismatch 0 1\n\
+      ban : cover in 0 1 / 1 / 0 0 0 -\n\
+      none ban 1\n\
+      end\n";
 
 const BY_VECTOR: &[u8] =
     b"npnp 1\nban o0-0 : vector 0 =11\nban : cover out 0 / 0 / 0 0\nnone ban 1\nend\n";
@@ -199,19 +226,22 @@ static REFUSED: [(&[u8], &[u8], &[u8], &str); 5] = [
         AND,
         XOR,
         REFUSAL,
-        "output o0 of A has no partner: 1 output of B can't be it, plain or inverted; the last way, o0 = not o0, since output o0 of B is binate in 2 inputs or more, output o0 of A in 1 at most\n",
+        "output o0 of A has no partner: 1 output of B can't be it, plain or inverted; the last way, o0 = not o0, \
+         since output o0 of B is binate in 2 inputs or more, output o0 of A in 1 at most\n",
     ),
     (
         AND,
         XOR,
         BY_MISMATCH,
-        "input i1 of B is no port's partner: 2 inputs of A can't go there, plain or inverted; the last way, i1 = i1, since output o0 of B falls on some vector as input i1 rises, output o0 of A on none as input i0 rises\n",
+        "input i1 of B is no port's partner: 2 inputs of A can't go there, plain or inverted; the last way, i1 = \
+         i1, since output o0 of B falls on some vector as input i1 rises, output o0 of A on none as input i0 rises\n",
     ),
     (
         AND,
         XOR,
         BY_VECTOR,
-        "output o0 of A has no partner: 1 output of B can't be it, plain or inverted; the last way, o0 = not o0, since output o0 of A and output o0 of B differ on some vector\n",
+        "output o0 of A has no partner: 1 output of B can't be it, plain or inverted; the last way, o0 = not o0, \
+         since output o0 of A and output o0 of B differ on some vector\n",
     ),
     (AND, XOR, b"npnp 1\nnone ban 0\nend\n", ""),
 ];
@@ -237,17 +267,26 @@ static SPENT: [(&[&str], [&[u8]; 2], &str); 3] = [
     (
         &["info", "A", "0"],
         [AND, EMPTY],
-        "npnp: the budget of 0 learned clauses was spent\nnpnp: lines by how many literals they have, with the refused one: 1 of 0, 0 of 1, 0 of 2, 0 of 3 or 4, 0 of 5 to 8, 0 of more\nnpnp: 174960 are enough for these circuits\n",
+        "npnp: the budget of 0 learned clauses was spent\n\
+         npnp: lines by how many literals they have, with the refused one: 1 of 0, 0 of 1, 0 of 2, 0 of 3 or 4, 0 \
+         of 5 to 8, 0 of more\n\
+         npnp: 174960 are enough for these circuits\n",
     ),
     (
         &["match", "A", "B", "t", "0"],
         [A, B],
-        "npnp: the budget of 0 learned clauses was spent\nnpnp: lines by how many literals they have, with the refused one: 1 of 0, 0 of 1, 0 of 2, 0 of 3 or 4, 0 of 5 to 8, 0 of more\nnpnp: 629856 are enough for these circuits\n",
+        "npnp: the budget of 0 learned clauses was spent\n\
+         npnp: lines by how many literals they have, with the refused one: 1 of 0, 0 of 1, 0 of 2, 0 of 3 or 4, 0 \
+         of 5 to 8, 0 of more\n\
+         npnp: 629856 are enough for these circuits\n",
     ),
     (
         &["match", "A", "B", "t", "0"],
         [C17, C17_MOVED],
-        "npnp: the budget of 0 learned clauses was spent\nnpnp: lines by how many literals they have, with the refused one: 1 of 0, 0 of 1, 0 of 2, 0 of 3 or 4, 0 of 5 to 8, 0 of more\nnpnp: 10^23 are known to be enough for these circuits; fewer are likely to be\n",
+        "npnp: the budget of 0 learned clauses was spent\n\
+         npnp: lines by how many literals they have, with the refused one: 1 of 0, 0 of 1, 0 of 2, 0 of 3 or 4, 0 \
+         of 5 to 8, 0 of more\n\
+         npnp: 10^23 are known to be enough for these circuits; fewer are likely to be\n",
     ),
 ];
 

@@ -157,8 +157,18 @@ fn calls_nothing_after_a_fault(rt: HostRuntime) -> Result<(), Fail> {
 }
 
 /// A refusal of the AND and the exclusive or, of which line 2 has a vector that breaks nothing.
-const BAD_LINE: &[u8] =
-    b"npnp 1\nfails b 0 up 0 =11\nfails b 0 down 0 =10\nfails b 0 up 1 =10\nfails b 0 down 1 =01\nholds a 0 up 0\nl : 0 7 1\nban o0+0 : tally binate 0 1 2 3 / 4\nban o0-0 : tally binate 0 1 2 3 / 4\nban : cover out 0 / 0 / 0 1\nnone ban 2\nend\n";
+const BAD_LINE: &[u8] = b"npnp 1\n\
+      fails b 0 up 0 =11\n\
+      fails b 0 down 0 =10\n\
+      fails b 0 up 1 =10\n\
+      fails b 0 down 1 =01\n\
+      holds a 0 up 0\n\
+      l : 0 7 1\n\
+      ban o0+0 : tally binate 0 1 2 3 / 4\n\
+      ban o0-0 : tally binate 0 1 2 3 / 4\n\
+      ban : cover out 0 / 0 / 0 1\n\
+      none ban 2\n\
+      end\n";
 
 /// A call that fails, and how the check ends then. Of 16 bytes a read, calls 0 to 3 and 4 to 8 are those of the
 /// netlists; 9 opens the account, 10 and 11 read its first two lines, and 12 closes it.

@@ -31,7 +31,8 @@ pub(crate) const AND_OR: &[u8] =
 
 /// The ISCAS-85 circuit c17: six NAND gates, written as covers of the off-set.
 pub(crate) const C17: &[u8] =
-    b".model c17\n.inputs 1 2 3 6 7\n.outputs 22 23\n.names 1 3 10\n11 0\n.names 3 6 11\n11 0\n.names 2 11 16\n11 0\n.names 11 7 19\n11 0\n.names 10 16 22\n11 0\n.names 16 19 23\n11 0\n.end\n";
+    b".model c17\n.inputs 1 2 3 6 7\n.outputs 22 23\n.names 1 3 10\n11 0\n.names 3 6 11\n11 0\n.names 2 11 16\n\
+      11 0\n.names 11 7 19\n11 0\n.names 10 16 22\n11 0\n.names 16 19 23\n11 0\n.end\n";
 
 /// The same function with its ports in another order and one input inverted, as binary AIGER.
 pub(crate) const C17_MOVED: &[u8] =

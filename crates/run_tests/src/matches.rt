@@ -65,7 +65,12 @@ static SOUGHT: [Sought; 12] = [
         files: [FOUR_NAMES, FOUR_NAMES_TURNED],
         words: MATCH,
         table: Some(
-            b"\ninput 0 a = input 3 a\ninput 1 b = input 2 b\ninput 2 c = input 1 c\ninput 3 d = input 0 d\noutput 0 y = output 0 y",
+            b"\n\
+              input 0 a = input 3 a\n\
+              input 1 b = input 2 b\n\
+              input 2 c = input 1 c\n\
+              input 3 d = input 0 d\n\
+              output 0 y = output 0 y",
         ),
     },
     // names that lie
@@ -73,7 +78,12 @@ static SOUGHT: [Sought; 12] = [
         files: [THREE_NAMES, THREE_NAMES_LIE],
         words: MATCH,
         table: Some(
-            b"\ninput 0 a = input 2 c\ninput 1 b = input 0 a\ninput 2 c = input 1 b\noutput 0 y = output 0 y\noutput 1 z = output 1 z",
+            b"\n\
+              input 0 a = input 2 c\n\
+              input 1 b = input 0 a\n\
+              input 2 c = input 1 b\n\
+              output 0 y = output 0 y\n\
+              output 1 z = output 1 z",
         ),
     },
     Sought {
@@ -85,7 +95,11 @@ static SOUGHT: [Sought; 12] = [
         files: [A, B],
         words: MATCH,
         table: Some(
-            b"\ninput 0 i0 = not input 1 i1\ninput 1 i1 = input 0 i0\noutput 0 o0 = not output 1 o1\noutput 1 o1 = output 0 o0",
+            b"\n\
+              input 0 i0 = not input 1 i1\n\
+              input 1 i1 = input 0 i0\n\
+              output 0 o0 = not output 1 o1\n\
+              output 1 o1 = output 0 o0",
         ),
     },
     Sought {
@@ -130,7 +144,14 @@ static SOUGHT: [Sought; 12] = [
         files: [C17, C17_MOVED],
         words: &["match", "A", "B", "t", "1000000", "7"],
         table: Some(
-            b"\ninput 0 1 = input 2 i2\ninput 1 2 = input 4 i4\ninput 2 3 = not input 1 i1\ninput 3 6 = input 3 i3\ninput 4 7 = input 0 i0\noutput 0 22 = output 1 o1\noutput 1 23 = output 0 o0",
+            b"\n\
+              input 0 1 = input 2 i2\n\
+              input 1 2 = input 4 i4\n\
+              input 2 3 = not input 1 i1\n\
+              input 3 6 = input 3 i3\n\
+              input 4 7 = input 0 i0\n\
+              output 0 22 = output 1 o1\n\
+              output 1 23 = output 0 o0",
         ),
     },
 ];
@@ -238,13 +259,19 @@ fn pairs_many_inputs(rt: HostRuntime) -> Result<(), Fail> {
 /// The inputs of a netlist of 30 inputs in two orders, and what is the same: a chain of covers, each of which reads
 /// three inputs more.
 const THIRTY: &[u8] =
-    b".inputs x0 x1 x2 x3 x4 x5 x6 x7 x8 x9 x10 x11 x12 x13 x14 x15 x16 x17 x18 x19 x20 x21 x22 x23 x24 x25 x26 x27 x28 x29";
+    b".inputs x0 x1 x2 x3 x4 x5 x6 x7 x8 x9 x10 x11 x12 x13 x14 x15 x16 x17 x18 x19 x20 x21 x22 x23 x24 x25 x26 x27 \
+      x28 x29";
 
 const THIRTY_TURNED: &[u8] =
-    b".inputs x4 x26 x13 x2 x10 x9 x29 x24 x12 x17 x28 x6 x15 x18 x21 x3 x5 x1 x7 x14 x0 x16 x20 x27 x22 x25 x11 x23 x8 x19";
+    b".inputs x4 x26 x13 x2 x10 x9 x29 x24 x12 x17 x28 x6 x15 x18 x21 x3 x5 x1 x7 x14 x0 x16 x20 x27 x22 x25 x11 \
+      x23 x8 x19";
 
 const CHAIN: &[u8] =
-    b"\n.outputs y\n.names x5 x24 x25 s0\n1-1 1\n-10 1\n.names s0 x2 x4 x19 s1\n11-- 1\n0-01 1\n.names s1 x28 x14 x27 s2\n11-- 1\n0-01 1\n.names s2 x21 x0 x23 s3\n11-- 1\n0-01 1\n.names s3 x6 x17 x29 s4\n11-- 1\n0-01 1\n.names s4 x13 x26 x20 s5\n11-- 1\n0-01 1\n.names s5 x15 x3 x8 s6\n11-- 1\n0-01 1\n.names s6 x10 x22 x11 s7\n11-- 1\n0-01 1\n.names s7 x1 x9 x7 s8\n11-- 1\n0-01 1\n.names s8 x18 x16 x12 y\n11-- 1\n0-01 1\n";
+    b"\n.outputs y\n.names x5 x24 x25 s0\n1-1 1\n-10 1\n.names s0 x2 x4 x19 s1\n11-- 1\n0-01 1\n\
+      .names s1 x28 x14 x27 s2\n11-- 1\n0-01 1\n.names s2 x21 x0 x23 s3\n11-- 1\n0-01 1\n.names s3 x6 x17 x29 s4\n\
+      11-- 1\n0-01 1\n.names s4 x13 x26 x20 s5\n11-- 1\n0-01 1\n.names s5 x15 x3 x8 s6\n11-- 1\n0-01 1\n\
+      .names s6 x10 x22 x11 s7\n11-- 1\n0-01 1\n.names s7 x1 x9 x7 s8\n11-- 1\n0-01 1\n.names s8 x18 x16 x12 y\n\
+      11-- 1\n0-01 1\n";
 
 /// The names pair the inputs, so that one learned line for each value of the output is enough.
 #[test]

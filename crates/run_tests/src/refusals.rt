@@ -8,16 +8,38 @@ use std::test::Fail;
 const NO_PORTS: &[u8] = b"npnp 1\nnone ports\nend\n";
 
 /// The exclusive or falls and rises with either input, and the AND never falls where its first input rises.
-const AND_XOR: &[u8] =
-    b"npnp 1\nfails b 0 up 0 =01\nfails b 0 down 0 =10\nfails b 0 up 1 =10\nfails b 0 down 1 =01\nholds a 0 up 0\nl : 0 7 1\nban o0+0 : tally binate 0 1 2 3 / 4\nban o0-0 : tally binate 0 1 2 3 / 4\nban : cover out 0 / 0 / 0 1\nnone ban 2\nend\n";
+const AND_XOR: &[u8] = b"npnp 1\n\
+      fails b 0 up 0 =01\n\
+      fails b 0 down 0 =10\n\
+      fails b 0 up 1 =10\n\
+      fails b 0 down 1 =01\n\
+      holds a 0 up 0\n\
+      l : 0 7 1\n\
+      ban o0+0 : tally binate 0 1 2 3 / 4\n\
+      ban o0-0 : tally binate 0 1 2 3 / 4\n\
+      ban : cover out 0 / 0 / 0 1\n\
+      none ban 2\n\
+      end\n";
 
 /// The wire rises with its input, and constant 0 doesn't: each way to pair the inputs and the outputs is excluded.
 const ZERO_WIRE: &[u8] =
-    b"npnp 1\nfails b 0 down 0 =1\nholds a 0 down 0\nl : 0 1\nban i0+0 o0+0 : mismatch 0 1\nban i0-0 o0+0 : vector 0 =0\nban i0+0 o0-0 : vector 0 =0\nban i0-0 o0-0 : mismatch 0 1\nban o0+0 : cover in 0 / 0 / 0 1\nban o0-0 : cover in 0 / 0 / 2 3\nban : cover out 0 / 0 / 4 5\nnone ban 6\nend\n";
+    b"npnp 1\nfails b 0 down 0 =1\nholds a 0 down 0\nl : 0 1\nban i0+0 o0+0 : mismatch 0 1\n\
+      ban i0-0 o0+0 : vector 0 =0\nban i0+0 o0-0 : vector 0 =0\nban i0-0 o0-0 : mismatch 0 1\n\
+      ban o0+0 : cover in 0 / 0 / 0 1\nban o0-0 : cover in 0 / 0 / 2 3\nban : cover out 0 / 0 / 4 5\nnone ban 6\n\
+      end\n";
 
 /// The same netlists, by the numbers of inputs that their outputs depend on.
-const BY_SUPPORT: &[u8] =
-    b"npnp 1\nfails b 0 down 0 =1\nholds a 0 up 0\nl : 0 1\nholds a 0 down 0\nl : 0 1\nban o0+0 : tally support 0 / 1 2\nban o0-0 : tally support 0 / 1 2\nban : cover out 0 / 0 / 0 1\nnone ban 2\nend\n";
+const BY_SUPPORT: &[u8] = b"npnp 1\n\
+      fails b 0 down 0 =1\n\
+      holds a 0 up 0\n\
+      l : 0 1\n\
+      holds a 0 down 0\n\
+      l : 0 1\n\
+      ban o0+0 : tally support 0 / 1 2\n\
+      ban o0-0 : tally support 0 / 1 2\n\
+      ban : cover out 0 / 0 / 0 1\n\
+      none ban 2\n\
+      end\n";
 
 static REFUSALS: [[&[u8]; 3]; 4] = [
     [THREE, TWO, NO_PORTS],

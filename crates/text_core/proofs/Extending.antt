@@ -17,3 +17,8 @@ extends_twice old mid new first then =
     let whole : new ≡ old ++ (drop (length old) mid ++ drop (length mid) new) =
     split mid new then ∙ ap (λ m. m ++ drop (length mid) new) (split old mid first) ∙ append_assoc old (drop (length old) mid) (drop (length mid) new) in
     rw whole (take-append_seam old (drop (length old) mid ++ drop (length mid) new))
+
+-- a part was written of what was left
+pub one_part : (now new written left whole : List ℕ) → now ++ (written ++ left) ≡ whole → new ≡ now ++ written → new ++ left ≡ whole
+one_part now new written left whole before put =
+    ap (λ text. text ++ left) put ∙ append_assoc now written left ∙ before

@@ -3,4 +3,5 @@ pub mod PieceLemmas
 pub mod LineLemmas
 pub mod WordLemmas
 pub mod NumberLemmas
+pub mod GroupLemmas
 pub mod Extending

@@ -1,8 +1,10 @@
-//! Lines, words and numbers of a text that is given as bytes, and texts that are written piece by piece.
+//! Lines, words and numbers of a text that is given as bytes, and texts that are written piece by piece; numbers in
+//! groups of seven bits.
 #![tactic(auto, using(crate::proofs::Extending::extends_same, crate::proofs::Extending::extends_twice))]
 
 mod chain;
 mod laws;
+mod leb128;
 mod numbers;
 mod parts;
 mod pieces;
@@ -13,6 +15,7 @@ pub use laws::{
     lines_from_first_line, lines_of_text, number_from_decimal, pieces_of_text,
     words_from_first_word, words_of_line,
 };
+pub use leb128::put_leb128;
 pub use numbers::{NumberFault, decimal, digits_in_front, is_numeral, put_decimal, value_of};
 pub use parts::{Parts, put_all};
 pub use pieces::{put_last_number, put_last_word, put_number, put_text, put_word};

@@ -9,8 +9,8 @@ loop-literal-preserved c =
     record {
       reads = λ clause rest count words is.
           let before = i.invariant.reads clause rest count words is in
-          literals_more clause rest i.from c.next_step-from.result i._literal i.cursor.bytes c.next_step-from.new.cursor.bytes i.literals.items c.push.new.self.items (omega (arith, count, c.loop-literal-test.true)) words before.0 before.1 c.next_step-from.ensures.reads c.in_ok-push.ensures.items;
-      end = omega (arith, i.invariant.end, c.next_step-from.ensures.end);
+          literals_more clause rest i.from c.next_delta-from.result i._literal i.cursor.bytes c.next_delta-from.new.cursor.bytes i.literals.items c.push.new.self.items (omega (arith, count, c.loop-literal-test.true)) words before.0 before.1 c.next_delta-from.ensures.reads c.in_ok-push.ensures.items;
+      end = omega (arith, i.invariant.end, c.next_delta-from.ensures.end);
     }
 
 pub returns-clause-reads : goal.returns-clause-reads

@@ -3,11 +3,10 @@ use Rattle.std.proofs.Common.{◌≡◌, ◌+◌, ◌-◌, ◌%◌, ◌/◌, [],
 use Rattle.std.proofs.Math.Dec.{ltb, leb}
 use Rattle.std.proofs.Math.Seq.{take-append_seam}
 use Rattle.std.proofs.lemmas.Bool.{and_parts, ltb-true, leb-true}
-use Rattle.text_core.proofs.Extending.{extends_twice}
-use Rattle.line_codec.specs.LineBytes.{groups, number_bytes}
-use Rattle.line_codec.proofs.ByteLemmas.{groups_next, groups_fit}
-use Rattle.line_codec.proofs.LineLemmas.{one_part}
-use Rattle.line_codec.proofs.coding.put_number.Goals as goal
+use Rattle.text_core.proofs.Extending.{extends_twice, one_part}
+use Rattle.text_core.specs.Groups.{groups}
+use Rattle.text_core.proofs.GroupLemmas.{groups_fit, groups_next}
+use Rattle.text_core.proofs.leb128.put_leb128.Goals as goal
 
 pub loop-more-preserved : goal.loop-more-preserved
 loop-more-preserved c =
@@ -20,7 +19,7 @@ loop-more-preserved c =
     let now = c.loop-more.out.items in
     let new = c.push.new.self.items in
     let byte = 128 + rest % 128 in
-    let whole = old ++ number_bytes c.args.number in
+    let whole = old ++ groups c.args.most c.args.number in
     let put : new ≡ now ++ byte ∷ [] = c.in_ok-push.ensures.items in
     let before = subst (λ text. now ++ text ≡ whole) (groups_next more rest some high) c.loop-more.invariant.0 in
     let kept = subst (λ text. take (length now) text ≡ now) (sym put) (take-append_seam now (byte ∷ [])) in (

@@ -1,7 +1,7 @@
 -- One number more was read, and then all.
 use Rattle.std.proofs.Common.{arith}
 use Rattle.line_codec.proofs.LineLemmas.{numbers_all, numbers_more}
-use Rattle.line_codec.proofs.decoding.next_steps.Goals as goal
+use Rattle.line_codec.proofs.decoding.next_deltas.Goals as goal
 
 pub loop-number-preserved : goal.loop-number-preserved
 loop-number-preserved c =
@@ -9,8 +9,8 @@ loop-number-preserved c =
     record {
       reads = λ numbers rest count words is.
           let before = i.invariant.reads numbers rest count words is in
-          numbers_more numbers rest i.from c.next_step-from.result i._number i.cursor.bytes c.next_step-from.new.cursor.bytes i.numbers.items c.push.new.self.items (omega (arith, count, c.loop-number-test.true)) words before.0 before.1 c.next_step-from.ensures.reads c.in_ok-push.ensures.items;
-      end = omega (arith, i.invariant.end, c.next_step-from.ensures.end);
+          numbers_more numbers rest i.from c.next_delta-from.result i._number i.cursor.bytes c.next_delta-from.new.cursor.bytes i.numbers.items c.push.new.self.items (omega (arith, count, c.loop-number-test.true)) words before.0 before.1 c.next_delta-from.ensures.reads c.in_ok-push.ensures.items;
+      end = omega (arith, i.invariant.end, c.next_delta-from.ensures.end);
     }
 
 pub returns-clause-reads : goal.returns-clause-reads
