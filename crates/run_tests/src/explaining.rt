@@ -319,6 +319,18 @@ fn tells_less_where_files_cannot_be_read_again(rt: HostRuntime) -> Result<(), Fa
     Ok(())
 }
 
+#[test]
+fn changes_no_file(rt: HostRuntime) -> Result<(), Fail> {
+    let files = files_of(rt.alloc(), [AND, XOR], Some(REFUSAL))?;
+    let mut shelf = SafeShelf::new(rt.alloc(), files, 16)?;
+    let _told = told_over(rt.alloc(), MATCH, &Outcome::NoMatching, None, &mut shelf)?;
+    assert_eq!(rt;
+        (shelf.file("A"), shelf.file("B"), shelf.file("t")),
+        (Some(AND), Some(XOR), Some(REFUSAL))
+    );
+    Ok(())
+}
+
 /// Words of no form, and what is told of them before the forms.
 static USAGE: [(&[&str], &str); 16] = [
     (&[], "no command is given"),

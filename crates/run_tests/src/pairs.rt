@@ -1,7 +1,8 @@
 //! Pairs of netlists that a number gives: made, matched, checked and tried.
 
 use crate::files::{A, B, EMPTY, TABLE};
-use crate::runs::{CHECK, Failing, MATCH, NONE, expect, run_failing, run_on};
+use crate::runs::{CHECK, Failing, MATCH, NONE, expect, run_failing, run_on, status_of};
+use shelf_core::{DiskShelf, SafeSink};
 use std::alloc::Global;
 use std::process::Abort;
 use std::test::Fail;
@@ -43,6 +44,24 @@ fn makes_a_pair_that_matches(rt: HostRuntime) -> Result<(), Fail> {
     );
     assert_eq!(&rt; front, (true, true));
     seek(&rt, rt.alloc(), [&first, &second])
+}
+
+/// Runs over the machine's files, each of which reads what the ones before it wrote.
+static ON_DISK: [&[&str]; 3] = [
+    &["make", "7", "first", "second"],
+    &["match", "first", "second", "account"],
+    &["check", "first", "second", "account"],
+];
+
+#[test]
+fn checks_what_another_run_wrote_on_the_disk(rt: HostRuntime) -> Result<(), Fail> {
+    for words in ON_DISK.iter() {
+        let mut shelf = DiskShelf::new(rt);
+        let mut sink = SafeSink::new(rt.alloc());
+        let status = status_of(rt.alloc(), words, &mut shelf, &mut sink)?;
+        assert_eq!(rt; status, 0);
+    }
+    Ok(())
 }
 
 #[test]

@@ -1,14 +1,11 @@
 //! `workbench`: runs a part of this repository on netlists from files, so that the scripts in `bench/` can measure it
-//! beside other tools. It prints what came out, and times nothing itself. With the word `rounds` it runs the whole
-//! program several times in a row, which is the run that the gate compares.
+//! beside other tools. It prints what came out, and times nothing itself.
 #![tactic(auto)]
 
 mod asking;
 mod claiming;
-mod guessing;
 mod hunting;
 mod netlist;
-mod rounds;
 mod simulating;
 
 use anyhow::{Result, bail};
@@ -22,13 +19,7 @@ const USAGE: u8 = 2;
 
 fn main(rt: HostRuntime) -> Result<ExitCode> {
     let words = words_after_name(&rt)?;
-    match words.as_slice() {
-        [command, runs @ ..] if command.as_str() == "rounds" => {
-            rounds::run_all(&rt, runs)?;
-            Ok(ExitCode::SUCCESS)
-        }
-        words => run(&rt, words),
-    }
+    run(&rt, words.as_slice())
 }
 
 /// The words of the command line after the program's name.
@@ -44,11 +35,6 @@ fn run<R: Print + Files + AllocGlobal>(rt: &R, words: &[String]) -> Result<ExitC
             let value = bit(value.as_str())?;
             let graphs = Graphs::new(&first, &second);
             asking::run(rt, &graphs, output.parse()?, value, budget.parse()?)?;
-        }
-        [command, first, second, seed] if command.as_str() == "guess" => {
-            let (first, second) = netlist::read_pair(rt, first.as_str(), second.as_str())?;
-            let graphs = Graphs::new(&first, &second);
-            guessing::run(rt, &graphs, seed.parse()?)?;
         }
         [command, file, words, rounds] if command.as_str() == "simulate" => {
             let graph = netlist::read(rt, file.as_str())?;
@@ -81,9 +67,7 @@ fn bit(word: &str) -> Result<bool> {
 
 fn print_usage<R: Print>(rt: &R) -> io::Result<()> {
     println!(rt; "usage: workbench ask FIRST SECOND OUTPUT VALUE BUDGET")?;
-    println!(rt; "       workbench guess FIRST SECOND SEED")?;
     println!(rt; "       workbench claims FILE ROUNDS")?;
     println!(rt; "       workbench simulate FILE WORDS ROUNDS")?;
-    println!(rt; "       workbench hunt FILE ROUNDS")?;
-    println!(rt; "       workbench rounds WORD.. [then WORD..]..")
+    println!(rt; "       workbench hunt FILE ROUNDS")
 }
