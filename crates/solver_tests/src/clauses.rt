@@ -1,30 +1,8 @@
-//! Clauses and logs, put and read back.
+//! Clauses, put and read back.
 
-use cnf_core::{Clause3, ClauseStore, Log, LogLine, SatLit};
-use items::Items;
-use std::alloc::{AllocError, Global};
+use cnf_core::{Clause3, ClauseStore, SatLit};
+use std::alloc::AllocError;
 use std::test::Fail;
-
-fn line_of(alloc: Global, literals: &[SatLit], hints: &[u64]) -> Result<LogLine, AllocError> {
-    Ok(LogLine {
-        clause: Items::from_slice(alloc, literals)?,
-        hints: Items::from_slice(alloc, hints)?,
-    })
-}
-
-fn log_of_two_lines(alloc: Global) -> Result<Log, AllocError> {
-    let mut lines = Items::new(alloc);
-    lines.push(line_of(alloc, &[SatLit(2), SatLit(5)], &[0, 7, 1])?)?;
-    lines.push(line_of(alloc, &[], &[])?)?;
-    Ok(Log { lines })
-}
-
-#[test]
-fn copies_logs(rt: HostRuntime) -> Result<(), Fail> {
-    let log = log_of_two_lines(rt.alloc())?;
-    assert!(rt; log.copy(rt.alloc())? == log);
-    Ok(())
-}
 
 /// Puts three clauses, the second one empty, and answers the numbers of the first two.
 fn put_three(store: &mut ClauseStore) -> Result<(u64, u64), AllocError> {
