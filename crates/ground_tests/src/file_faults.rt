@@ -70,8 +70,8 @@ fn tells(
     Ok((error.name == name) & (told.as_str() == why))
 }
 
-/// Whether a file that was made is refused to a writer by a name that leads to it, and has what it had.
-fn keeps_what_it_made(
+/// Whether a file that was made or read is refused to a writer by a name that leads to it, and has what it had.
+fn keeps_it(
     rt: HostRuntime,
     shelf: &mut DiskShelf<HostRuntime>,
     name: &str,
@@ -90,7 +90,7 @@ fn keeps_what_it_made(
 
 const USED: &str = "this run has read or made it already, by this name or another";
 
-/// Whether a file that was made is refused to a writer by its name, a path and a link, and that is told.
+/// Whether a file that was made or read is refused to a writer by its name, a path and a link, and that is told.
 fn refuses_each_name(
     rt: HostRuntime,
     shelf: &mut DiskShelf<HostRuntime>,
@@ -100,9 +100,9 @@ fn refuses_each_name(
 ) -> Result<bool, Fail>
     requires { (⟦<DiskShelf<HostRuntime> as Shelf>⟧.state shelf.old).mode ≡ Closed }
 {
-    let by_name = keeps_what_it_made(rt, shelf, name, name)?;
-    let by_path = keeps_what_it_made(rt, shelf, name, path)?;
-    let by_link = keeps_what_it_made(rt, shelf, name, link)?;
+    let by_name = keeps_it(rt, shelf, name, name)?;
+    let by_path = keeps_it(rt, shelf, name, path)?;
+    let by_link = keeps_it(rt, shelf, name, link)?;
     Ok(by_name & by_path & by_link & tells(rt.alloc(), shelf, link, USED)?)
 }
 
@@ -112,9 +112,29 @@ fn write_anew(rt: HostRuntime, name: &str) -> Result<(), ShelfStop> {
     write_letter(&mut shelf, name)
 }
 
-/// A file that was made isn't made anew, by whatever name. Another run may write it.
+/// Reads a file of one letter.
+fn read_letter(shelf: &mut DiskShelf<HostRuntime>, name: &str) -> Result<bool, ShelfStop>
+    requires { (⟦<DiskShelf<HostRuntime> as Shelf>⟧.state shelf.old).mode ≡ Closed }
+    ensures { OnOk result ((⟦<DiskShelf<HostRuntime> as Shelf>⟧.state shelf.new).mode ≡ Closed) }
+{
+    let Some(len) = shelf.open(name)? else {
+        return Ok(false);
+    };
+    let count = shelf.read(&mut [b'-'; 9])?;
+    shelf.close()?;
+    Ok((len == 1) & (count == 1))
+}
+
+/// Whether another run that has read a file is refused it as a writer.
+fn refuses_what_it_read(rt: HostRuntime, names: [&str; 3]) -> Result<bool, Fail> {
+    let mut shelf = DiskShelf::new(rt);
+    let read = read_letter(&mut shelf, names[0])?;
+    Ok(read & refuses_each_name(rt, &mut shelf, names[0], names[1], names[2])?)
+}
+
+/// A file that was made or read isn't made anew, by whatever name. Another run may write it.
 #[test]
-fn makes_no_file_twice(rt: HostRuntime) -> Result<(), Fail> {
+fn makes_no_file_that_it_used(rt: HostRuntime) -> Result<(), Fail> {
     let name = "shelf_core_made_by_a_test";
     let path = "./shelf_core_made_by_a_test";
     let link = "shelf_core_made_and_linked_by_a_test";
@@ -123,6 +143,7 @@ fn makes_no_file_twice(rt: HostRuntime) -> Result<(), Fail> {
     let made = shelf.last_error().is_none();
     fs::hard_link(&rt, name, link)?;
     assert!(rt; made & refuses_each_name(rt, &mut shelf, name, path, link)?);
+    assert!(rt; refuses_what_it_read(rt, [name, path, link])?);
     write_anew(rt, link)?;
     fs::remove_file(&rt, name)?;
     fs::remove_file(&rt, link)?;

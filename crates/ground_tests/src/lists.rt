@@ -87,11 +87,6 @@ fn lists_edit_in_place(rt: HostRuntime) -> Result<(), AllocError> {
     assert_eq!(rt; list.as_slice(), [7].as_slice());
     list.clear();
     assert!(rt; list.is_empty());
-    Ok(())
-}
-
-#[test]
-fn lists_are_gone_over(rt: HostRuntime) -> Result<(), AllocError> {
     assert_eq!(rt; sum(list_of(rt.alloc(), &[7, 60])?), 67);
     Ok(())
 }

@@ -173,78 +173,32 @@ fn reaches_the_disk(rt: HostRuntime) -> Result<(), Fail> {
     Ok(())
 }
 
-/// Whether a file is read, and is refused then to a writer by a name that leads to it, and has what it had.
-fn keeps_what_it_read(
+/// The length with which a file opens, and what its first read comes to.
+fn first_read(
     shelf: &mut DiskShelf<HostRuntime>,
     name: &str,
-    other: &str,
-) -> Result<bool, ShelfStop>
+) -> Result<Option<(u64, Result<usize, ShelfStop>)>, ShelfStop>
     requires { (⟦<DiskShelf<HostRuntime> as Shelf>⟧.state shelf.old).mode ≡ Closed }
     ensures { OnOk result ((⟦<DiskShelf<HostRuntime> as Shelf>⟧.state shelf.new).mode ≡ Closed) }
 {
-    let before = reads_back(shelf, name)?;
-    let Err(refused) = shelf.create(other) else {
-        shelf.close()?;
-        return Ok(false);
-    };
-    let after = reads_back(shelf, name)?;
-    Ok(before & after & (refused == ShelfStop::Failed))
-}
-
-/// Whether a file that was read is refused to a writer by its name, a path and a link.
-fn refuses_each_name(
-    shelf: &mut DiskShelf<HostRuntime>,
-    name: &str,
-    path: &str,
-    link: &str,
-) -> Result<bool, ShelfStop>
-    requires { (⟦<DiskShelf<HostRuntime> as Shelf>⟧.state shelf.old).mode ≡ Closed }
-{
-    let by_name = keeps_what_it_read(shelf, name, name)?;
-    let by_path = keeps_what_it_read(shelf, name, path)?;
-    let by_link = keeps_what_it_read(shelf, name, link)?;
-    Ok(by_name & by_path & by_link)
-}
-
-/// Writes the letter in another run.
-fn write_anew(rt: HostRuntime, name: &str) -> Result<(), ShelfStop> {
-    let mut shelf = DiskShelf::new(rt);
-    write_letter(&mut shelf, name)
-}
-
-/// A file that was read is not written, by whatever name. Another run may write it.
-#[test]
-fn writes_no_file_that_it_read(rt: HostRuntime) -> Result<(), Fail> {
-    let name = "shelf_core_read_by_a_test";
-    let path = "./shelf_core_read_by_a_test";
-    let link = "shelf_core_linked_by_a_test";
-    let mut shelf = DiskShelf::new(rt);
-    write_letter(&mut shelf, name)?;
-    fs::hard_link(&rt, name, link)?;
-    assert!(rt; refuses_each_name(&mut shelf, name, path, link)?);
-    write_anew(rt, link)?;
-    fs::remove_file(&rt, name)?;
-    fs::remove_file(&rt, link)?;
-    Ok(())
-}
-
-fn is_empty(shelf: &mut DiskShelf<HostRuntime>, name: &str) -> Result<bool, ShelfStop>
-    requires { (⟦<DiskShelf<HostRuntime> as Shelf>⟧.state shelf.old).mode ≡ Closed }
-{
-    let mut buf = [b'-'; 3];
     let Some(len) = shelf.open(name)? else {
-        return Ok(false);
+        return Ok(None);
     };
-    let count = shelf.read(&mut buf)?;
+    let mut buf = [b'-'; 3];
+    let count = shelf.read(&mut buf);
     shelf.close()?;
-    Ok((len == 0) & (count == 0))
+    Ok(Some((len, count)))
 }
 
-/// What the machine's null device has is an empty file.
+/// What the machine's null device has is an empty file. A device that never ends opens as a file that is longer than a
+/// netlist may be, and fails at its first read.
 #[test]
-fn reads_a_device_to_its_end(rt: HostRuntime) -> Result<(), Fail> {
+fn reads_devices(rt: HostRuntime) -> Result<(), Fail> {
     let mut shelf = DiskShelf::new(rt);
-    assert!(rt; is_empty(&mut shelf, "/dev/null")?);
+    let empty = first_read(&mut shelf, "/dev/null")?;
+    let endless = first_read(&mut shelf, "/dev/zero")?;
+    assert_eq!(rt; empty, Some((0, Ok(0))));
+    assert_eq!(rt; endless, Some((67_108_865, Err(ShelfStop::Failed))));
     Ok(())
 }
 
@@ -279,31 +233,6 @@ fn holds_no_stream_past_its_bound(rt: HostRuntime) -> Result<(), Fail> {
     assert!(rt; goes_on_past(rt.alloc(), &mut six, 5)?);
     let mut endless = File::open(&rt, "/dev/zero")?;
     assert!(rt; goes_on_past(rt.alloc(), &mut endless, 100_000)?);
-    Ok(())
-}
-
-/// Whether a file opens with a length, fails at its first read and closes.
-fn is_longer_than_kept(
-    shelf: &mut DiskShelf<HostRuntime>,
-    name: &str,
-    len: u64,
-) -> Result<bool, ShelfStop>
-    requires { (⟦<DiskShelf<HostRuntime> as Shelf>⟧.state shelf.old).mode ≡ Closed }
-{
-    let Some(found) = shelf.open(name)? else {
-        return Ok(false);
-    };
-    let mut buf = [b'-'; 3];
-    let refused = shelf.read(&mut buf) == Err(ShelfStop::Failed);
-    shelf.close()?;
-    Ok((found == len) & refused)
-}
-
-/// A device that never ends opens as a file that is longer than a netlist may be.
-#[test]
-fn opens_an_endless_device_as_too_long(rt: HostRuntime) -> Result<(), Fail> {
-    let mut shelf = DiskShelf::new(rt);
-    assert!(rt; is_longer_than_kept(&mut shelf, "/dev/zero", 67_108_865)?);
     Ok(())
 }
 

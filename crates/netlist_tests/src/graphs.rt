@@ -1,12 +1,11 @@
-//! Two circuits that are worked out by hand, and one of their matches.
+//! Circuits that are worked out by hand.
 
 mod covers;
 mod in_order;
 mod nets;
 
-use crate::compared::is_graph;
-use net_core::{Graph, Graphs, Lit, Matching, Side, lit_value};
-use samples::{SampleFault, graph, matching};
+use net_core::{Graph, Lit, lit_value};
+use samples::{SampleFault, graph};
 use std::alloc::{AllocError, Global};
 use std::test::Fail;
 
@@ -38,48 +37,6 @@ fn evaluates(rt: HostRuntime) -> Result<(), Fail> {
     ] {
         assert!(rt; evaluates_to(&graph, a, b, conjunction), "at {a} {b}");
     }
-    Ok(())
-}
-
-// Whether a matching with these entries of inputs, and one of an output, is one of n inputs and m outputs.
-fn has_shape(alloc: Global, inputs: &[(u32, bool)], n: u32, m: u32) -> Result<bool, AllocError> {
-    Ok(matching(alloc, inputs, &[(0, false)])?.check_shape(n, m))
-}
-
-// The entries of two inputs, n and m, and whether a matching with them and an output has that shape.
-type Shape = (&'static [(u32, bool)], u32, u32, bool);
-
-static SHAPES: [Shape; 4] = [
-    (&[(1, true), (0, false)], 2, 1, true),
-    (&[(1, true), (0, false)], 2, 2, false),
-    (&[(1, true), (0, false)], 1, 1, false),
-    // two inputs go to one
-    (&[(1, true), (1, false)], 2, 1, false),
-];
-
-#[test]
-fn checks_shapes(rt: HostRuntime) -> Result<(), Fail> {
-    for (inputs, n, m, has) in SHAPES.iter() {
-        let found = has_shape(rt.alloc(), inputs, *n, *m)?;
-        assert_eq!(rt; found, *has, "at {inputs:?} {n} {m}");
-    }
-    Ok(())
-}
-
-fn copy_of_first(alloc: Global) -> Result<Graph, Fail> {
-    let graph = first(alloc)?;
-    Ok(graph.copy(alloc)?)
-}
-
-#[test]
-fn copies_and_picks_sides(rt: HostRuntime) -> Result<(), Fail> {
-    let first = copy_of_first(rt.alloc())?;
-    let second = graph(rt.alloc(), 1, &[], &[])?;
-    let graphs = Graphs::new(&first, &second);
-    let first = graphs.side(Side::First);
-    assert!(rt; is_graph(first, &[(2, 4)], &[Lit(6), Lit(2)]));
-    let inputs = (first.inputs(), graphs.side(Side::Second).inputs());
-    assert_eq!(rt; inputs, (2, 1));
     Ok(())
 }
 

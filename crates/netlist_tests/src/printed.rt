@@ -40,21 +40,6 @@ fn is_blif(alloc: Global, named: &Named, text: &[u8]) -> Result<bool, AllocError
     Ok(out.as_slice() == text)
 }
 
-#[test]
-fn prints_an_and_gate_and_a_wire(rt: HostRuntime) -> Result<(), Fail> {
-    let named = read(rt.alloc(), b"aag 3 2 0 2 1\n2\n4\n6\n2\n6 2 4\ni1 b c\n")?;
-    assert!(rt;
-        are_texts(
-            rt.alloc(),
-            &named,
-            b">aag 3 2 0 2 1\n2\n4\n6\n2\n6 2 4\ni0 i0\ni1 b c\no0 o0\no1 o1\n",
-            b">aig 3 2 0 2 1\n6\n2\n\x02\x02i0 i0\ni1 b c\no0 o0\no1 o1\n",
-            AND_AS_BLIF.as_bytes(),
-        )?
-    );
-    Ok(())
-}
-
 /// An AND and its first input, as BLIF.
 const AND_AS_BLIF: &str = "\
 >.model npnp
@@ -70,29 +55,35 @@ const AND_AS_BLIF: &str = "\
 .end
 ";
 
-#[test]
-fn calls_ports_without_names_by_their_positions(rt: HostRuntime) -> Result<(), Fail> {
-    let named = read(rt.alloc(), b"aag 3 2 0 2 1\n2\n4\n6\n2\n6 2 4\n")?;
-    assert!(rt;
-        is_ascii(
-            rt.alloc(),
-            &named,
-            b">aag 3 2 0 2 1\n2\n4\n6\n2\n6 2 4\ni0 i0\ni1 i1\no0 o0\no1 o1\n",
-        )?
-    );
-    Ok(())
-}
+/// Netlists as they are read, and the three texts of each: ASCII, binary and BLIF. Ports without names are called by
+/// their positions.
+static PRINTED: [(&[u8], &[u8], &[u8], &str); 3] = [
+    (
+        b"aag 3 2 0 2 1\n2\n4\n6\n2\n6 2 4\ni1 b c\n",
+        b">aag 3 2 0 2 1\n2\n4\n6\n2\n6 2 4\ni0 i0\ni1 b c\no0 o0\no1 o1\n",
+        b">aig 3 2 0 2 1\n6\n2\n\x02\x02i0 i0\ni1 b c\no0 o0\no1 o1\n",
+        AND_AS_BLIF,
+    ),
+    (
+        b"aag 3 2 0 2 1\n2\n4\n6\n2\n6 2 4\n",
+        b">aag 3 2 0 2 1\n2\n4\n6\n2\n6 2 4\ni0 i0\ni1 i1\no0 o0\no1 o1\n",
+        b">aig 3 2 0 2 1\n6\n2\n\x02\x02i0 i0\ni1 i1\no0 o0\no1 o1\n",
+        AND_AS_BLIF,
+    ),
+    (
+        b"aag 1 1 0 1 0\n2\n2\n",
+        b">aag 1 1 0 1 0\n2\n2\ni0 i0\no0 o0\n",
+        b">aig 1 1 0 1 0\n2\ni0 i0\no0 o0\n",
+        ">.model npnp\n.inputs i0\n.outputs o0\n.names z\n.names i0 o0\n1 1\n.end\n",
+    ),
+];
 
 #[test]
-fn prints_a_wire_as_a_cover(rt: HostRuntime) -> Result<(), Fail> {
-    let named = read(rt.alloc(), b"aag 1 1 0 1 0\n2\n2\n")?;
-    assert!(rt;
-        is_blif(
-            rt.alloc(),
-            &named,
-            b">.model npnp\n.inputs i0\n.outputs o0\n.names z\n.names i0 o0\n1 1\n.end\n",
-        )?
-    );
+fn prints_each_form(rt: HostRuntime) -> Result<(), Fail> {
+    for (netlist, ascii, binary, blif) in PRINTED.iter() {
+        let named = read(rt.alloc(), netlist)?;
+        assert!(rt; are_texts(rt.alloc(), &named, ascii, binary, blif.as_bytes())?);
+    }
     Ok(())
 }
 

@@ -20,7 +20,7 @@ const REVERSED: &[u8] = b"aag 4 2 0 1 2\n2\n4\n8\n8 6 2\n6 2 4\n";
 /// One input and one output, with symbols and a comment.
 const NAMED: &[u8] = b"aag 1 1 0 1 0\n2\n2\ni0 in put\no0 q\nc\nx";
 
-static MATCHES: [Row; 7] = [
+static OF_AIGER: [Row; 9] = [
     Row {
         files: [A, B, TABLE],
         status: 0,
@@ -84,12 +84,18 @@ static MATCHES: [Row; 7] = [
                   input 9 i9 = input 9 i9\ninput 10 i10 = input 10 i10\ninput 11 i11 = input 11 i11\n\
                   input 12 i12 = input 12 i12\n",
     },
+    // an account of other netlists, and a second netlist that is none
+    Row {
+        files: [AND, WIRE, AND_OR],
+        status: 2,
+        report: b"rejected line 2 conclusion\n",
+    },
+    Row {
+        files: [A, b"aag 0 0 0 1 0\nx\n", TABLE],
+        status: 5,
+        report: b"malformed second 7 14\n",
+    },
 ];
-
-#[test]
-fn accepts_matches(rt: HostRuntime) -> Result<(), Fail> {
-    check_rows(&rt, rt.alloc(), &MATCHES)
-}
 
 /// Alterations of the account of the AND and the OR.
 static BAD_ACCOUNTS: [Altered; 16] = [
@@ -123,12 +129,6 @@ static BAD_ACCOUNTS: [Altered; 16] = [
 #[test]
 fn rejects_accounts_at_their_first_bad_line(rt: HostRuntime) -> Result<(), Fail> {
     check_altered(&rt, rt.alloc(), [AND, OR, AND_OR], &BAD_ACCOUNTS)
-}
-
-#[test]
-fn rejects_an_account_of_other_netlists(rt: HostRuntime) -> Result<(), Fail> {
-    let report = b"rejected line 2 conclusion\n";
-    expect(&rt, rt.alloc(), CHECK, [AND, WIRE, AND_OR], 2, report)
 }
 
 /// A match of the two: the lines of a log derive that gates are equal, up to the last one, which is empty.
@@ -213,7 +213,8 @@ static OF_BOTH_FORMATS: [Row; 5] = [
 ];
 
 #[test]
-fn reads_both_formats(rt: HostRuntime) -> Result<(), Fail> {
+fn checks_accounts_of_either_format(rt: HostRuntime) -> Result<(), Fail> {
+    check_rows(&rt, rt.alloc(), &OF_AIGER)?;
     check_rows(&rt, rt.alloc(), &OF_BOTH_FORMATS)
 }
 
@@ -405,12 +406,6 @@ fn refuses_malformed_netlists_at_their_place(rt: HostRuntime) -> Result<(), Fail
     Ok(())
 }
 
-#[test]
-fn names_the_second_netlist_as_malformed(rt: HostRuntime) -> Result<(), Fail> {
-    let files: [&[u8]; 3] = [A, b"aag 0 0 0 1 0\nx\n", TABLE];
-    expect(&rt, rt.alloc(), CHECK, files, 5, b"malformed second 7 14\n")
-}
-
 /// A shelf whose files are one byte longer than a netlist may be. It counts its calls, and a close may fail.
 #[derive(Drop)]
 struct TooLong {
@@ -496,13 +491,9 @@ fn expect_of_long_files(
     Ok(())
 }
 
-/// By two calls: open and close.
+/// By two calls: open and close, which may fail.
 #[test]
 fn closes_a_long_netlist_unread(rt: HostRuntime) -> Result<(), Fail> {
-    expect_of_long_files(&rt, rt.alloc(), false, (5, b"too large first\n", 2))
-}
-
-#[test]
-fn says_that_a_long_netlist_was_not_closed(rt: HostRuntime) -> Result<(), Fail> {
+    expect_of_long_files(&rt, rt.alloc(), false, (5, b"too large first\n", 2))?;
     expect_of_long_files(&rt, rt.alloc(), true, (6, b"read fault\n", 2))
 }

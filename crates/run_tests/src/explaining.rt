@@ -262,11 +262,13 @@ fn tells_why_there_is_no_match(rt: HostRuntime) -> Result<(), Fail> {
     Ok(())
 }
 
-/// Words by which nothing may be learned, netlists, and what is told of the budget that is spent.
-static SPENT: [(&[&str], [&[u8]; 2], &str); 3] = [
+/// Words, netlists and an account, and what is told of the run: of a budget that is spent, of names that can be given
+/// back, and nothing where the report says it all.
+static TOLD: [(&[&str], [&[u8]; 2], Option<&[u8]>, &str); 5] = [
     (
         &["info", "A", "0"],
         [AND, EMPTY],
+        None,
         "npnp: the budget of 0 learned clauses was spent\n\
          npnp: lines by how many literals they have, with the refused one: 1 of 0, 0 of 1, 0 of 2, 0 of 3 or 4, 0 \
          of 5 to 8, 0 of more\n\
@@ -275,6 +277,7 @@ static SPENT: [(&[&str], [&[u8]; 2], &str); 3] = [
     (
         &["match", "A", "B", "t", "0"],
         [A, B],
+        None,
         "npnp: the budget of 0 learned clauses was spent\n\
          npnp: lines by how many literals they have, with the refused one: 1 of 0, 0 of 1, 0 of 2, 0 of 3 or 4, 0 \
          of 5 to 8, 0 of more\n\
@@ -283,17 +286,25 @@ static SPENT: [(&[&str], [&[u8]; 2], &str); 3] = [
     (
         &["match", "A", "B", "t", "0"],
         [C17, C17_MOVED],
+        None,
         "npnp: the budget of 0 learned clauses was spent\n\
          npnp: lines by how many literals they have, with the refused one: 1 of 0, 0 of 1, 0 of 2, 0 of 3 or 4, 0 \
          of 5 to 8, 0 of more\n\
          npnp: 10^23 are known to be enough for these circuits; fewer are likely to be\n",
     ),
+    (
+        MATCH,
+        [A, B],
+        None,
+        "npnp: `npnp restore A B t NEW` gives the names back: NEW is B with the ports of A\n",
+    ),
+    (CHECK, [A, B], Some(TABLE), ""),
 ];
 
 #[test]
-fn tells_what_budget_is_enough(rt: HostRuntime) -> Result<(), Fail> {
-    for (words, netlists, text) in SPENT.iter() {
-        let told = told_of_run(rt.alloc(), words, *netlists, None)?;
+fn tells_what_a_run_came_to(rt: HostRuntime) -> Result<(), Fail> {
+    for (words, netlists, account, text) in TOLD.iter() {
+        let told = told_of_run(rt.alloc(), words, *netlists, *account)?;
         assert_eq!(rt; told.as_str(), *text);
     }
     Ok(())
@@ -418,45 +429,30 @@ fn tells_that_the_report_failed(rt: HostRuntime) -> Result<(), Fail> {
     Ok(())
 }
 
-#[test]
-fn tells_nothing_where_the_report_says_it(rt: HostRuntime) -> Result<(), Fail> {
-    let told = told_of_run(rt.alloc(), CHECK, [A, B], Some(TABLE))?;
-    assert_eq!(rt; told.as_str(), "");
-    Ok(())
-}
+/// A word that asks for a notice, the notice, and what it begins with and has.
+static NOTICES: [(&str, Notice, &str, &str); 2] = [
+    (
+        "--version",
+        Notice::Version,
+        "npnp 0.4.0 (rattle-kit-13f logic dac8208d650f15bf)\n",
+        "",
+    ),
+    (
+        "-h",
+        Notice::Help,
+        "npnp match FIRST SECOND ACCOUNT [BUDGET [SEED]]\n",
+        "\n7       `out of memory`\n",
+    ),
+];
 
 #[test]
-fn tells_how_names_are_given_back(rt: HostRuntime) -> Result<(), Fail> {
-    let told = told_of_run(rt.alloc(), MATCH, [A, B], None)?;
-    assert_eq!(rt;
-        told.as_str(),
-        "npnp: `npnp restore A B t NEW` gives the names back: NEW is B with the ports of A\n"
-    );
-    Ok(())
-}
-
-#[test]
-fn tells_its_version(rt: HostRuntime) -> Result<(), Fail> {
-    let words = words_of(rt.alloc(), &["--version"])?;
-    assert_eq!(rt; Notice::asked(words.as_slice()), Some(Notice::Version));
-    let text = Notice::Version.to_string(rt.alloc())?;
-    assert_eq!(rt;
-        text.as_str(),
-        "npnp 0.4.0 (rattle-kit-13f logic dac8208d650f15bf)\n"
-    );
-    Ok(())
-}
-
-#[test]
-fn tells_its_forms(rt: HostRuntime) -> Result<(), Fail> {
-    let words = words_of(rt.alloc(), &["-h"])?;
-    assert_eq!(rt; Notice::asked(words.as_slice()), Some(Notice::Help));
-    let text = Notice::Help.to_string(rt.alloc())?;
-    assert!(rt;
-        text.as_str()
-            .starts_with("npnp match FIRST SECOND ACCOUNT [BUDGET [SEED]]\n")
-    );
-    assert!(rt; text.as_str().contains("\n7       `out of memory`\n"));
+fn tells_its_version_and_forms(rt: HostRuntime) -> Result<(), Fail> {
+    for (word, notice, front, part) in NOTICES.iter() {
+        let words = words_of(rt.alloc(), &[*word])?;
+        assert_eq!(rt; Notice::asked(words.as_slice()), Some(*notice));
+        let told = notice.to_string(rt.alloc())?;
+        assert!(rt; told.as_str().starts_with(*front) & told.as_str().contains(*part));
+    }
     Ok(())
 }
 

@@ -46,14 +46,10 @@ fn expect_in_turn(
     Ok(())
 }
 
+/// Of a longer account the calls up to the one that creates it.
 #[test]
 fn leaves_a_first_part_of_the_account(rt: HostRuntime) -> Result<(), Fail> {
-    expect_in_turn(&rt, rt.alloc(), [EMPTY, EMPTY], &OF_NOTHING)
-}
-
-/// Up to the call that creates the account.
-#[test]
-fn leaves_no_account_that_was_not_made(rt: HostRuntime) -> Result<(), Fail> {
+    expect_in_turn(&rt, rt.alloc(), [EMPTY, EMPTY], &OF_NOTHING)?;
     expect_in_turn(&rt, rt.alloc(), [A, B], &OF_NOTHING[..7])
 }
 

@@ -104,26 +104,3 @@ fn two_seeds_draw_other_words_and_find_the_same(rt: HostRuntime) -> Result<(), F
     }
     Ok(())
 }
-
-/// An input of twelve, too many for all vectors to be tried.
-const ONE_OF_TWELVE: Sample = Sample {
-    inputs: 12,
-    gates: &[],
-    outputs: &[2],
-};
-
-/// The first word of the vectors that a search tries pairs on.
-fn first_word(alloc: Global, seed: u64) -> Result<u64, Fail> {
-    let both = pair(alloc, ONE_OF_TWELVE, ONE_OF_TWELVE)?;
-    let trials = Trials::new(alloc, &both.first, seed)?;
-    if (trials.inputs.columns() == 0) | (trials.inputs.words() == 0) {
-        return Ok(0);
-    }
-    Ok(trials.inputs.get(0, 0))
-}
-
-#[test]
-fn two_seeds_try_other_vectors(rt: HostRuntime) -> Result<(), Fail> {
-    assert!(rt; first_word(rt.alloc(), 1)? != first_word(rt.alloc(), 2)?);
-    Ok(())
-}

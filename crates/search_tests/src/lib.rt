@@ -10,8 +10,6 @@ mod claims;
 #[cfg(test)]
 mod comparisons;
 #[cfg(test)]
-mod fillings;
-#[cfg(test)]
 mod guesses;
 #[cfg(test)]
 mod refinings;

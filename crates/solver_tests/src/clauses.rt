@@ -1,30 +1,8 @@
-//! Clauses and logs, put and read back.
+//! Clauses, put and read back.
 
-use cnf_core::{Clause3, ClauseStore, Log, LogLine, SatLit, opposites};
-use items::Items;
+use cnf_core::{Clause3, ClauseStore, SatLit, opposites};
 use std::alloc::{AllocError, Global};
 use std::test::Fail;
-
-fn line_of(alloc: Global, literals: &[SatLit], hints: &[u64]) -> Result<LogLine, AllocError> {
-    Ok(LogLine {
-        clause: Items::from_slice(alloc, literals)?,
-        hints: Items::from_slice(alloc, hints)?,
-    })
-}
-
-fn log_of_two_lines(alloc: Global) -> Result<Log, AllocError> {
-    let mut lines = Items::new(alloc);
-    lines.push(line_of(alloc, &[SatLit(2), SatLit(5)], &[0, 7, 1])?)?;
-    lines.push(line_of(alloc, &[], &[])?)?;
-    Ok(Log { lines })
-}
-
-#[test]
-fn copies_logs(rt: HostRuntime) -> Result<(), Fail> {
-    let log = log_of_two_lines(rt.alloc())?;
-    assert!(rt; log.copy(rt.alloc())? == log);
-    Ok(())
-}
 
 fn has_opposites(
     alloc: Global,

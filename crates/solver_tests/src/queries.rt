@@ -355,21 +355,12 @@ fn number_of(
     Ok(numbers.get(feeds).copied())
 }
 
-fn equal_number(straight: &Feeds, valued: &Feeds, feeds: &Feeds) -> Option<u32> {
-    if feeds == straight {
-        return Some(1);
-    }
-    if feeds == valued { Some(2) } else { None }
-}
-
-/// The number under which a map has these feeds, and the number of the equal ones: 1 for those where each input gets
-/// its own bit, 2 for those of a claim.
-fn numbers_of(alloc: Global, feeds: &[Feed]) -> Result<(Option<u32>, Option<u32>), Fail> {
+/// The number under which a map has these feeds: 1 for those where each input gets its own bit, 2 for those of a claim.
+fn kept_number(alloc: Global, feeds: &[Feed]) -> Result<Option<u32>, Fail> {
     let straight = Feeds::straight(3);
     let valued = Feeds::valued(3, swap(0, 2, true, false));
     let feeds = listed(alloc, feeds)?;
-    let kept = number_of(alloc, &straight, &valued, &feeds)?;
-    Ok((kept, equal_number(&straight, &valued, &feeds)))
+    number_of(alloc, &straight, &valued, &feeds)
 }
 
 #[test]
@@ -380,11 +371,7 @@ fn feeds_are_the_same_in_each_form(rt: HostRuntime) -> Result<(), Fail> {
         ([Feed::Fixed(true), wire(1), Feed::Fixed(true)], None),
         ([Feed::Fixed(true), wire(1), wire(2)], None),
     ] {
-        assert_eq!(rt;
-            numbers_of(rt.alloc(), &feeds)?,
-            (number, number),
-            "{feeds:?}"
-        );
+        assert_eq!(rt; kept_number(rt.alloc(), &feeds)?, number, "{feeds:?}");
     }
     assert!(rt; Feeds::straight(3) != Feeds::straight(2));
     Ok(())
