@@ -6,7 +6,7 @@ use Rattle.byte_form.proofs.CodeLemmas.{first_none, next_none}
 use Rattle.account_bytes.specs.declared.form.FormStop.{FormStop}
 use Rattle.account_bytes.specs.declared.form.FormStop.TheVariants.{Malformed, Memory}
 use Rattle.account_bytes.specs.Bodies.{Always}
-use Rattle.account_bytes.specs.PrefixCodes.{tagged_bytes}
+use Rattle.account_bytes.specs.Fields.{tagged_bytes}
 use Rattle.account_bytes.specs.Reading.{OfTag, Reads, one_byte}
 
 stop_as : {A X : Type 0} (bytes_a : A → List ℕ) (FitsA : A → Type 0) (bytes : X → List ℕ) (Fits : X → Type 0) (mid after old new : List ℕ) (why : FormStop) → Reads {X = A} bytes_a FitsA mid (Err why) after → (BeginsNone bytes_a FitsA mid → BeginsNone bytes Fits old) → Reads {X = X} bytes Fits old (Err why) new

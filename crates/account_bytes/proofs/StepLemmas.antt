@@ -9,7 +9,8 @@ use Rattle.account_core.specs.declared.step.Step.TheVariants.{Vector, Mismatch, 
 use Rattle.account_core.specs.declared.step.Tallied.{Tallied}
 use Rattle.byte_form.specs.Codes.{BeginsWith, BeginsNone, BothFit, ListFits, both_bytes, list_bytes, number_bytes}
 use Rattle.account_bytes.specs.Bodies.{Always, IsNumber, IsPort, ShapeHasPorts, StepFits, cover_tag, port_bytes, shape_fields, shape_tag, step_fields, step_tag, tally_tag, tri_bytes}
-use Rattle.account_bytes.specs.PrefixCodes.{PortsAndReferencesFit, SwapFieldsFit, cover_tags, ports_and_references, swap_fields_bytes, tally_tags}
+use Rattle.account_bytes.specs.Fields.{PortsAndReferencesFit, SwapFieldsFit, ports_and_references, swap_fields_bytes}
+use Rattle.account_bytes.specs.PrefixProofs.{cover_tags, tally_tags}
 use Rattle.account_bytes.specs.Reading.{OfTag}
 
 swap_never : (text : List ℕ) → BeginsNone swap_fields_bytes SwapFieldsFit text → (shape : Shape) (left : List ℕ) → BeginsWith shape_fields (OfTag shape_tag ShapeHasPorts 2) text shape left → ⊥

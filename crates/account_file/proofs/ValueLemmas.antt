@@ -14,8 +14,9 @@ use Rattle.circuits.specs.declared.port.PortKind.TheVariants.{Input, Output}
 use Rattle.cnf_core.specs.declared.literal.SatLit.{SatLit}
 use Rattle.account_file.specs.declared.fault.RecordFault.{RecordFault}
 use Rattle.account_file.specs.declared.fault.RecordFault.TheVariants.{Word, Number}
-use Rattle.account_file.specs.Forms.{number_below, bad_number, or_fault, number_of, port_of, mapped, literal_with, literal_of, numbered, reference_of, kind_of_letter, flip_of_sign, pair_by, pair_after, pair_in, pair_of, is_separator}
-use Rattle.account_file.specs.Spelling.{kind_letter, sign_of, pair_word, reference_word, IsPort, IsNumber, HasPorts, IsReference}
+use Rattle.circuits.specs.Ports.{kind_of_letter, letter_of}
+use Rattle.account_file.specs.Forms.{number_below, bad_number, or_fault, number_of, port_of, mapped, literal_with, literal_of, numbered, reference_of, flip_of_sign, pair_by, pair_after, pair_in, pair_of, is_separator}
+use Rattle.account_file.specs.Spelling.{sign_of, pair_word, reference_word, IsPort, IsNumber, HasPorts, IsReference}
 use Rattle.account_file.proofs.NumberLemmas.{decimal_digits, decimal_numeral, number_read, number_written}
 use Rattle.account_file.proofs.ReadLemmas.{IsWord, IsWordOrNumber, Wrote, digits_no_separator}
 use Rattle.account_file.proofs.SpellingLemmas.{IsVisible, shown, digits_visible, digits_front}
@@ -226,7 +227,7 @@ reference_items (Some n) small = number_is_item n small
 
 -- pairs of ports
 
-kind_read : (kind : PortKind) → kind_of_letter (kind_letter kind) ≡ Some kind
+kind_read : (kind : PortKind) → kind_of_letter (letter_of kind) ≡ Some kind
 kind_read Input = refl
 kind_read Output = refl
 
@@ -238,7 +239,7 @@ sign_ends : (flip : Bool) → is_ascii_digit (sign_of flip) ≡ false
 sign_ends true = refl
 sign_ends false = refl
 
-letter_shows : (kind : PortKind) → 32 < kind_letter kind
+letter_shows : (kind : PortKind) → 32 < letter_of kind
 letter_shows Input = omega arith
 letter_shows Output = omega arith
 
@@ -251,23 +252,23 @@ pair_read pair ports =
     let from = decimal pair.from in
     let after : List ℕ = sign_of pair.flip ∷ decimal pair.to in
     let digits = digits_front from (sign_of pair.flip) (decimal pair.to) (decimal_digits pair.from (omega (arith, ports.from))) (sign_ends pair.flip) in
-    let cut : ℕ → Option Pair = λ n. pair_after (kind_of_letter (kind_letter pair.kind)) (take n (from ++ after)) (drop n (from ++ after)) in
+    let cut : ℕ → Option Pair = λ n. pair_after (kind_of_letter (letter_of pair.kind)) (take n (from ++ after)) (drop n (from ++ after)) in
     let first = number_read (2 ^ 32) pair.from ports.from (omega arith) in
     let second = number_read (2 ^ 32) pair.to ports.to (omega arith) in
     ap cut digits
-    ∙ ap (λ l. pair_after (kind_of_letter (kind_letter pair.kind)) l (drop (length from) (from ++ after))) (take_at from after (length from) refl)
-    ∙ ap (λ l. pair_after (kind_of_letter (kind_letter pair.kind)) from l) (drop_at from after (length from) refl)
+    ∙ ap (λ l. pair_after (kind_of_letter (letter_of pair.kind)) l (drop (length from) (from ++ after))) (take_at from after (length from) refl)
+    ∙ ap (λ l. pair_after (kind_of_letter (letter_of pair.kind)) from l) (drop_at from after (length from) refl)
     ∙ ap (λ k. pair_by k (number_below (2 ^ 32) from) (flip_of_sign (sign_of pair.flip)) (number_below (2 ^ 32) (decimal pair.to))) (kind_read pair.kind)
     ∙ ap (λ n. pair_by (Some pair.kind) n (flip_of_sign (sign_of pair.flip)) (number_below (2 ^ 32) (decimal pair.to))) first
     ∙ ap (λ f. pair_by (Some pair.kind) (Some pair.from) f (number_below (2 ^ 32) (decimal pair.to))) (flip_read pair.flip)
     ∙ ap (λ n. pair_by (Some pair.kind) (Some pair.from) (Some pair.flip) n) second
 
-kind_written : (letter : ℕ) (kind : PortKind) → kind_of_letter letter ≡ Some kind → letter ≡ kind_letter kind
+kind_written : (letter : ℕ) (kind : PortKind) → kind_of_letter letter ≡ Some kind → letter ≡ letter_of kind
 kind_written letter kind e = by (eqb letter 105) (eqb letter 111) refl refl e
   where
-    by : (i o : Bool) → eqb letter 105 ≡ i → eqb letter 111 ≡ o → cond i (Some Input) (cond o (Some Output) None) ≡ Some kind → letter ≡ kind_letter kind
-    by true o is other e = let k : Input ≡ kind = cc in eqb-true letter 105 is ∙ ap kind_letter k
-    by false true is other e = let k : Output ≡ kind = cc in eqb-true letter 111 other ∙ ap kind_letter k
+    by : (i o : Bool) → eqb letter 105 ≡ i → eqb letter 111 ≡ o → cond i (Some Input) (cond o (Some Output) None) ≡ Some kind → letter ≡ letter_of kind
+    by true o is other e = let k : Input ≡ kind = cc in eqb-true letter 105 is ∙ ap letter_of k
+    by false true is other e = let k : Output ≡ kind = cc in eqb-true letter 111 other ∙ ap letter_of k
     by false false is other e = cc
 
 flip_written : (sign : ℕ) (flip : Bool) → flip_of_sign sign ≡ Some flip → sign ≡ sign_of flip
@@ -289,8 +290,8 @@ by_fields letter front sign back (Some kind) (Some from) (Some flip) (Some to) p
     let first = number_written (2 ^ 32) front from (omega arith) em in
     let second = number_written (2 ^ 32) back to (omega arith) en in
     subst (IsPairWord (letter ∷ front ++ sign ∷ back)) is (
-      ap (λ l. l ∷ front ++ sign ∷ back) (kind_written letter kind ek) ∙ ap (λ l. kind_letter kind ∷ l ++ sign ∷ back) first.0
-          ∙ ap (λ s. kind_letter kind ∷ decimal from ++ s ∷ back) (flip_written sign flip ef) ∙ ap (λ l. kind_letter kind ∷ decimal from ++ sign_of flip ∷ l) second.0,
+      ap (λ l. l ∷ front ++ sign ∷ back) (kind_written letter kind ek) ∙ ap (λ l. letter_of kind ∷ l ++ sign ∷ back) first.0
+          ∙ ap (λ s. letter_of kind ∷ decimal from ++ s ∷ back) (flip_written sign flip ef) ∙ ap (λ l. letter_of kind ∷ decimal from ++ sign_of flip ∷ l) second.0,
       record { from = first.1; to = second.1 },
     )
 by_fields letter front sign back k m f n pair ek em ef en e = cc
@@ -333,12 +334,12 @@ pair_is_word =
         let shows : ℕ → Type 0 = λ byte. 32 < byte in
         let from = digits_visible (decimal pair.from) (decimal_digits pair.from (omega (arith, ports.from))) in
         let to = digits_visible (decimal pair.to) (decimal_digits pair.to (omega (arith, ports.to))) in
-        All-cons shows (kind_letter pair.kind) (decimal pair.from ++ sign_of pair.flip ∷ decimal pair.to) (letter_shows pair.kind)
+        All-cons shows (letter_of pair.kind) (decimal pair.from ++ sign_of pair.flip ∷ decimal pair.to) (letter_shows pair.kind)
         (All-append shows (decimal pair.from) (sign_of pair.flip ∷ decimal pair.to) from (All-cons shows (sign_of pair.flip) (decimal pair.to) (sign_shows pair.flip) to))
 
 pub pair_items : AreItems pair_word HasPorts
 pair_items pair ports = by pair.kind (decimal pair.from ++ sign_of pair.flip ∷ decimal pair.to)
   where
-    by : (kind : PortKind) (rest : List ℕ) → is_separator (kind_letter kind ∷ rest) ≡ false
+    by : (kind : PortKind) (rest : List ℕ) → is_separator (letter_of kind ∷ rest) ≡ false
     by Input rest = refl
     by Output rest = refl

@@ -7,6 +7,7 @@ use Rattle.std.specs.List.{prefix_len}
 use Rattle.std.specs.Str.{bytes_eq}
 use Rattle.std.specs.Str.Parse.{digits_value}
 use Rattle.text_core.specs.Numbers.{is_numeral}
+use Rattle.circuits.specs.Ports.{kind_of_letter}
 use Rattle.circuits.specs.declared.port.Pair.{Pair}
 use Rattle.circuits.specs.declared.port.PortKind.{PortKind}
 use Rattle.circuits.specs.declared.port.PortKind.TheVariants.{Input, Output}
@@ -82,9 +83,6 @@ abbrev pub reference_of : List ℕ → Result (Option ℕ) RecordFault
 reference_of word = if bytes_eq word (codes "-") then Ok None else mapped numbered (number_of word)
 
 -- a pair of ports: a letter, a number, a sign, a number; both numbers of 32 bits
-abbrev pub kind_of_letter : ℕ → Option PortKind
-kind_of_letter letter = if letter == 105 then Some Input else if letter == 111 then Some Output else None
-
 abbrev pub flip_of_sign : ℕ → Option Bool
 flip_of_sign sign = if sign == 43 then Some false else if sign == 45 then Some true else None
 

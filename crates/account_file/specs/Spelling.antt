@@ -2,6 +2,7 @@
 use Rattle.std.specs.Prelude.{ℕ, ◌<◌, ◌^◌, All, Bool, List, [], ◌∷◌, ◌++◌, codes, map, Option, None, Some, if◌then◌else◌}
 use Rattle.std.specs.Fmt.{decimal}
 use Rattle.std.specs.List.{flat_map}
+use Rattle.circuits.specs.Ports.{letter_of}
 use Rattle.circuits.specs.declared.port.Pair.{Pair}
 use Rattle.circuits.specs.declared.port.PortKind.{PortKind}
 use Rattle.circuits.specs.declared.port.PortKind.TheVariants.{Input, Output}
@@ -23,18 +24,13 @@ use Rattle.account_core.specs.declared.step.Tallied.TheVariants.{Support, Binate
 use Rattle.account_file.specs.declared.record.Record.{Record}
 use Rattle.account_file.specs.declared.record.Record.TheVariants as record_of
 
--- `i` for an input, `o` for an output
-abbrev pub kind_letter : PortKind → ℕ
-kind_letter Input = 105
-kind_letter Output = 111
-
 -- `-` where the second port has the inverse of the first, else `+`
 abbrev pub sign_of : Bool → ℕ
 sign_of flip = if flip then 45 else 43
 
 -- where a port goes: `i3-5`, where input 3 goes to input 5 inverted
 abbrev pub pair_word : Pair → List ℕ
-pair_word pair = kind_letter pair.kind ∷ decimal pair.from ++ sign_of pair.flip ∷ decimal pair.to
+pair_word pair = letter_of pair.kind ∷ decimal pair.from ++ sign_of pair.flip ∷ decimal pair.to
 
 -- `a` for the first circuit, `b` for the second
 abbrev pub side_word : Side → List ℕ

@@ -2,9 +2,10 @@
 
 ghost use Rattle.std.specs.Prelude.{◌≡◌, ℕ, List, [], ◌∷◌, ◌++◌, codes, All, OnOk, OnErr, map};
 ghost use Rattle.std.specs.Fmt.{decimal as digits_of_number};
+ghost use Rattle.circuits.specs.Ports.{letter_of};
 ghost use Rattle.account_file.specs.Spelling.{BanHasNumbers, ClaimHasPorts, HasNumbers, HasPorts, IsNumber, IsPort};
 ghost use Rattle.account_file.specs.Spelling.{IsReference, IsWritable, ShapeHasPorts, StepHasNumbers};
-ghost use Rattle.account_file.specs.Spelling.{bit_digit, bits_word, claim_words, kind_letter, kind_word, line_text};
+ghost use Rattle.account_file.specs.Spelling.{bit_digit, bits_word, claim_words, kind_word, line_text};
 ghost use Rattle.account_file.specs.Spelling.{pair_word, record_line, reference_word, shape_words, side_word, sign_of};
 ghost use Rattle.account_file.specs.Spelling.{spaced, step_words, tallied_word, tri_digit, tris_word};
 
@@ -385,12 +386,10 @@ fn put_conclusion(conclusion: &Conclusion, out: &mut Vec<u8>) -> Result<(), Allo
 }
 
 fn put_kind(kind: PortKind, out: &mut Vec<u8>) -> Result<(), AllocError>
-    ensures { OnOk result (out.new.items ≡ out.old.items ++ kind_letter kind ∷ []) }
+    ensures { OnOk result (out.new.items ≡ out.old.items ++ letter_of kind ∷ []) }
 {
-    match kind {
-        PortKind::Input => out.extend_from_slice(b"i"),
-        PortKind::Output => out.extend_from_slice(b"o"),
-    }
+    out.push(kind.letter())?;
+    Ok(())
 }
 
 fn put_sign(flip: bool, out: &mut Vec<u8>) -> Result<(), AllocError>

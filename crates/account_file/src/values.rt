@@ -1,7 +1,7 @@
 //! The words of an account's lines that are numbers, pairs of ports or bits.
 
 ghost use Rattle.std.specs.Prelude.{◌≡◌, ◌^◌};
-ghost use Rattle.account_file.specs.Forms.{bad_number, bit_of, bits_of, flip_of_sign, is_plain, kind_of_letter};
+ghost use Rattle.account_file.specs.Forms.{bad_number, bit_of, bits_of, flip_of_sign, is_plain};
 ghost use Rattle.account_file.specs.Forms.{literal_of, number_below, number_of, pair_after, pair_in, pair_of, port_of};
 ghost use Rattle.account_file.specs.Forms.{reference_of, tri_of, tris_of, two_bits_of};
 ghost use Rattle.account_file.specs.Texts.{Answers, GivesDigits};
@@ -113,7 +113,11 @@ fn pair_in(word: &[u8]) -> Option<Pair>
         return None;
     };
     let count = digits_in_front(rest);
-    pair_after(kind_of_letter(*letter), &rest[..count], &rest[count..])
+    pair_after(
+        PortKind::from_letter(*letter),
+        &rest[..count],
+        &rest[count..],
+    )
 }
 
 // The pair of a kind and a first number, by what stands after the number.
@@ -130,16 +134,6 @@ fn pair_after(kind: Option<PortKind>, from: &[u8], rest: &[u8]) -> Option<Pair>
             to,
             flip,
         }),
-        _ => None,
-    }
-}
-
-fn kind_of_letter(letter: u8) -> Option<PortKind>
-    ensures { result ≡ kind_of_letter letter }
-{
-    match letter {
-        b'i' => Some(PortKind::Input),
-        b'o' => Some(PortKind::Output),
         _ => None,
     }
 }

@@ -8,7 +8,8 @@ use Rattle.circuits.specs.declared.port.PortKind.TheVariants.{Input, Output}
 use Rattle.text_core.specs.Lines.{lines, text_of_lines}
 use Rattle.text_core.specs.Numbers.{number}
 use Rattle.text_core.specs.Words.{words, word_length}
-use Rattle.aiger_reader.specs.Symbols.{Port, Entry, IsWithoutReturn, BeginsPosition, NamesPort, GivesName, GiveNames, AddsName, IsThere, AreSymbols, IsSymbolFault, IsNameOf, ArePortNames, AreNames, letter_of, port_at, name_or, symbol_lines}
+use Rattle.circuits.specs.Ports.{letter_of}
+use Rattle.aiger_reader.specs.Symbols.{Port, Entry, IsWithoutReturn, BeginsPosition, NamesPort, GivesName, GiveNames, AddsName, IsThere, AreSymbols, IsSymbolFault, IsNameOf, ArePortNames, AreNames, port_at, name_or, symbol_lines}
 use Rattle.aiger_reader.proofs.PositionLemmas.{position_parts, position_here}
 use Rattle.aiger_reader.proofs.SymbolLemmas.{after_letter, unnamed, gives_same}
 use Rattle.aiger_reader.proofs.GiveLemmas.{give_more, give_split, give_same}

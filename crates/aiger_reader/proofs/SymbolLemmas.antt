@@ -7,7 +7,8 @@ use Rattle.text_core.specs.Bytes.{is_blank}
 use Rattle.circuits.specs.declared.port.PortKind.{PortKind}
 use Rattle.circuits.specs.declared.port.PortKind.TheVariants.{Input, Output}
 use Rattle.text_core.specs.Words.{is_not_empty, words}
-use Rattle.aiger_reader.specs.Symbols.{IsWithoutReturn, Port, NamesPort, BeginsPosition, GivesName, letter_of, port_at}
+use Rattle.circuits.specs.Ports.{letter_of}
+use Rattle.aiger_reader.specs.Symbols.{IsWithoutReturn, Port, NamesPort, BeginsPosition, GivesName, port_at}
 use Rattle.aiger_reader.proofs.PositionLemmas.{position_same}
 
 letter_same : (a b : PortKind) → letter_of a ≡ letter_of b → a ≡ b

@@ -3,6 +3,7 @@ use Rattle.std.specs.Prelude.{◌≡◌, ◌≢◌, ℕ, ◌+◌, ◌<◌, ◌�
 use Rattle.std.specs.Prelude.{slice_index_or, slice_set, take_while}
 use Rattle.std.specs.Fmt.{decimal}
 use Rattle.circuits.specs.Literals.{EachAt}
+use Rattle.circuits.specs.Ports.{letter_of}
 use Rattle.circuits.specs.declared.port.PortKind.{PortKind}
 use Rattle.circuits.specs.declared.port.PortKind.TheVariants.{Input, Output}
 use Rattle.net_file.specs.declared.fault.NetKind.TheVariants as kind
@@ -34,11 +35,6 @@ pub record Port : Type 0 where
 -- a port, and the name that a line gives it
 abbrev pub Entry : Type 0
 Entry = Port × List ℕ
-
--- the letter that a port's line begins with: `i` or `o`
-abbrev pub letter_of : PortKind → ℕ
-letter_of Input = 105
-letter_of Output = 111
 
 -- The bytes begin with a position in digits and one blank, and this stands after them.
 pub record BeginsPosition (bytes : List ℕ) (position : ℕ) (tail : List ℕ) : Type 0 where

@@ -5,8 +5,9 @@ ghost use Rattle.std.specs.Prelude.{IfOk, IfErr, OnOk, replicate, slice_index_or
 ghost use Rattle.std.specs.Fmt.{decimal as digits_of_number};
 ghost use Rattle.circuits.specs.declared.port.PortKind.{PortKind};
 ghost use Rattle.circuits.specs.declared.port.PortKind.TheVariants.{Input, Output};
+ghost use Rattle.circuits.specs.Ports.{letter_of};
 ghost use Rattle.aiger_reader.specs.Symbols.{is_comment, IsWithoutReturn, Port, Entry, NamesPort, BeginsPosition};
-ghost use Rattle.aiger_reader.specs.Symbols.{letter_of, port_at, AreSlots, ArePortSlots, IsPut, TakesName, TakesLine};
+ghost use Rattle.aiger_reader.specs.Symbols.{port_at, AreSlots, ArePortSlots, IsPut, TakesName, TakesLine};
 ghost use Rattle.aiger_reader.specs.Symbols.{ArePortNames, name_or, AreSymbols, IsSymbolStop, AreNames};
 
 use crate::words::has_no_word;
@@ -48,18 +49,6 @@ fn opens_comment(line: &[u8]) -> bool
     }
 }
 
-// The kind of the ports whose lines begin with this letter.
-fn kind_by_letter(letter: u8) -> Option<PortKind>
-    ensures kind { IfSome result (λ kind. letter ≡ letter_of kind) }
-    ensures none { IfNone result ((kind : PortKind) → letter ≢ letter_of kind) }
-{
-    match letter {
-        b'i' => Some(PortKind::Input),
-        b'o' => Some(PortKind::Output),
-        _ => None,
-    }
-}
-
 // The position that the bytes begin with, and what stands after the blank that follows it.
 // `None` where they don't begin so, or the position is greater than any of 64 bits.
 fn position_at_front(bytes: &[u8]) -> Option<(u64, &[u8])>
@@ -97,7 +86,7 @@ fn symbol_on(line: &[u8]) -> Option<Symbol<'_>>
     let [letter, rest @ ..] = line else {
         return None;
     };
-    let kind = kind_by_letter(*letter)?;
+    let kind = PortKind::from_letter(*letter)?;
     let (position, tail) = position_at_front(rest)?;
     let name = without_return(tail);
     if name.is_empty() {
@@ -216,22 +205,12 @@ fn empty_ports(alloc: Global, inputs: u32, outputs: u32) -> Result<PortSlots, Al
     })
 }
 
-// The letter that the lines of such ports begin with.
-fn letter_of(kind: PortKind) -> u8
-    ensures { result ≡ letter_of kind }
-{
-    match kind {
-        PortKind::Input => b'i',
-        PortKind::Output => b'o',
-    }
-}
-
 // The name of a port that has none: its letter and its position.
 fn default_name(alloc: Global, kind: PortKind, position: usize) -> Result<Name, AllocError>
     ensures { IfOk result (λ name. name ≡ letter_of kind ∷ digits_of_number position) }
 {
     let mut name = Vec::new(alloc);
-    name.push(letter_of(kind))?;
+    name.push(kind.letter())?;
     put_decimal(position as u64, &mut name)?;
     Ok(Items::from_vec(name))
 }

@@ -1,4 +1,5 @@
 pub mod Literals
+pub mod Ports
 pub mod Netlists
 pub mod Bijections
 pub mod Circuits

@@ -15,7 +15,8 @@ use Rattle.text_core.specs.Piece.{Piece}
 use Rattle.text_core.specs.Words.{is_not_empty}
 use Rattle.text_core.proofs.LineLemmas.{lines-each}
 use Rattle.aiger_reader.specs.Aiger.{IsAiger}
-use Rattle.aiger_reader.specs.Symbols.{ArePortNames, Entry, GiveNames, GivesName, IsNameOf, NamesPort, Port, letter_of, port_at, symbol_lines}
+use Rattle.circuits.specs.Ports.{letter_of}
+use Rattle.aiger_reader.specs.Symbols.{ArePortNames, Entry, GiveNames, GivesName, IsNameOf, NamesPort, Port, port_at, symbol_lines}
 use Rattle.aiger_reader.proofs.LimitLemmas.{accepted_limits}
 use Rattle.aiger_reader.proofs.OneSymbols.{named_or_not}
 use Rattle.blif_reader.specs.Blif.{IsBlif, blif_lines}

@@ -10,7 +10,8 @@ use Rattle.text_core.specs.Lines.{IsLine}
 use Rattle.text_core.proofs.NumberLemmas.{number-decimal}
 use Rattle.circuits.specs.declared.port.PortKind.{PortKind}
 use Rattle.circuits.specs.declared.port.PortKind.TheVariants.{Input, Output}
-use Rattle.aiger_reader.specs.Symbols.{Port, Entry, letter_of, port_at, count_of, is_comment, IsThere, NamesPort, GiveNames, ArePortNames}
+use Rattle.circuits.specs.Ports.{letter_of}
+use Rattle.aiger_reader.specs.Symbols.{Port, Entry, port_at, count_of, is_comment, IsThere, NamesPort, GiveNames, ArePortNames}
 use Rattle.net_print.specs.Rows.{symbol_line, symbol_lines}
 use Rattle.print_laws.specs.Printable.{IsSymbolName}
 use Rattle.print_laws.proofs.NumberLines.{IsLine-decimal}

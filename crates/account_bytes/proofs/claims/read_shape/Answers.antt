@@ -1,7 +1,7 @@
 -- The fields of a claim of two inputs aren't there.
 use Rattle.std.proofs.Common.{sym, subst}
 use Rattle.account_bytes.specs.Bodies.{ShapeHasPorts, shape_fields, shape_tag}
-use Rattle.account_bytes.specs.PrefixCodes.{SwapFieldsFit, swap_fields_bytes}
+use Rattle.account_bytes.specs.Fields.{SwapFieldsFit, swap_fields_bytes}
 use Rattle.account_bytes.proofs.StepLemmas.{swap_none}
 use Rattle.account_bytes.specs.Reading.{OfTag, Reads}
 use Rattle.account_bytes.proofs.ReadLemmas.{passed}

@@ -1,7 +1,8 @@
 -- A claim's fields aren't there.
 use Rattle.std.proofs.Common.{refl}
 use Rattle.account_bytes.specs.Bodies.{ClaimHasPorts, claim_bytes}
-use Rattle.account_bytes.specs.PrefixCodes.{ClaimFieldsFit, claim_fields_bytes, claim_fields, claim_fits}
+use Rattle.account_bytes.specs.Fields.{ClaimFieldsFit, claim_fields_bytes, claim_fields}
+use Rattle.account_bytes.specs.PrefixProofs.{claim_fits}
 use Rattle.account_bytes.proofs.ReadLemmas.{passed_by}
 use Rattle.account_bytes.proofs.claims.ClaimByteForm.read.Goals as goal
 

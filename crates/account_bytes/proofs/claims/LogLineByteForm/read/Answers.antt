@@ -1,7 +1,8 @@
 -- The lists of a log's line aren't there.
 use Rattle.std.proofs.Common.{refl}
 use Rattle.account_bytes.specs.Bodies.{LineFits, line_bytes}
-use Rattle.account_bytes.specs.PrefixCodes.{LineFieldsFit, line_fields_bytes, line_fields, line_fits}
+use Rattle.account_bytes.specs.Fields.{LineFieldsFit, line_fields_bytes, line_fields}
+use Rattle.account_bytes.specs.PrefixProofs.{line_fits}
 use Rattle.account_bytes.proofs.ReadLemmas.{passed_by}
 use Rattle.account_bytes.proofs.claims.LogLineByteForm.read.Goals as goal
 

@@ -1,7 +1,8 @@
 -- A pair's fields aren't there.
 use Rattle.std.proofs.Common.{refl}
 use Rattle.account_bytes.specs.Bodies.{HasPorts, pair_bytes}
-use Rattle.account_bytes.specs.PrefixCodes.{PairFieldsFit, pair_fields_bytes, pair_fields, pair_fits}
+use Rattle.account_bytes.specs.Fields.{PairFieldsFit, pair_fields_bytes, pair_fields}
+use Rattle.account_bytes.specs.PrefixProofs.{pair_fits}
 use Rattle.account_bytes.proofs.ReadLemmas.{passed_by}
 use Rattle.account_bytes.proofs.claims.PairByteForm.read.Goals as goal
 

@@ -1,7 +1,8 @@
 -- A ban's pairs or its step aren't there.
 use Rattle.std.proofs.Common.{refl}
 use Rattle.account_bytes.specs.Bodies.{BanFits, ban_bytes}
-use Rattle.account_bytes.specs.PrefixCodes.{BanFieldsFit, ban_fields_bytes, ban_fields, ban_fits}
+use Rattle.account_bytes.specs.Fields.{BanFieldsFit, ban_fields_bytes, ban_fields}
+use Rattle.account_bytes.specs.PrefixProofs.{ban_fits}
 use Rattle.account_bytes.proofs.ReadLemmas.{passed_by}
 use Rattle.account_bytes.proofs.steps.BanByteForm.read.Goals as goal
 
