@@ -1,5 +1,5 @@
 -- What tests tell.
-use Rattle.std.proofs.Common.{◌≡◌, ℕ, ◌+◌, ◌<◌, ◌&&◌, ◌||◌, Bool, true, false, not, List, ◌∷◌, length, get_or, slice_index_or, drop, All, ap, subst, ◌↔◌, ◌⊎◌, inl, inr, refl, sym, ◌∙◌, arith, add-one, drop-cons}
+use Rattle.std.proofs.Common.{◌≡◌, ℕ, ◌+◌, ◌<◌, ◌&&◌, Bool, true, false, List, ◌∷◌, length, get_or, slice_index_or, drop, All, ap, subst, ◌↔◌, inl, inr, refl, sym, ◌∙◌, arith, add-one, drop-cons}
 use Rattle.std.specs.Bool.{IsTrue}
 use Rattle.std.proofs.lemmas.Bool.{cases_lt}
 use Rattle.std.proofs.lemmas.List.{get_or_default}
@@ -20,19 +20,6 @@ pub both_tests : (x y : Bool) (P Q : Type 0) → (IsTrue x ↔ P) → (IsTrue y 
 both_tests true true P Q p q = ((λ e. (p.0 refl, q.0 refl)), (λ both. refl))
 both_tests true false P Q p q = ((λ e. absurd (no_truth e)), (λ both. q.1 both.1))
 both_tests false y P Q p q = ((λ e. absurd (no_truth e)), (λ both. p.1 both.0))
-
-pub either_test : (x y : Bool) (P Q : Type 0) → (IsTrue x ↔ P) → (IsTrue y ↔ Q) → IsTrue (x || y) ↔ (P ⊎ Q)
-either_test true y P Q p q = ((λ e. inl (p.0 refl)), (λ either. refl))
-either_test false true P Q p q = ((λ e. inr (q.0 refl)), (λ either. refl))
-either_test false false P Q p q = ((λ e. absurd (no_truth e)), neither)
-  where
-    neither : P ⊎ Q → IsTrue (false || false)
-    neither (inl x) = p.1 x
-    neither (inr x) = q.1 x
-
-pub negated_test : (x : Bool) (P : Type 0) → (IsTrue x ↔ P) → IsTrue (not x) ↔ (P → ⊥)
-negated_test true P p = ((λ e. absurd (no_truth e)), (λ never. absurd (never (p.0 refl))))
-negated_test false P p = ((λ e x. no_truth (p.1 x)), (λ never. refl))
 
 pub same_test : (b : Bool) (P Q : Type 0) → (P → Q) → (Q → P) → (IsTrue b ↔ P) → IsTrue b ↔ Q
 same_test b P Q to from p = ((λ e. to (p.0 e)), (λ q. p.1 (from q)))

@@ -1,5 +1,5 @@
 -- Classes of inputs that grow input by input.
-use Rattle.std.proofs.Common.{◌≡◌, ◌≢◌, ◌⊎◌, ℕ, ◌+◌, ◌<◌, ◌≤◌, Bool, true, false, not, List, [], ◌∷◌, ◌++◌, length, take, All, AllPairs, Option, None, Some, get_or, set, refl, sym, subst, ap, ◌∙◌, inl, inr, arith}
+use Rattle.std.proofs.Common.{◌≡◌, ◌≢◌, ◌⊎◌, ℕ, ◌+◌, ◌<◌, ◌≤◌, Bool, true, false, List, [], ◌∷◌, ◌++◌, length, All, Option, None, Some, get_or, set, refl, sym, subst, ap, ◌∙◌, inl, inr, arith}
 use Rattle.std.proofs.lemmas.Bool.{cases_eq, cases_lt, false≢true}
 use Rattle.std.proofs.lemmas.List.{get_or_append_left, get_or_push, get_or-set_other, get_or-set_same, get_or_default, length-set, length_push}
 use Rattle.std.proofs.lemmas.List.Elements.{All-push, All-set}
@@ -16,7 +16,7 @@ use Rattle.fact_tests.specs.declared.exchange_classes.Class.{Class}
 use Rattle.fact_tests.specs.declared.exchange_classes.OtherInputs.{OtherInputs}
 use Rattle.fact_tests.specs.declared.exchange_classes.ClassPlace.{ClassPlace}
 use Rattle.fact_tests.specs.declared.exchange_classes.FoundClass.{FoundClass}
-use Rattle.fact_tests.specs.Exchanges.{Adds, AreApart, AreClasses, Finds, HasLast, IsClass, IsExchange, IsFound, IsIn, IsJoined, IsNever, IsNext, IsOther, IsPlace, IsSecond, IsStranger, IsTried, IsWay, Joins, KeepsBoth, Sorts, both_by, classes_with, found_by, last_by, last_of, next_by, place_in, second_by, skew_by, sym_by}
+use Rattle.fact_tests.specs.Exchanges.{Adds, AreApart, AreClasses, Finds, HasLast, IsClass, IsExchange, IsFound, IsIn, IsJoined, IsNever, IsNext, IsOther, IsPlace, IsSecond, IsStranger, IsTried, IsWay, Joins, KeepsBoth, Sorts, both_by, classes_with, found_by, last_by, next_by, place_in, second_by, skew_by, sym_by}
 use Rattle.fact_tests.specs.Outputs.{IsAlike, IsSymmetry, input_at, pair_of}
 use Rattle.fact_tests.proofs.ExchangeLemmas.{exchange_between, exchange_is, exchange_over, never_back, never_over}
 use Rattle.fact_tests.proofs.AlikeLemmas.{alike_back}
@@ -54,16 +54,6 @@ second_is n f first entry false false one other = neither
     neither false alike = refuted one alike
     neither true alike = refuted other alike
 
--- the second input of a class joins it
-joined_second : (n : ℕ) (f : List Bool → Bool) (class : Class) (entry : ℕ × Unate) (others : Option OtherInputs) → class.others ≡ None → IsSecond n f class.first entry others → IsJoined n f class entry others
-joined_second n f class entry None alone is =
-    subst (λ others. IsNever n f (last_by class.first others).0 entry.0) (sym alone) is
-joined_second n f class entry (Some others) alone is = record {
-  last = is.0;
-  exchange = is.1;
-  kept = subst (λ old. KeepsBoth old others) (sym alone) tt;
-}
-
 -- and an input more
 joined_next : (n : ℕ) (f : List Bool → Bool) (class : Class) (old : OtherInputs) (entry : ℕ × Unate) (way : Option Bool) → class.others ≡ Some old
     → IsOther n f class.first.0 (Some old) old.last.0 old.inverted
@@ -78,9 +68,6 @@ joined_next n f class old entry (Some inverted) has joined order way = record {
   kept = subst (λ others. KeepsBoth others (record { last = entry; inverted = differ old.inverted inverted; both = old.both })) (sym has) refl;
 }
 
-pub second_joins : (n : ℕ) (f : List Bool → Bool) (class : Class) (entry : ℕ × Unate) (others : Option OtherInputs) → class.others ≡ None → IsSecond n f class.first entry others → IsJoined n f class entry others
-second_joins = joined_second
-
 pub next_joins : (n : ℕ) (f : List Bool → Bool) (end : ℕ) (class : Class) (old : OtherInputs) (entry : ℕ × Unate) (next : Option OtherInputs) → class.others ≡ Some old
     → IsClass n f end class
     → end ≤ entry.0
@@ -90,13 +77,6 @@ next_joins n f end class old entry next has is le follows =
     let joined : HasLast n f class.first.0 (Some old) = subst (HasLast n f class.first.0) has is.joined in
     let before : old.last.0 < end = subst (λ others. (last_by class.first others).0 < end) has is.before in
     subst (IsJoined n f class entry) (sym follows.2) (joined_next n f class old entry follows.0 has joined (omega (arith, before, le)) follows.1)
-
--- the last input of a class of one, and of more
-pub alone_before : (n : ℕ) (f : List Bool → Bool) (end : ℕ) (class : Class) → class.others ≡ None → IsClass n f end class → class.first.0 < end
-alone_before n f end class alone is = subst (λ others. (last_by class.first others).0 < end) alone is.before
-
-pub last_before : (n : ℕ) (f : List Bool → Bool) (end : ℕ) (class : Class) (old : OtherInputs) → class.others ≡ Some old → IsClass n f end class → (old.last.0 < end) × IsEntry n f old.last
-last_before n f end class old has is = (subst (λ others. (last_by class.first others).0 < end) has is.before, subst (λ others. IsEntry n f (last_by class.first others)) has is.last)
 
 -- what is found
 

@@ -1,6 +1,6 @@
 -- What an exchange of two inputs changes near them, gate by gate.
-use Rattle.std.proofs.Common.{◌≡◌, ◌≢◌, ◌⊎◌, ℕ, zero, suc, ◌+◌, ◌-◌, ◌*◌, ◌/◌, ◌%◌, ◌^◌, ◌==◌, ◌<◌, ◌≤◌, ◌&&◌, Bool, true, false, not, List, [], ◌∷◌, ◌++◌}
-use Rattle.std.proofs.Common.{length, map, All, Option, None, Some, bit_and, get_or, max, min, set, refl, sym, subst, ap, ◌∙◌, inl, inr, arith}
+use Rattle.std.proofs.Common.{◌≡◌, ◌≢◌, ◌⊎◌, ℕ, zero, suc, ◌+◌, ◌-◌, ◌/◌, ◌%◌, ◌^◌, ◌==◌, ◌<◌, ◌≤◌, ◌&&◌, Bool, true, false, not, List, [], ◌∷◌, ◌++◌}
+use Rattle.std.proofs.Common.{length, map, All, Some, bit_and, get_or, max, min, refl, sym, subst, ap, ◌∙◌, inl, inr, arith}
 use Rattle.std.proofs.lemmas.Bool.{cases_eq, cases_lt}
 use Rattle.std.proofs.lemmas.List.{get_or_append_left, get_or_default, get_or_push, get_or-map, get_or-set_other, get_or-set_same, length-map, length-set}
 use Rattle.std.proofs.lemmas.List.{length_push}
@@ -8,8 +8,8 @@ use Rattle.std.proofs.lemmas.List.Elements.{All-push}
 use Rattle.std.proofs.Math.Nat.{pow-le-pow_right}
 use Rattle.circuits.specs.declared.netlist.Lit.{Lit}
 use Rattle.circuits.specs.declared.netlist.Gate.{Gate}
-use Rattle.circuits.specs.Literals.{EachAt, bit, differ, is_negated as inverts, literal_bit, signal_of, vector_of}
-use Rattle.circuits.specs.Netlists.{Net, IsOrdered, gate_bit, signals_of, valuation_of}
+use Rattle.circuits.specs.Literals.{bit, differ, is_negated as inverts, literal_bit, signal_of}
+use Rattle.circuits.specs.Netlists.{Net, IsOrdered, signals_of, valuation_of}
 use Rattle.circuits.proofs.Codes.{bit_at-code_of, code_of, code_of-below}
 use Rattle.circuits.proofs.Valuations.{valuation_of-fits}
 use Rattle.claim_core.proofs.AssignmentLemmas.{gate_agrees}
@@ -24,7 +24,7 @@ use Rattle.fact_tests.specs.declared.local_exchange.Near.{Near}
 use Rattle.fact_tests.specs.declared.local_exchange.Went.{Went}
 use Rattle.fact_tests.specs.declared.local_exchange.Went.TheVariants.{Same, Differs, TooFar}
 use Rattle.fact_tests.specs.LocalExchanges.{AreSpans, GoesOver, HasMore, HasSides, IsChanged, IsCovered, IsGateOf, IsLane, IsLeaf, IsListed, IsListing, IsSpan}
-use Rattle.fact_tests.specs.LocalExchanges.{IsUnchanged, IsWent, IsWhole, Spreads, Tells, Tracks, Widens, first_listed, side, sides_of_bits}
+use Rattle.fact_tests.specs.LocalExchanges.{IsUnchanged, IsWent, IsWhole, Spreads, Tells, Tracks, Widens, first_listed, side}
 use Rattle.fact_tests.specs.Outputs.{IsAlike}
 use Rattle.fact_tests.proofs.ExchangeLemmas.{at_alike}
 
@@ -478,58 +478,6 @@ wider place signal k old new d widens before =
           subst (λ (it : GateSpan). (it.start ≤ (get_or old k d).start) × ((get_or old k d).end ≤ it.end) × (it.end ≤ place + 1) × (k ≡ signal → (it.start ≤ place) × (place < it.end))) same
           (omega arith, omega arith, before, λ e. absurd (apart e))
     ]
-
-pub spans_more : (net : Net) (place : ℕ) (d : Gate) (old mid new : List GateSpan) → place < length net.gates
-    → AreSpans net place old
-    → Widens place (signal_of (get_or net.gates place d).a) old mid
-    → Widens place (signal_of (get_or net.gates place d).b) mid new
-    → AreSpans net (place + 1) new
-spans_more net place d old mid new there spans first second = record {
-  signals = second.spans ∙ (first.spans ∙ spans.signals);
-  each = λ k e h.
-      let within : k < length old = omega (arith, h, second.spans, first.spans) in
-      let before = spans.each k e within in
-      let one = wider place (signal_of (get_or net.gates place d).a) k old mid e first (omega (arith, before.end)) in
-      let other = wider place (signal_of (get_or net.gates place d).b) k mid new e second one.2 in
-      record { end = other.2; covers = λ p f below reads. covers k e before one other p f below reads };
-}
-  where
-    covers : (k : ℕ) (e : GateSpan) → IsSpan net.gates place k (get_or old k e)
-        → ((get_or mid k e).start ≤ (get_or old k e).start) × ((get_or old k e).end ≤ (get_or mid k e).end) × ((get_or mid k e).end ≤ place + 1) × (k ≡ signal_of (get_or net.gates place d).a → ((get_or mid k e).start ≤ place) × (place < (get_or mid k e).end))
-        → ((get_or new k e).start ≤ (get_or mid k e).start) × ((get_or mid k e).end ≤ (get_or new k e).end) × ((get_or new k e).end ≤ place + 1) × (k ≡ signal_of (get_or net.gates place d).b → ((get_or new k e).start ≤ place) × (place < (get_or new k e).end))
-        → IsCovered net.gates (place + 1) (get_or new k e).start (get_or new k e).end k
-    covers k e before one other p f below reads =
-        elim (cases_lt p place) [
-          | inl less ↦
-              let is = before.covers p f less reads in
-              (omega (arith, is.0, one.0, other.0), omega (arith, is.1, one.1, other.1))
-          | inr past ↦
-              let here : p ≡ place = omega (arith, past, below) in
-              let at : get_or net.gates p f ≡ get_or net.gates place d = ap (λ p. get_or net.gates p f) here ∙ get_or_default net.gates place f d there in
-              elim reads [
-                | inl a ↦
-                    let is = one.3 (sym a ∙ ap (λ (gate : Gate). signal_of gate.a) at) in
-                    (omega (arith, is.0, other.0, here), omega (arith, is.1, other.1, here))
-                | inr b ↦
-                    let is = other.3 (sym b ∙ ap (λ (gate : Gate). signal_of gate.b) at) in
-                    (omega (arith, is.0, here), omega (arith, is.1, here))
-              ]
-        ]
-
-pub widens_set : (spans : List GateSpan) (signal place start : ℕ) (d : GateSpan) → signal < length spans
-    → start ≤ (get_or spans signal d).start
-    → start ≤ place
-    → Widens place signal spans (set spans signal (record { start = start; end = place + 1 }))
-widens_set spans signal place start d there before low =
-    let new : GateSpan = record { start = start; end = place + 1 } in
-    let here : (e : GateSpan) → get_or (set spans signal new) signal e ≡ new = λ e. get_or-set_same spans signal new e there in
-    record {
-      spans = length-set spans signal new;
-      others = λ k e apart. get_or-set_other spans signal k new e apart;
-      before = λ e. omega (arith, before, ap (λ (span : GateSpan). span.start) (here e), ap (λ (span : GateSpan). span.start) (get_or_default spans signal d e there));
-      start = λ e. omega (arith, low, ap (λ (span : GateSpan). span.start) (here e));
-      end = λ e. ap (λ (span : GateSpan). span.end) (here e);
-    }
 
 pub spans_none : (net : Net) (spans : List GateSpan) → length spans ≡ signals_of net → All (λ span. span.end ≡ 0) spans → AreSpans net 0 spans
 spans_none net spans count none = record {

@@ -69,11 +69,7 @@ output_known models model name well held h =
     let known = outputs_among_read (λ w. IsNameIn models model w.bytes) models model.lines (well.known model held) in
     subst (IsNameIn models model) (sym word.2) (All-contains (λ w. IsNameIn models model w.bytes) (outputs_of model) word.0 known word.1)
 
--- the operands of a cover are known, and what an input is bound to
-pub operands_known : (models : List BlifModel) (model : BlifModel) (k : ℕ) (line : CoverLine) → AreWellNamed models → Contains models model → slice_get model.lines k ≡ Some (Cover line) → All (λ w. IsNameIn models model w.bytes) line.operands
-operands_known models model k line well held get =
-    all_of_place (λ w. IsNameIn models model w.bytes) (read_on models) model.lines k (Cover line) get (well.known model held)
-
+-- what an input is bound to is known
 pub actual_known : (models : List BlifModel) (model : BlifModel) (k : ℕ) (line : InstanceLine) (word : Piece) → AreWellNamed models → Contains models model → slice_get model.lines k ≡ Some (Instance line) → Contains line.bindings word → binds_input models line word ≡ true → IsNameIn models model (actual_of word.bytes)
 actual_known models model k line word well held get among input =
     let read = all_of_place (λ w. IsNameIn models model w.bytes) (read_on models) model.lines k (Instance line) get (well.known model held) in

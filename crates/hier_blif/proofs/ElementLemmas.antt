@@ -105,7 +105,3 @@ either_by false other h = inr h
 pub among_either : (name : List ℕ) (one other : List Piece) → is_among name (one ++ other) ≡ true → (is_among name one ≡ true) ⊎ (is_among name other ≡ true)
 among_either name one other h =
     either_by (is_among name one) (is_among name other) (sym (list_any-append (λ (word : Piece). bytes_eq name word.bytes) one other) ∙ h)
-
-pub among_left : (name : List ℕ) (one other : List Piece) → is_among name one ≡ true → is_among name (one ++ other) ≡ true
-among_left name one other h =
-    list_any-append (λ (word : Piece). bytes_eq name word.bytes) one other ∙ ap (λ t. t || is_among name other) h

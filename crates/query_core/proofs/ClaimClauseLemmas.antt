@@ -95,10 +95,6 @@ all_told telling (id ∷ ids) is =
     let marked = is_of_marked (left_gates telling.graphs telling.query) telling.marked id in
     ap (λ b. (b || marked) && list_all (tells telling) ids) is ∙ all_told telling ids is
 
-pub marked_told : (telling : Telling) (ids : List ℕ) → telling.whole ≡ false → list_all (is_of_marked (left_gates telling.graphs telling.query) telling.marked) ids ≡ list_all (tells telling) ids
-marked_told telling ids is =
-    ap (λ b. list_all (λ id. b || is_of_marked (left_gates telling.graphs telling.query) telling.marked id) ids) (sym is)
-
 -- ---- the cone's gates are marked, and no others
 
 pub marked_listed : (count : ℕ) (gates : List ℕ) (t : ℕ) → t < count → Contains gates t → bit (listed_marks count gates) t ≡ true

@@ -20,7 +20,7 @@ use Rattle.ask_core.specs.declared.question.Answer.{Answer}
 use Rattle.ask_core.specs.declared.question.Answer.TheVariants.{Vector, Refuted}
 use Rattle.ask_core.specs.Answers.{IsAskedWith, IsPaidFor}
 use Rattle.ask_core.proofs.BoundLemmas.{asked_last, last_with}
-use Rattle.shared_lemmas.specs.Shared.{AreLogPaid, ArePaidIn, HaveSameFeeds, IsChargedUnder, IsPaid, IsUnder, PaysFor, Sharing}
+use Rattle.shared_lemmas.specs.Shared.{AreLogPaid, HaveSameFeeds, IsChargedUnder, IsPaid, IsUnder, PaysFor}
 use Rattle.shared_lemmas.proofs.FormulaLemmas.{feeds_common}
 use Rattle.shared_lemmas.proofs.SharedLaws.{own_feeds}
 
@@ -137,11 +137,6 @@ paid_after graphs g query asked_query lemmas old new line is (inr paid) =
 
 pub all_after : (graphs g : Graphs) (query asked_query : Query) (lemmas lines : List LogLine) (old new : Ledgered) → IsAskedWith lemmas g asked_query old new → All (IsPaid graphs query old.asked) lines → All (IsPaid graphs query new.asked) lines
 all_after graphs g query asked_query lemmas lines old new is paid k d within = paid_after graphs g query asked_query lemmas old new (slice_index_or lines k d) is (paid k d within)
-
--- so what questions share stays paid for, whatever is asked in the ledger
-pub sharing_after : (sharing : Sharing) (graphs : Graphs) (query : Query) (lemmas : List LogLine) (old new : Ledgered) → IsAskedWith lemmas graphs query old new → ArePaidIn sharing old.asked → ArePaidIn sharing new.asked
-sharing_after sharing graphs query lemmas old new is paid k q within =
-    all_after sharing.graphs graphs (slice_index_or sharing.held k q) query lemmas sharing.lines old new is (paid k q within)
 
 -- the lines of the entry of a query are paid for: its lemmas were, and the others were learned for it
 entry_paid : (graphs : Graphs) (query : Query) (lemmas : List LogLine) (old new : Ledgered) (is : IsAskedWith lemmas graphs query old new) → All (IsPaid graphs query old.asked) lemmas → All (IsPaid graphs query new.asked) is.lines

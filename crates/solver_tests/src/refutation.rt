@@ -22,16 +22,6 @@ fn takes<B: Base + Drop>(refuter: &mut Refuter<B>, log: &Log) -> Result<bool, Al
     Ok(refuter.closed())
 }
 
-/// Whether a refuter takes each of these lines.
-pub fn takes_all<B: Base + Drop>(
-    alloc: Global,
-    base: B,
-    lines: &[LogLine],
-) -> Result<bool, AllocError> {
-    let mut refuter = Refuter::new(alloc, base)?;
-    takes_lines(&mut refuter, lines)
-}
-
 pub fn takes_lines<B: Base + Drop>(
     refuter: &mut Refuter<B>,
     lines: &[LogLine],

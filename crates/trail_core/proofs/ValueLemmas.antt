@@ -1,8 +1,8 @@
 -- The value of each literal, with one literal more at the end, and after the last ones were taken off.
-use Rattle.std.proofs.Common.{◌≡◌, ◌≢◌, ℕ, ◌+◌, ◌-◌, ◌*◌, ◌/◌, ◌<◌, ◌≤◌, cond, Bool, true, false, List, [], ◌∷◌, ◌++◌, length, replicate, take, drop, All, Option, None, Some, slice_index_or, slice_set, Vec, inl, inr, refl, sym, ◌∙◌, ap, arith}
+use Rattle.std.proofs.Common.{◌≡◌, ◌≢◌, ℕ, ◌+◌, ◌-◌, ◌*◌, ◌/◌, ◌<◌, ◌≤◌, cond, Bool, true, false, List, [], ◌∷◌, ◌++◌, length, take, drop, All, Option, None, Some, slice_index_or, slice_set, Vec, inl, inr, refl, sym, ◌∙◌, ap, arith}
 use Rattle.std.proofs.lemmas.Bool.{both_ways, cases_Bool, cases_eq, false_from_ne_true}
 use Rattle.std.proofs.lemmas.Bool.Decides.{leb_tells}
-use Rattle.std.proofs.lemmas.List.{get_or_append_left, get_or_at, get_or_default, get_or-drop, get_or-replicate, get_or-set_other, get_or-set_same, get_or-take, get_or_past, length-append, length-drop, length-replicate, length-set, length-take-le}
+use Rattle.std.proofs.lemmas.List.{get_or_append_left, get_or_at, get_or_default, get_or-drop, get_or-set_other, get_or-set_same, get_or-take, get_or_past, length-append, length-drop, length-set, length-take-le}
 use Rattle.std.specs.declared.alloc.Global.{Global}
 use Rattle.cnf_core.specs.declared.literal.SatLit.{SatLit}
 use Rattle.cnf_core.specs.Clauses.{opposite, variable_of}
@@ -27,12 +27,6 @@ value_past t is l past =
         omega (arith, is.known k h, high, ap (λ (e : Assigned). variable_of e.literal) (get_or_default t.entries k nothing d h) ∙ same)
 
 -- ---- no literal
-
-pub values_none : (n : ℕ) → AreValues n [] (replicate (2 * n) None)
-values_none n = record {
-  size = length-replicate {A = Option Bool} (2 * n) None;
-  each = λ c within. get_or-replicate (2 * n) c None None (omega (arith, within, length-replicate {A = Option Bool} (2 * n) None));
-}
 
 -- ---- one literal more
 
