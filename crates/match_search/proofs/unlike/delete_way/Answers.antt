@@ -42,7 +42,7 @@ returns g c =
     record {
       steps = steps_ok (record {
         same = way.same;
-        assigned = way.assigned;
+        made = way.made;
         trail = shown_one _ _ _ _ _ _ _ _ _ c.in_ok-delete.ensures.deleted way.trail c.requires.assigned shown;
         trials = way.trials;
       });
