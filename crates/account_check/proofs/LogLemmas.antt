@@ -14,8 +14,8 @@ use Rattle.net_core.specs.declared.matching.Matching.{Matching}
 use Rattle.net_core.specs.Graph.{IsGraph}
 use Rattle.claim_core.specs.declared.claims.Claim.{Claim}
 use Rattle.claim_core.specs.ClaimQueries.{claim_query}
-use Rattle.query_core.specs.ClaimClauses.{Telling, tells, told_formula}
-use Rattle.query_core.proofs.ClaimClauseLemmas.{told_fault}
+use Rattle.query_core.specs.ClaimClauses.{PartialQuery, is_present, present_formula}
+use Rattle.query_core.proofs.ClaimClauseLemmas.{present_fault}
 use Rattle.claim_core.specs.declared.query.Query.{Query}
 use Rattle.claim_core.specs.Formulas.{formula_of, IsRefuted}
 use Rattle.claim_core.specs.MatchQueries.{match_query}
@@ -120,11 +120,11 @@ pub failed : {X : Type 0} (a b : RecordStop) → a ≡ b → ◌≡◌ {A = Resu
 failed {X} a b e = ap (λ (stop : RecordStop). Err stop) e
 
 -- what is wrong with a line of a fact's log, as the clauses tell that its hints name
-pub told_reject : (now old : Telling) (claim : Claim) (taken before : List (List SatLit)) (line : LogLine) (log : FactProof) → list_all (tells now) line.hints ≡ true → now.graphs ≡ old.graphs → now.query ≡ old.query → taken ≡ before → old.query ≡ claim_query old.graphs claim
+pub present_reject : (now old : PartialQuery) (claim : Claim) (taken before : List (List SatLit)) (line : LogLine) (log : FactProof) → list_all (is_present now) line.hints ≡ true → now.graphs ≡ old.graphs → now.query ≡ old.query → taken ≡ before → old.query ≡ claim_query old.graphs claim
     → record { graphs = old.graphs; fact = record { claim = claim; taken = before } } ≡ log
-    → refutation_of (line_fault (told_formula now) taken line) ≡ fact_reject log.graphs log.fact line
-told_reject now old claim taken before line log told graphs query same asks is =
-    ap refutation_of (told_fault now taken line told)
+    → refutation_of (line_fault (present_formula now) taken line) ≡ fact_reject log.graphs log.fact line
+present_reject now old claim taken before line log present graphs query same asks is =
+    ap refutation_of (present_fault now taken line present)
     ∙ (ap (λ g. refutation_of (line_fault (formula_of g now.query) taken line)) graphs
     ∙ (ap (λ q. refutation_of (line_fault (formula_of old.graphs q) taken line)) (query ∙ asks)
     ∙ (ap (λ ts. refutation_of (line_fault (formula_of old.graphs (claim_query old.graphs claim)) ts line)) same
