@@ -14,7 +14,7 @@ use Rattle.account_check.specs.declared.verdict.Why.{Why}
 use Rattle.account_check.proofs.VerdictLemmas.{one_rejection, one_proved, never_both}
 use Rattle.check_steps.specs.Circuits.{IsCircuit, IsCircuitFault}
 use Rattle.query_core.specs.Ledgers.{Ledgered}
-use Rattle.check_steps.specs.Words.{AsksCheck, AsksInfo, AsksMatch, AsksRestore, AskNothing, NameThree, ReadFiles, Sought, Wished, check_words}
+use Rattle.check_steps.specs.Words.{AsksCheck, AsksInfo, AsksMatch, AsksRestore, AskNothing, NameThree, ReadFiles, MatchRequest, RestoreRequest, check_words}
 use Rattle.run_steps.specs.Match.{HasNoMatch, IsAskedToMatch, IsMatchFound, IsSought, IsSpentOnTwo}
 use Rattle.circuits.specs.Matches.{AreNpnpEqual}
 use Rattle.check_steps.specs.Check.{HasAccount, IsAccepted, IsRejected, LacksAccount}
@@ -164,10 +164,10 @@ SaysTwo held first second says o = SaysFile First (held first) (SaysFile Second 
 abbrev pub SaysThree : Telling → (List ℕ → Option (List ℕ)) → List ℕ → List ℕ → List ℕ → Outcome → Type 0
 SaysThree telling held first second account o = SaysTwo held first second (SaysAccount telling held first second account) o
 
-abbrev pub wished_of : List ℕ → List ℕ → List ℕ → List ℕ → Wished
+abbrev pub wished_of : List ℕ → List ℕ → List ℕ → List ℕ → RestoreRequest
 wished_of first second account restored = record { first = first; second = second; account = account; restored = restored }
 
-named_restore : (words : List (List ℕ)) (wished : Wished) → AsksRestore words wished → AsksRestore words (wished_of wished.first wished.second wished.account wished.restored)
+named_restore : (words : List (List ℕ)) (wished : RestoreRequest) → AsksRestore words wished → AsksRestore words (wished_of wished.first wished.second wished.account wished.restored)
 named_restore words wished asks = record { form = asks.form; names = asks.names }
 
 -- the words ask for a check by an account, or for a netlist to be restored by one
@@ -181,7 +181,7 @@ SaysCheck held words o =
     (telling : Telling) × (first : List ℕ) × (second : List ℕ) × (account : List ℕ) × JudgeBy words telling first second account × SaysThree telling held first second account o
 
 abbrev pub SaysMatch : (List ℕ → Option (List ℕ)) → List (List ℕ) → Outcome → Type 0
-SaysMatch held words o = (sought : Sought) × AsksMatch words sought × SaysTwo held sought.first sought.second IsOfMatch o
+SaysMatch held words o = (sought : MatchRequest) × AsksMatch words sought × SaysTwo held sought.first sought.second IsOfMatch o
 
 abbrev pub SaysInfo : (List ℕ → Option (List ℕ)) → List (List ℕ) → Outcome → Type 0
 SaysInfo held words o = (file : List ℕ) × (budget : ℕ) × AsksInfo words file budget × SaysFile First (held file) IsOfOne o
@@ -297,7 +297,7 @@ judged_or_nothing words k f g t judge nothing =
       | inr (r, asks, is) ↦ nothing.no_restore (wished_of f g t r) asks
     ]
 
-judged_or_match : (words : List (List ℕ)) (k : Telling) (f g t : List ℕ) (sought : Sought) → JudgeBy words k f g t → AsksMatch words sought → ⊥
+judged_or_match : (words : List (List ℕ)) (k : Telling) (f g t : List ℕ) (sought : MatchRequest) → JudgeBy words k f g t → AsksMatch words sought → ⊥
 judged_or_match words k f g t sought judge asked =
     elim judge [
       | inl (asks, is) ↦ check_or_match words f g t sought asks asked
@@ -361,7 +361,7 @@ says_one held words a b one other =
 
 -- what is right is said so
 
-abbrev pub named : List ℕ → List ℕ → List ℕ → ℕ → ℕ → Sought
+abbrev pub named : List ℕ → List ℕ → List ℕ → ℕ → ℕ → MatchRequest
 named first second account budget seed = record { first = first; second = second; account = account; budget = budget; seed = seed }
 
 says_early : (held : List ℕ → Option (List ℕ)) (words : List (List ℕ)) (o : Outcome) → IsDecided o → EndsEarly held words o → Says held words o
@@ -420,7 +420,7 @@ three_too held f g t o other says =
     ]
 
 -- what the words of a check say, words that ask for a netlist to be restored say too
-says_restore : (held : List ℕ → Option (List ℕ)) (words : List (List ℕ)) (wished : Wished) (o : Outcome) → AsksRestore words wished → ((matching : Matching) → o ≢ AcceptedMatch matching) → Says held (check_words wished.first wished.second wished.account) o → Says held words o
+says_restore : (held : List ℕ → Option (List ℕ)) (words : List (List ℕ)) (wished : RestoreRequest) (o : Outcome) → AsksRestore words wished → ((matching : Matching) → o ≢ AcceptedMatch matching) → Says held (check_words wished.first wished.second wished.account) o → Says held words o
 says_restore held words wished o asks other says =
     let checked = check_words wished.first wished.second wished.account in
     let check = check_of_restore words wished asks in
@@ -516,7 +516,7 @@ right_of_check held words Memory is = tt
 right_of_check held words other is = absurd is
 
 -- and so is, for words that ask for a netlist to be restored, what a check by the first three names says, but that there is a match
-pub right_of_restore : (held : List ℕ → Option (List ℕ)) (words : List (List ℕ)) (wished : Wished) (o : Outcome) → AsksRestore words wished → ((matching : Matching) → o ≢ AcceptedMatch matching) → IsOfCheck held (check_words wished.first wished.second wished.account) o → IsRight held words o
+pub right_of_restore : (held : List ℕ → Option (List ℕ)) (words : List (List ℕ)) (wished : RestoreRequest) (o : Outcome) → AsksRestore words wished → ((matching : Matching) → o ≢ AcceptedMatch matching) → IsOfCheck held (check_words wished.first wished.second wished.account) o → IsRight held words o
 right_of_restore held words wished (AcceptedMatch matching) asks other is = absurd (other matching refl)
 right_of_restore held words wished AcceptedRefusal asks other is = inr (wished, asks, is)
 right_of_restore held words wished (Rejected line why) asks other is = inr (wished, asks, is)
