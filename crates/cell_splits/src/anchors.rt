@@ -32,6 +32,9 @@ const MOST_ANCHORS: usize = 24;
 /// little.
 const MOST_ALIKE: usize = 8;
 
+/// The bit that is set in the class of an output, so that no input has the same one.
+const OF_OUTPUT: u64 = 1 << 63;
+
 /// What the inputs of a circuit have on drawn vectors, and a hash of each vector's profile: of how many outputs change
 /// with each input, and how many inputs change each output, by the ports' cells. Corresponding vectors have one
 /// profile.
@@ -182,8 +185,7 @@ fn add_outputs(
     hashes: &mut [u64],
 ) -> Result<(), AllocError> {
     for (output, changes) in of_outputs.iter().enumerate() {
-        // an input's class isn't an output's
-        let class = class_of(cells, port_at(output)) | 1 << 63;
+        let class = class_of(cells, port_at(output)) | OF_OUTPUT;
         add_hashes(class, &changes.counts(alloc)?, hashes);
     }
     Ok(())
