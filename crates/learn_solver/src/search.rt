@@ -309,6 +309,7 @@ fn put_wanted<B: Base>(base: &B, ids: &[u64], watches: &mut Watches) -> Result<(
 {
     for id in ids.iter() {
         let clause = base.clause(*id);
+        // clauses are added in order, so that a clause's number is its place
         let _ = watches.add(clause.literals())?;
     }
     Ok(())
@@ -324,6 +325,7 @@ fn put_lines(lines: &[LogLine], watches: &mut Watches) -> Result<(), AllocError>
     ensures variables { OnOk result (watches.new.variables ≡ watches.old.variables) }
 {
     for line in lines.iter() {
+        // lines too are added in order
         let _ = watches.add(&line.clause)?;
     }
     Ok(())
