@@ -89,7 +89,7 @@ abbrev pub after : Account → Record → Account
 after account entry =
     record (with_record account entry) { place = unwrap_or (next_place account.place entry) account.place }
 
--- Taking a record that may stand next: a record that is refused has the fault that is told, one that is taken has none, and what
+-- Taking a record that may stand next: a record that is refused has the fault that is named, one that is taken has none, and what
 -- isn't taken changes nothing.
 pub record Takes (old : Account) (entry : Record) (new : Account) (result : Result (Unit {0}) RecordStop) : Type 0 where
   pub refused : (reject : Reject) → result ≡ Err (stop.Reject reject) → HasFault old entry (Some reject)

@@ -39,7 +39,7 @@ IsShownShape net k holds shape = IsPlaced net.inputs shape × ShapeSays net k sh
 abbrev pub claim_of : Side → ℕ → Shape → Claim
 claim_of side output shape = record { side = side; output = output; shape = shape }
 
--- a true fact of a claim tells of the claim's shape
+-- a true fact of a claim shows the claim's shape
 fact_shows : (graphs : Graphs) (side : Side) (output : ℕ) (shape : Shape) (holds : Bool) → IsTrueFact graphs (decided (claim_of side output shape) holds) → IsShownShape (graph_of graphs side) output holds shape
 fact_shows graphs side output shape true is = (is.placed.placed, is.says)
 fact_shows graphs side output shape false is = (is.placed.placed, is.says)

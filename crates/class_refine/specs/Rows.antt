@@ -37,7 +37,7 @@ pub record AreAllRows (graphs : Graphs) (facts : List Decided) (rows : Rows) : T
 abbrev pub decided : Grounds → List Decided
 decided grounds = map decided_by grounds.facts.now
 
--- The facts are of the two circuits, and the rows tell of them.
+-- The facts are of the two circuits, and the rows are of them.
 pub record AreGrounds (grounds : Grounds) : Type 0 where
   pub lawful : AreFacts grounds.graphs.now grounds.facts.now
   pub rows_are : AreAllRows grounds.graphs.now (decided grounds) grounds.rows.now

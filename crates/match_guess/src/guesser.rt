@@ -322,7 +322,7 @@ impl<'a> Guesser<'a> {
         Ok(Some(likeness))
     }
 
-    // Every other round goes by draws, as likeness may mislead. While signs are open it tells little, and a guess
+    // Every other round goes by draws, as likeness may mislead. While signs are open it says little, and a guess
     // serves to split cells, unless one guess decides all signs.
     fn goes_by_likeness(&self, state: &State) -> bool {
         (self.refiner.round % 2 == 0)

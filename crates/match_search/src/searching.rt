@@ -34,7 +34,7 @@ const MOST_TIMES: u64 = 10_000;
 /// Looks for a match of two circuits with as many ports, as conflict-driven solvers look for models, unless counts of
 /// inputs refuse one at once. Ports are decided one by one, and bans and ports with one way left are propagated. From a
 /// conflict a ban is learned that leads as far back as it can. Pairs are tried on vectors, and the outputs of whole
-/// matchings are compared. Another seed draws other vectors. `docs/SEARCH.md` tells how, and why it ends.
+/// matchings are compared. Another seed draws other vectors. `docs/SEARCH.md` says how, and why it ends.
 ///
 /// The book's bans are valid in view of the oracle's facts, whatever is answered. A ban by a vector is a last resort:
 /// the claims of one input of its two outputs are decided, and neither a mismatch of these nor a tally is valid for its

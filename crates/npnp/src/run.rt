@@ -66,7 +66,7 @@ const OUT_OF_MEMORY: &[u8] = b"out of memory\n";
 /// bytes, and its last line by itself. The files of a pair, and a netlist that is restored, are written one after the
 /// other in such pieces. After a failure no further call of the shelf is made.
 ///
-/// The sink is told what the run is at, and gets the report at the end.
+/// The sink gets what the run is at, and gets the report at the end.
 ///
 /// What is promised of files is promised on a shelf that tells its files (`S.tells`), as one in memory, and what is
 /// promised of the report's bytes on a sink that tells them (`K.tells`). A disk and standard output tell nothing.

@@ -19,7 +19,7 @@ abbrev pub in_order : PortKind → Pair → Pair → List Pair
 in_order Input pair with = pair ∷ with ∷ []
 in_order Output pair with = with ∷ pair ∷ []
 
--- the ban of two pairs of which facts tell that no match has both
+-- the ban of two pairs of which facts show that no match has both
 abbrev pub mismatch_ban : Pair → Pair → ℕ → ℕ → Ban
 mismatch_ban pair with fails holds = record { pairs = in_order pair.kind pair with; step = step.Mismatch fails holds }
 

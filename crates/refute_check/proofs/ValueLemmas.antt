@@ -63,7 +63,7 @@ no_bit bits made l told known not_true not_false =
     by_sign true held f t = neither held t f
     by_sign false held t f = neither held t f
 
--- what the bits tell once a literal was made true
+-- what the bits say once a literal was made true
 pub told_more : (bits : List (Option Bool)) (made : List SatLit) (l : SatLit) → ((v : ℕ) (b : Bool) → v < length bits → is_bit (bit_at bits v) b ≡ is_true made (literal_of v b)) → variable_of l < length bits → is_true made l ≡ false → is_false made l ≡ false → (v : ℕ) (b : Bool) → v < length bits → is_bit (bit_at (slice_set bits (variable_of l) (Some (not (is_negated l)))) v) b ≡ is_true (made ++ l ∷ []) (literal_of v b)
 told_more bits made l told known not_true not_false v b below =
     let w = variable_of l in

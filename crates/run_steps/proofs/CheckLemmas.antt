@@ -114,7 +114,7 @@ graph_one content a b one other =
     let acyclic = circuit_acyclic bytes one.netlist.circuit one.netlist.input_names one.netlist.output_names one.holds.is in
     one_order one.netlist.circuit a b acyclic one.numbered (subst (λ circuit. IsOrderOf circuit b) (sym e) other.numbered)
 
--- what a run tells of two graphs and of what an account of them proves
+-- what a run says of two graphs and of what an account of them proves
 abbrev pub Telling : Type 0
 Telling = Graphs → Verdict → Outcome
 
@@ -243,7 +243,7 @@ follows_files words o reads no_pair no_trial = record {
   read = λ e. reads;
 }
 
--- and of one that isn't told
+-- and of one that isn't said
 follows_untold : (words : List (List ℕ)) (o : Outcome) → EndsRun o → o ≢ ReadFault → (IsTold o → ⊥) → FollowsWords words o
 follows_untold words o is read untold = record {
   made = λ e. absurd (subst EndsRun e is);
@@ -599,7 +599,7 @@ exact_reads held words other exact right = absurd exact
 sought_reads : (held : List ℕ → Option (List ℕ)) (words : List (List ℕ)) (first second : Netlist) → IsSought held words first second → ReadFiles words
 sought_reads held words first second is = inl (is.sought.first, is.sought.second, is.sought.account, inr (is.sought.budget, is.sought.seed, is.asks))
 
--- The outcome of a run that was asked to tell a right one is exactly what the words and the files say.
+-- The outcome of a run that was asked to say a right one is exactly what the words and the files say.
 module _ (held : List ℕ → Option (List ℕ)) (words : List (List ℕ)) (asked answer : Outcome) (right : IsRight held words asked) (same : IsTold answer → answer ≡ asked) (decided : IsDecided answer) where
   stays_right : IsRight held words answer
   stays_right = subst (IsRight held words) (sym (same decided.told)) right

@@ -180,7 +180,7 @@ pub record Decides (tells : Bool) (command : Command) (old new : ShelfState) (re
   pub failed : result ≡ Err ReadFault → Rose old.faults new.faults
   pub unwritten : result ≡ Err WriteFault → IsWritingCommand command × Rose old.faults new.faults
 
--- the ending tells an outcome by its line, or there was no memory for the line
+-- the ending says an outcome by its line, or there was no memory for the line
 abbrev pub TellsLine : Outcome → Ending → Type 0
 TellsLine outcome ending = ((ending.outcome ≡ outcome) × (ending.report.items ≡ line_of outcome)) ⊎ (ending.outcome ≡ Memory)
 

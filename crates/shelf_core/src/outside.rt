@@ -62,7 +62,7 @@ pub trait Shelf {
         ensures { Closes tells (state self.old) (state self.new) result };
 }
 
-/// A stream of bytes that goes out of the program, as its standard output. It is told what the run is at, too; that
+/// A stream of bytes that goes out of the program, as its standard output. It gets what the run is at, too; that
 /// changes nothing of what it is to contracts.
 pub trait Sink: Watch {
     /// Whether the sink tells the bytes that it took. Where it doesn't, `written` of its state means nothing.

@@ -1,4 +1,4 @@
--- What is told is what was answered.
+-- What is reported is what was answered.
 use Rattle.std.proofs.Common.{inl, inr, refl, sym, subst, ◌∙◌}
 use Rattle.run_steps.specs.Outcomes.{IsOfTrial, IsRight, IsTold, Leaves}
 use Rattle.check_steps.specs.Lines.{line_of}
