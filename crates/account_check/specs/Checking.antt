@@ -78,7 +78,8 @@ HasTaken graphs bytes progress = AreTaken graphs bytes progress.reading progress
 abbrev pub IsUnderWay : Progress → Type 0
 IsUnderWay progress = (graphs : Graphs) × (bytes : List ℕ) × HasTaken graphs bytes progress
 
--- Feeding: of the bytes so far all whole lines are valid records; or one of them is the first bad line, whatever comes after it.
+-- Feeding: of the bytes so far all whole lines are valid records; or one of them is the first bad line, whatever comes
+-- after it.
 abbrev pub Feeds : Graphs → List ℕ → Progress → Result (Unit {0}) CheckStop → Type 0
 Feeds graphs bytes progress result = TakesAll false graphs bytes progress.reading progress.account result
 

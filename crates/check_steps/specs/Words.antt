@@ -50,7 +50,8 @@ pub record AreNames (first second account : List ℕ) : Type 0 where
   pub not_first : account ≢ first
   pub not_second : account ≢ second
 
--- Names of two netlists, of an account, and of a file that is written: none is empty, and the last is none of the others.
+-- Names of two netlists, of an account, and of a file that is written: none is empty, and the last is none of the
+-- others.
 pub record AreFourNames (first second account restored : List ℕ) : Type 0 where
   pub first_named : first ≢ []
   pub second_named : second ≢ []
@@ -60,8 +61,8 @@ pub record AreFourNames (first second account restored : List ℕ) : Type 0 wher
   pub not_second : restored ≢ second
   pub not_account : restored ≢ account
 
--- What `restore` is asked for: the second of two netlists with the first one's ports, by an account of a match of them, in
--- a file that is written.
+-- What `restore` is asked for: the second of two netlists with the first one's ports, by an account of a match of them,
+-- in a file that is written.
 pub record RestoreRequest : Type 0 where
   pub first : List ℕ
   pub second : List ℕ

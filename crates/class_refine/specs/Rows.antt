@@ -1,4 +1,5 @@
--- The decided claims of all outputs of two circuits (unateness and support of functions, as in textbooks of logic synthesis).
+-- The decided claims of all outputs of two circuits (unateness and support of functions, as in textbooks of logic
+-- synthesis).
 use Rattle.std.specs.Prelude.{◌≡◌, ℕ, List, ◌∷◌, [], ◌++◌, length, map, All, Contains}
 use Rattle.circuits.specs.Literals.{EachAt}
 use Rattle.circuits.specs.declared.port.Pair.{Pair}

@@ -11,7 +11,8 @@ pub record IsSymbolName (name : List ℕ) : Type 0 where
   pub on_line : IsLine name
   pub no_return : (front : List ℕ) → name ≢ front ++ 13 ∷ []
 
--- a name as its symbol is printed: a carriage return at its end, which would be read as part of the line's end, becomes `_`
+-- a name as its symbol is printed: a carriage return at its end, which would be read as part of the line's end, becomes
+-- `_`
 abbrev pub symbol_name : List ℕ → List ℕ
 symbol_name name =
     if slice_index_or name (length name - 1) 0 == 13 then slice_set name (length name - 1) 95 else name

@@ -32,8 +32,8 @@ pub record HasComputed (content : Option (List ℕ)) (graph : Net) (netlist : Ne
   pub holds : HasNetlist content netlist
   pub computes : Computes graph netlist.circuit
 
--- The words ask for a pair, and the two files have it, the first netlist in the binary form of AIGER and the second as BLIF: netlists that its graphs compute,
--- and of which its matching is a match.
+-- The words ask for a pair, and the two files have it, the first netlist in the binary form of AIGER and the second as
+-- BLIF: netlists that its graphs compute, and of which its matching is a match.
 pub record HasMadePair (held : List ℕ → Option (List ℕ)) (words : List (List ℕ)) : Type 0 where
   pub wanted : MakeRequest
   pub asks : AsksMake words wanted
@@ -51,7 +51,8 @@ pub record HasMadePair (held : List ℕ → Option (List ℕ)) (words : List (Li
 abbrev pub IsCutFrom : List ℕ → Option (List ℕ) → Option (List ℕ) → Type 0
 IsCutFrom text before after = (after ≡ before) ⊎ ((count : ℕ) × (after ≡ Some (take count text)))
 
--- The words ask for a pair, and the writing was cut off: in the first file, before the second was touched, or in the second.
+-- The words ask for a pair, and the writing was cut off: in the first file, before the second was touched, or in the
+-- second.
 pub record HasPartOfPair (before after : List ℕ → Option (List ℕ)) (words : List (List ℕ)) : Type 0 where
   pub wanted : MakeRequest
   pub asks : AsksMake words wanted

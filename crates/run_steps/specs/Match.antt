@@ -54,7 +54,8 @@ pub record IsProved (held : List ℕ → Option (List ℕ)) (words : List (List 
   pub asks : AsksMatch words sought
   pub accepted : IsAccepted held (check_words sought.first sought.second sought.account) proved
 
--- The words ask for a match, and under the account's name stand the first bytes of an account of the two files that is accepted.
+-- The words ask for a match, and under the account's name stand the first bytes of an account of the two files that is
+-- accepted.
 pub record HasPart (held : List ℕ → Option (List ℕ)) (words : List (List ℕ)) : Type 0 where
   pub sought : MatchRequest
   pub asks : AsksMatch words sought

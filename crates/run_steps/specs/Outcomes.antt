@@ -69,8 +69,8 @@ IsRight held words (TooLarge which) = AsChecked (λ checked. EndsEarly held chec
 IsRight held words (Malformed which kind at) = AsChecked (λ checked. EndsEarly held checked (Malformed which kind at)) words
 IsRight held words other = Unit {0}
 
--- Whoever wrote the account, a matching that is accepted is a match of the files' netlists, and where a refusal is accepted, by
--- a check or before a netlist is restored, they have no match.
+-- Whoever wrote the account, a matching that is accepted is a match of the files' netlists, and where a refusal is
+-- accepted, by a check or before a netlist is restored, they have no match.
 pub record IsSoundAnswer (held : List ℕ → Option (List ℕ)) (words : List (List ℕ)) (outcome : Outcome) : Type 0 where
   pub matches : (matching : Matching) → outcome ≡ AcceptedMatch matching → IsMatchOfFiles held words matching
   pub refuses : outcome ≡ AcceptedRefusal → AsChecked (LacksMatch held) words
@@ -106,8 +106,8 @@ pub record FollowsWords (words : List (List ℕ)) (outcome : Outcome) : Type 0 w
   pub trial : (number : ℕ) → AsksTrial words number → IsTold outcome → IsOfTrial number outcome
   pub read : outcome ≡ ReadFault → ReadFiles words
 
--- a fault came or memory ran out, which leaves no file changed, or a first part of the account, of a pair or of a netlist that is
--- restored
+-- a fault came or memory ran out, which leaves no file changed, or a first part of the account, of a pair or of a
+-- netlist that is restored
 abbrev pub MayBeCut : (List ℕ → Option (List ℕ)) → (List ℕ → Option (List ℕ)) → List (List ℕ) → Type 0
 MayBeCut before after words =
     ((name : List ℕ) → after name ≡ before name)

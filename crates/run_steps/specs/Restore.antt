@@ -17,8 +17,8 @@ abbrev pub AsChecked : (List (List ℕ) → Type 0) → List (List ℕ) → Type
 AsChecked P words =
     P words ⊎ ((wished : RestoreRequest) × AsksRestore words wished × P (check_words wished.first wished.second wished.account))
 
--- The words ask for a netlist to be restored, and a check by the first three names accepts the account: it proves that a matching is a match. The second
--- netlist's graph has so many gates.
+-- The words ask for a netlist to be restored, and a check by the first three names accepts the account: it proves that
+-- a matching is a match. The second netlist's graph has so many gates.
 pub record IsRestorable (held : List ℕ → Option (List ℕ)) (words : List (List ℕ)) (gates : ℕ) : Type 0 where
   pub wished : RestoreRequest
   pub asks : AsksRestore words wished
@@ -26,8 +26,9 @@ pub record IsRestorable (held : List ℕ → Option (List ℕ)) (words : List (L
   pub accepted : IsAccepted held (check_words wished.first wished.second wished.account) (verdict.Match matching)
   pub gates_are : gates ≡ length accepted.graphs.second.gates
 
--- The bytes are a file of the binary form of AIGER: a netlist that has the ports of a first one, in their order and with their names, and computes what it does
--- on every vector. It has so many gates, no more than a second netlist's graph.
+-- The bytes are a file of the binary form of AIGER: a netlist that has the ports of a first one, in their order and
+-- with their names, and computes what it does on every vector. It has so many gates, no more than a second netlist's
+-- graph.
 pub record IsRestored (first : Netlist) (second : Net) (gates : ℕ) (bytes : List ℕ) : Type 0 where
   pub circuit : Circuit
   pub binary : take 4 bytes ≡ keyword true

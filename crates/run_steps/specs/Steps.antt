@@ -85,8 +85,8 @@ abbrev pub IsCutOf : Graphs → Option (List ℕ) → Option (List ℕ) → Type
 IsCutOf graphs before after =
     (after ≡ before) ⊎ ((account : List ℕ) × (proved : Verdict) × Proves graphs account proved × HasFirst account after)
 
--- what ends a search for a match without an answer, by what stands under the account's name before and afterwards: the budget is spent and nothing was written,
--- or a write was refused
+-- what ends a search for a match without an answer, by what stands under the account's name before and afterwards: the
+-- budget is spent and nothing was written, or a write was refused
 abbrev pub IsStopOfMatch : Bool → Graphs → ℕ → Option (List ℕ) → Option (List ℕ) → Outcome → Type 0
 IsStopOfMatch tells graphs budget before after outcome =
     (IsStopWithin graphs budget outcome × (IsTrue tells → after ≡ before))

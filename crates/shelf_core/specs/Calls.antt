@@ -1,5 +1,5 @@
--- What each call of a shelf does: sequential files by name, as in the C library (fopen, fread, fwrite, fclose), one open at a
--- time. Facts on contents are so where the shelf `tells` its files.
+-- What each call of a shelf does: sequential files by name, as in the C library (fopen, fread, fwrite, fclose), one
+-- open at a time. Facts on contents are so where the shelf `tells` its files.
 use Rattle.std.specs.Prelude.{◌≡◌, ◌≢◌, ℕ, ◌+◌, ◌<◌, ◌≤◌, ◌⊎◌, Bool, IsTrue, List, [], ◌++◌, length, take, drop, Option, None, Some, Result, Err, IfOk, OnOk}
 use Rattle.std.specs.Prelude.{OnErr, IfSome, IfNone}
 use Rattle.shelf_core.specs.declared.outside.ShelfStop.{ShelfStop}
