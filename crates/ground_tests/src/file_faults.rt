@@ -132,7 +132,7 @@ fn refuses_what_it_read(rt: HostRuntime, names: [&str; 3]) -> Result<bool, Fail>
     Ok(read & refuses_each_name(rt, &mut shelf, names[0], names[1], names[2])?)
 }
 
-/// A file that was made or read isn't made anew, by whatever name. Another run may write it.
+/// A file that was made or read isn't made again, by whatever name. Another run may write it.
 #[test]
 fn makes_no_file_that_it_used(rt: HostRuntime) -> Result<(), Fail> {
     let name = "shelf_core_made_by_a_test";

@@ -186,7 +186,7 @@ impl Search {
     }
 
     /// Goes back to a level with a learned clause, of which one literal alone isn't false there, and to level 0 where
-    /// it is time to begin anew. A restart comes after a learned line alone, each of which costs a unit, so there are
+    /// it is time to begin again. A restart comes after a learned line alone, each of which costs a unit, so there are
     /// no more of them than units.
     pub(crate) fn go_back(&mut self, clause: &[SatLit], level: u64) -> Result<(), AllocError>
         requires { CanReturn self.old clause.now level }

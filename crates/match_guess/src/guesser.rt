@@ -19,7 +19,8 @@ use std::alloc::{AllocError, Global};
 /// four have 16 values, fewer than pairs of vectors are taken.
 const FEW_OPEN: usize = 4;
 
-/// How often a search begins anew, with other choices. Most matchings that are found are found in the first two rounds.
+/// How often a search begins again, with other choices. Most matchings that are found are found in the first two
+/// rounds.
 const ROUNDS: u32 = 8;
 
 /// How many guesses may fail in the first round. In each further round half as many more may, some 390 in all. With

@@ -27,7 +27,7 @@ const MOST_TRIES: u32 = 32;
 /// million conflicts, hours of work.
 const MOST_ROUNDS: u64 = 10_000;
 
-/// How often the search begins anew with no bans, once they take all their room, which takes some seconds at least.
+/// How often the search begins again with no bans, once they take all their room, which takes some seconds at least.
 /// After the last time it goes on without letting bans go: then less is left after each turn, so that it ends.
 const MOST_TIMES: u64 = 10_000;
 
@@ -99,8 +99,8 @@ fn search_all<O: Oracle>(
 /// variables, until a match is found, or a ban without pairs. The heuristic state comes from the caller, and there may
 /// be bans already. Where a match is found, the claims of one input of all outputs are decided.
 ///
-/// Bans that take all their room are let go, and the search begins anew. A ban without pairs rests on those of its book
-/// alone, so nothing that it needs is gone.
+/// Bans that take all their room are let go, and the search begins again. A ban without pairs rests on those of its
+/// book alone, so nothing that it needs is gone.
 ///
 /// # Errors
 ///

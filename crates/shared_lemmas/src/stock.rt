@@ -7,7 +7,7 @@ use cnf_core::{LogLine, SatLit};
 use indexmap::IndexMap;
 use std::alloc::{AllocError, Global};
 
-/// The places of lines of two literals. They are found by these: the lemmas by which two gates are one come anew with
+/// The places of lines of two literals. They are found by these: the lemmas by which two gates are one come again with
 /// each question.
 #[derive(Drop)]
 pub(crate) struct Twins {

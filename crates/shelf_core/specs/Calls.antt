@@ -50,7 +50,7 @@ pub record Reads (tells : Bool) (old new : ShelfState) (before after : List ℕ)
   pub no_memory : result ≡ Err Memory → new.faults ≡ old.faults
   pub failed : result ≡ Err Failed → Rose old.faults new.faults
 
--- Making the file `name` anew, empty, and opening it for writing.
+-- Making the file `name`, empty, and opening it for writing.
 pub record Creates (tells : Bool) (name : List ℕ) (old new : ShelfState) (result : Result (Unit {0}) ShelfStop) : Type 0 where
   -- no other file changes
   pub others : (n : List ℕ) → n ≢ name → new.held n ≡ old.held n

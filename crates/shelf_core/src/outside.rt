@@ -44,7 +44,7 @@ pub trait Shelf {
         requires { (state self.old).mode ≡ Reading }
         ensures { Reads tells (state self.old) (state self.new) buf.old buf.new result };
 
-    /// Makes a file anew, empty, and opens it for writing. After a refusal none is open, and the file is as it was or
+    /// Makes a file, empty, and opens it for writing. After a refusal none is open, and the file is as it was or
     /// empty.
     fn create(&mut self, name: &str) -> Result<(), ShelfStop>
         requires { (state self.old).mode ≡ Closed }
