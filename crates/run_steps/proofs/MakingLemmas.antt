@@ -93,9 +93,9 @@ second_after tells a b first second old between new (Err o) one other = record {
 follows_made : (words : List (List ℕ)) (asked : MakeWords) → AsksMake words (make_request asked) → FollowsWords words Made
 follows_made words asked asks = record {
   made = λ e. (make_request asked, asks);
-  pair = λ all told. refl;
+  pair = λ all reported. refl;
   tried = λ number account e. cc;
-  trial = λ number trial told. absurd (make_or_trial words number (make_request asked, asks) trial);
+  trial = λ number trial reported. absurd (make_or_trial words number (make_request asked, asks) trial);
   read = λ e. cc;
 }
 

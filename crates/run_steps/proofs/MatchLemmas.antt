@@ -97,8 +97,8 @@ kept before after words (Matched matching) none left = absurd (none.unmatched ma
 kept before after words NoMatching none left = absurd (none.no_refusal refl)
 kept before after words Made none left = absurd (none.no_pair refl)
 kept before after words (Restored gates) none left = absurd (none.no_netlist gates refl)
-kept before after words WriteFault none left = absurd (none.told.written refl)
-kept before after words Memory none left = absurd (none.told.room refl)
+kept before after words WriteFault none left = absurd (none.reported.written refl)
+kept before after words Memory none left = absurd (none.reported.room refl)
 kept before after words other none left = left
 
 -- a name that is neither the account of a match nor a file of a pair nor a netlist's that is restored isn't written

@@ -76,14 +76,14 @@ pub record IsSoundAnswer (held : List ℕ → Option (List ℕ)) (words : List (
   pub refuses : outcome ≡ AcceptedRefusal → AsChecked (LacksMatch held) words
 
 -- the report was put whole
-pub record IsTold (outcome : Outcome) : Type 0 where
+pub record IsReported (outcome : Outcome) : Type 0 where
   pub written : outcome ≢ WriteFault
   pub room : outcome ≢ Memory
 
 -- no fault came between and memory did not run out
 pub record IsDecided (outcome : Outcome) : Type 0 where
   pub read : outcome ≢ ReadFault
-  pub told : IsTold outcome
+  pub reported : IsReported outcome
 
 -- no fault came between, memory did not run out and no budget was spent
 pub record IsSettled (outcome : Outcome) : Type 0 where
@@ -96,14 +96,14 @@ pub record LeavesFiles (outcome : Outcome) : Type 0 where
   pub no_refusal : outcome ≢ NoMatching
   pub no_pair : outcome ≢ Made
   pub no_netlist : (gates : ℕ) → outcome ≢ Restored gates
-  pub told : IsTold outcome
+  pub reported : IsReported outcome
 
 -- What the words alone say of an outcome, whatever the files have.
 pub record FollowsWords (words : List (List ℕ)) (outcome : Outcome) : Type 0 where
   pub made : outcome ≡ Made → AskForPair words
-  pub pair : AskForPair words → IsTold outcome → outcome ≡ Made
+  pub pair : AskForPair words → IsReported outcome → outcome ≡ Made
   pub tried : (number : ℕ) (account : List ℕ) → outcome ≡ Tried number account → IsTried words number account
-  pub trial : (number : ℕ) → AsksTrial words number → IsTold outcome → IsOfTrial number outcome
+  pub trial : (number : ℕ) → AsksTrial words number → IsReported outcome → IsOfTrial number outcome
   pub read : outcome ≡ ReadFault → ReadFiles words
 
 -- a fault came or memory ran out, which leaves no file changed, or a first part of the account, of a pair or of a
