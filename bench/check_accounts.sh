@@ -1,7 +1,7 @@
 #!/usr/bin/env bash
 # Times `check` on accounts of real circuits: netlists that Yosys makes of Verilog, each beside a copy that ABC resynthesized,
 # with logs from picosat (bench/account_of.py). Prints lines, bytes, lines a second and memory of the check, and beside it what
-# ABC's `cec` takes to decide the same question anew. Needs Debian's yosys, berkeley-abc and picosat. Not part of the gate.
+# ABC's `cec` takes to decide the same question again. Needs Debian's yosys, berkeley-abc and picosat. Not part of the gate.
 #
 #     bench/check_accounts.sh [FOLDER]      FOLDER keeps the netlists and accounts, which take minutes to write
 set -eu

@@ -8,6 +8,7 @@ import random
 import subprocess
 import sys
 import tempfile
+import netlists
 from account_of import in_order
 
 RESYNTHESIZE = "balance; rewrite; refactor; balance; rewrite; rewrite -z; balance; refactor -z; rewrite -z; balance"
@@ -60,41 +61,10 @@ def joined(nets, groups):
     return inputs, gates, outputs
 
 
-def renamed(net, inputs_to, outputs_to):
-    """The netlist whose input `inputs_to[i]` is the given one's input i, negated where the entry says so; outputs alike. The
-    operands of each gate are exchanged."""
-    inputs, gates, outputs = net
-
-    def move(literal):
-        signal = literal // 2
-        if signal == 0 or signal > inputs:
-            return literal
-        to, flip = inputs_to[signal - 1]
-        return 2 * (1 + to) + flip ^ literal % 2
-
-    moved = [0] * len(outputs)
-    for k, (to, flip) in enumerate(outputs_to):
-        moved[to] = move(outputs[k]) ^ flip
-    return inputs, [(move(b), move(a)) for a, b in gates], moved
-
-
-def draw(rng, count, negated):
-    return [(to, rng.randrange(2) if negated else 0) for to in rng.sample(range(count), count)]
-
-
-def put(net, path):
-    """Writes a netlist in the binary form of AIGER."""
-    inputs, gates, outputs = net
-    with open(path, "wb") as file:
-        file.write(f"aig {inputs + len(gates)} {inputs} 0 {len(outputs)} {len(gates)}\n".encode())
-        file.write("".join(f"{it}\n" for it in outputs).encode())
-        for t, operands in enumerate(gates):
-            high, low = max(operands), min(operands)
-            for delta in (2 * (1 + inputs + t) - high, high - low):
-                while delta > 127:
-                    file.write(bytes([128 + delta % 128]))
-                    delta //= 128
-                file.write(bytes([delta]))
+def moved(rng, net, negated):
+    """A netlist with its ports permuted, negated where that is wanted, and the operands of each gate exchanged."""
+    inputs, gates, outputs = netlists.moved(rng, net, negated)
+    return inputs, [(b, a) for a, b in gates], outputs
 
 
 class Growth:
@@ -119,8 +89,8 @@ class Growth:
         return in_order(self.path("one.aig")), in_order(self.path("two.aig"))
 
     def pair(self, first, second, negated):
-        put(first, self.path("first.aig"))
-        put(renamed(second, draw(self.rng, second[0], negated), draw(self.rng, len(second[2]), negated)), self.path("second.aig"))
+        netlists.to_binary(first, self.path("first.aig"))
+        netlists.to_binary(moved(self.rng, second, negated), self.path("second.aig"))
 
     def bm(self, first, second):
         """The seconds of ABC's matcher, where it answers."""

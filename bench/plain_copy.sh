@@ -10,7 +10,7 @@
 #   plain ask FIRST SECOND OUTPUT VALUE BUDGET   as `workbench ask`, but lines aren't derived again
 #   plain check FIRST SECOND ACCOUNT        the verdict of an account, and the seconds without the time to read the files
 #   plain claims FILE ROUNDS                as `workbench claims`: of each output and each of its inputs whether the output may fall where the
-#                                           input goes up, in some rounds, each time anew
+#                                           input goes up, in some rounds, each time again
 # of files in the ASCII form of AIGER, in order, as `bench/match_beside_abc.sh --write` writes them. An edit changes one line of a crate first, and
 # has the form of those in crates/NAME/must-fail with a path from crates/ on; bench/parts has some. Needs rustc. Not part of the gate.
 #

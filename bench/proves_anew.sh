@@ -1,5 +1,5 @@
 #!/usr/bin/env bash
-# Prints what four changes prove anew: the crates above the one that is changed, and their processor minutes, by crates.txt
+# Prints what four changes prove again: the crates above the one that is changed, and their processor minutes, by crates.txt
 # and by a table of minutes, as bench/gate_times.sh prints it: a row is a crate's name and its minutes of proofs, tests and
 # must-fail edits, which are added up. The table is docs/gate.txt of a commit, by default of the files that lie here; of a
 # commit that hasn't got it, the last one in its documents. Each change names the crate that it is made in.

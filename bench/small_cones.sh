@@ -4,7 +4,7 @@
 # three, with exclusive ors between, so that neither simulation nor structure decides its ten claims that hold (four of
 # inputs, two of each of three pairs), which are asked one by one. Then what 10,000 questions of such cones cost without simulation:
 # `workbench claims` reads the netlist and asks for each output and each of its inputs whether the output may fall where the input goes
-# up, in ten rounds, each time anew. Not part of the gate.
+# up, in ten rounds, each time again. Not part of the gate.
 set -eu
 top=$(cd "$(dirname "${BASH_SOURCE[0]}")/.." && pwd)
 work=$(mktemp -d)

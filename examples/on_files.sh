@@ -278,7 +278,7 @@ TMPDIR=/nonexistent NPNP_EXPLAIN=1 "$here/../npnp" info c17.blif >/dev/null 2>&1
 status=$?
 tell $((status != 0)) 'the script without a temporary folder' 0 "$status"
 
-# the file that standard output goes to isn't made anew, whatever name leads to it; a file that the run made isn't either; and a
+# the file that standard output goes to isn't made again, whatever name leads to it; a file that the run made isn't either; and a
 # file that would pass the limit on its size is a failed write, and no signal
 wants 6 '' match a.aag b.aag /dev/stdout
 wants 6 '' make 7 /dev/stdout made.blif

@@ -1,6 +1,6 @@
 #!/usr/bin/env python3
 """Writes two cell libraries: first/ has some thirty standard cells as BLIF, second/ the same functions with other names, in
-another order, with some ports negated, synthesized anew by ABC. Needs yosys with ABC; what it writes stands in the
+another order, with some ports negated, synthesized again by ABC. Needs yosys with ABC; what it writes stands in the
 repository, so nobody has to run it. The word is a seed, by default 1."""
 import pathlib, random, subprocess, sys, tempfile
 

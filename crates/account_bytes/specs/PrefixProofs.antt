@@ -228,7 +228,8 @@ same_step (Tally kind have lack) (Tally sort has lacks) after other fits fit tag
     ap (λ k. tally_with k (have, lack)) kinds ∙ ap (tally_with sort) (tally_code.one (have, lack) (has, lacks) after other fits fit same)
 same_step (Cover kind from to refs) (Cover sort start end known) after other fits fit tags same =
     let kinds = same_covered kind sort tags in
-    ap (λ k. cover_with k (from, (to, refs))) kinds ∙ ap (cover_with sort) (cover_code.one (from, (to, refs)) (start, (end, known)) after other fits fit same)
+    ap (λ k. cover_with k (from, (to, refs))) kinds
+    ∙ ap (cover_with sort) (cover_code.one (from, (to, refs)) (start, (end, known)) after other fits fit same)
 same_step (Vector output tris) (Mismatch fail hold) after other fits fit tags same = absurd (omega (arith, tags))
 same_step (Vector output tris) (Tally sort has lacks) after other fits fit tags same = absurd (omega (arith, tags, tally_tags sort))
 same_step (Vector output tris) (Cover sort start end known) after other fits fit tags same = absurd (omega (arith, tags, cover_tags sort))

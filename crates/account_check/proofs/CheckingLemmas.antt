@@ -1,4 +1,4 @@
--- Each step of the check tells the verdict of the bytes, or goes on.
+-- Each step of the check answers the verdict of the bytes, or goes on.
 use Rattle.std.proofs.Common.{◌≡◌, ℕ, ◌+◌, ◌≤◌, Bool, true, false, cond, List, [], ◌∷◌, ◌++◌, length, take, Option, None, Some, IsSome, Result, Ok, Err, refl, sym, ap, subst, ◌∙◌, arith, length-append, length-take}
 use Rattle.std.specs.Prelude.{is_some}
 use Rattle.std.specs.Result.{IsErrAnd}
@@ -82,7 +82,7 @@ told_as : {P Q : List ℕ → Type 0} (finished : Bool) (bytes : List ℕ) → (
 told_as {P} {Q} true bytes as_other told = as_other bytes told
 told_as {P} {Q} false bytes as_other told = λ more. as_other (bytes ++ more) (told more)
 
--- where memory runs out, nothing is told
+-- where memory runs out, nothing is said
 pub memory_told : (finished : Bool) (graphs : Graphs) (bytes : List ℕ) → TellsStop finished graphs bytes Memory
 memory_told true graphs bytes = tt
 memory_told false graphs bytes = λ more. tt

@@ -1,4 +1,4 @@
--- A record has one fault at most, so that an answer tells exactly it.
+-- A record has one fault at most, so that an answer names exactly it.
 use Rattle.std.proofs.Common.{◌≡◌, ◌≢◌, Option, None, Some, Result, Ok, Err, IsOk, OnOk, refl, sym, ap, ◌∙◌}
 use Rattle.std.proofs.lemmas.Option.{none-some}
 use Rattle.net_core.specs.Sides.{Graphs}
@@ -44,7 +44,7 @@ one_fault account (entry.Ban ban) = one_unless _ _ _ (one_ban_fault account.grap
 one_fault account (entry.Conclusion x) = one_conclusion_fault account.graphs account.given x
 one_fault account entry.End = one_passed
 
--- the fault that an answer tells is the record's, and the record's fault is told
+-- the fault that an answer names is the record's, and the record's fault is named
 pub refused_exactly : (account : Account) (record_ : Record) (result : Result (Unit {0}) RecordStop) (reject : Reject) → ((r : Reject) → result ≡ Err (stop.Reject r) → HasFault account record_ (Some r)) → OnOk result (HasFault account record_ None) → result ≢ Err stop.Memory → HasFault account record_ (Some reject) → result ≡ Err (stop.Reject reject)
 refused_exactly account record_ (Ok done) reject refused taken memory has = absurd (none-some reject (one_fault account record_ None (Some reject) taken has))
 refused_exactly account record_ (Err (stop.Reject r)) reject refused taken memory has =

@@ -14,8 +14,8 @@ use Rattle.net_core.specs.declared.matching.Matching.{Matching}
 use Rattle.net_core.specs.Graph.{IsGraph}
 use Rattle.claim_core.specs.declared.claims.Claim.{Claim}
 use Rattle.claim_core.specs.ClaimQueries.{claim_query}
-use Rattle.query_core.specs.ClaimClauses.{Telling, tells, told_formula}
-use Rattle.query_core.proofs.ClaimClauseLemmas.{told_fault}
+use Rattle.query_core.specs.ClaimClauses.{PartialQuery, is_present, present_formula}
+use Rattle.query_core.proofs.ClaimClauseLemmas.{present_fault}
 use Rattle.claim_core.specs.declared.query.Query.{Query}
 use Rattle.claim_core.specs.Formulas.{formula_of, IsRefuted}
 use Rattle.claim_core.specs.MatchQueries.{match_query}
@@ -96,13 +96,13 @@ log_begun graphs query fits = record {
   derived = λ k d below. absurd (omega (arith, below));
 }
 
--- what is wrong with a line of the open log, as its number tells
+-- what is wrong with a line of the open log, as its number says
 same_reject : (graphs : Graphs) (proof : Proof) (log : LogSoFar) (line : LogLine) → IsOpen graphs proof.matching proof.closed log → log.taken ≡ proof.taken → refutation_of (line_fault (formula_of log.graphs log.query) log.taken line) ≡ match_reject graphs proof line
 same_reject graphs proof log line open_log taken =
     ap (λ g. refutation_of (line_fault (formula_of g log.query) log.taken line)) open_log.graphs_are
     ∙ (ap (λ q. refutation_of (line_fault (formula_of graphs q) log.taken line)) open_log.asks ∙ ap (λ t. refutation_of (line_fault (formula_of graphs (log_query graphs proof.matching proof.closed)) t line)) taken)
 
--- what a line of the open log is told to be is what the match's logs say of it
+-- what a line of the open log is said to be is what the match's logs say of it
 pub told_of_match : (graphs : Graphs) (matching : Matching) (closed : ℕ) (kept : Option LogSoFar) (log : LogSoFar) (line : LogLine) (logs : MatchLogs) (told : Option Reject) → IsLog graphs matching closed kept → kept ≡ Some log
     → record { graphs = graphs; proof = record { matching = matching; closed = closed; taken = lines_in kept } } ≡ logs
     → told ≡ refutation_of (line_fault (formula_of log.graphs log.query) log.taken line) → told ≡ match_reject logs.graphs logs.proof line
@@ -119,12 +119,12 @@ handed_on {X} answer error reject is same =
 pub failed : {X : Type 0} (a b : RecordStop) → a ≡ b → ◌≡◌ {A = Result X RecordStop} (Err a) (Err b)
 failed {X} a b e = ap (λ (stop : RecordStop). Err stop) e
 
--- what is wrong with a line of a fact's log, as the clauses tell that its hints name
-pub told_reject : (now old : Telling) (claim : Claim) (taken before : List (List SatLit)) (line : LogLine) (log : FactProof) → list_all (tells now) line.hints ≡ true → now.graphs ≡ old.graphs → now.query ≡ old.query → taken ≡ before → old.query ≡ claim_query old.graphs claim
+-- what is wrong with a line of a fact's log, as the clauses say that its hints name
+pub present_reject : (now old : PartialQuery) (claim : Claim) (taken before : List (List SatLit)) (line : LogLine) (log : FactProof) → list_all (is_present now) line.hints ≡ true → now.graphs ≡ old.graphs → now.query ≡ old.query → taken ≡ before → old.query ≡ claim_query old.graphs claim
     → record { graphs = old.graphs; fact = record { claim = claim; taken = before } } ≡ log
-    → refutation_of (line_fault (told_formula now) taken line) ≡ fact_reject log.graphs log.fact line
-told_reject now old claim taken before line log told graphs query same asks is =
-    ap refutation_of (told_fault now taken line told)
+    → refutation_of (line_fault (present_formula now) taken line) ≡ fact_reject log.graphs log.fact line
+present_reject now old claim taken before line log present graphs query same asks is =
+    ap refutation_of (present_fault now taken line present)
     ∙ (ap (λ g. refutation_of (line_fault (formula_of g now.query) taken line)) graphs
     ∙ (ap (λ q. refutation_of (line_fault (formula_of old.graphs q) taken line)) (query ∙ asks)
     ∙ (ap (λ ts. refutation_of (line_fault (formula_of old.graphs (claim_query old.graphs claim)) ts line)) same

@@ -1,4 +1,4 @@
--- Tests in their order: they tell one fault, and where they tell none, all are passed.
+-- Tests in their order: they find one fault, and where they find none, all are passed.
 use Rattle.std.proofs.Common.{◌≡◌, ◌⊎◌, Option, None, Some, inl, inr, sym, ◌∙◌}
 use Rattle.std.proofs.lemmas.Option.{none-some}
 use Rattle.account_check.specs.declared.reject.Reject.{Reject}
@@ -13,7 +13,7 @@ one_unless Test reject Rest one a b (inl first) (inr second) = absurd (first.0 s
 one_unless Test reject Rest one a b (inr first) (inl second) = absurd (second.0 first.0)
 one_unless Test reject Rest one a b (inr first) (inr second) = one a b first.1 second.1
 
--- where no fault is told, the test is passed, and so are those after it
+-- where no fault is found, the test is passed, and so are those after it
 pub through : {A B : Type 0} {r : Reject} → (((A → ⊥) × (◌≡◌ {A = Option Reject} None (Some r))) ⊎ (A × B)) → A × B
 through {A} {B} {r} (inl failed) = absurd (none-some r failed.1)
 through {A} {B} {r} (inr passed) = passed

@@ -1,4 +1,4 @@
--- The verdict of an account's bytes is one, and each step of the check tells it.
+-- The verdict of an account's bytes is one, and each step of the check answers it.
 use Rattle.std.proofs.Common.{◌≡◌, ◌≢◌, ℕ, ◌+◌, ◌<◌, true, List, [], ◌∷◌, ◌++◌, length, get_or, take, slice_index_or, Option, None, Some, Result, Ok, Err, refl, sym, ap, subst, ◌∙◌, arith, inl, inr, length-append}
 use Rattle.std.proofs.lemmas.Bool.{cases_lt}
 use Rattle.std.proofs.lemmas.List.{get_or_append_left, get_or-append-add, take-append-le}
@@ -116,7 +116,7 @@ never_both graphs bytes told line reason accepted rejected =
         let e : ◌≡◌ {A = Result (Option Record) RecordFault} (Ok (Some bad.0)) (Ok None) = one_answer bytes true records (Ok (Some bad.0)) (Ok None) bad.1 account in
         cc
 
--- an answer that is the verdict tells it exactly
+-- an answer that is the verdict says it exactly
 pub accepted_told : (graphs : Graphs) (bytes : List ℕ) (result : Result Verdict CheckStop) (told : Verdict) → IsVerdict graphs bytes result → result ≡ Ok told → IsAccepted graphs bytes told
 accepted_told graphs bytes result told is e = subst (IsVerdict graphs bytes) e is
 

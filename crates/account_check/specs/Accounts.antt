@@ -25,8 +25,9 @@ use Rattle.account_check.specs.Bans.{BanTests}
 use Rattle.account_check.specs.Conclusions.{matching_of, ConclusionTests, PortsTest}
 use Rattle.account_check.specs.Logs.{OpenFact, Proof, line_reject, nothing, unproved, unshown, with_ban, with_fact, with_line}
 
--- What an account of two circuits has come to: what may stand next; the facts and bans that were given; the fact whose log is
--- open, which counts only once its log is closed; the match that it concludes in; and its conclusion as a verdict.
+-- What an account of two circuits has come to: what may stand next; the facts and bans that were given; the fact whose
+-- log is open, which counts only once its log is closed; the match that it concludes in; and its conclusion as a
+-- verdict.
 pub record Account : Type 0 where
   pub graphs : Graphs
   pub place : Place
@@ -46,8 +47,8 @@ empty_account graphs = record {
   concluded = None;
 }
 
--- What is wrong with a record that may stand there. A line of a log stands only after a fact or a match that was taken, so that
--- the circuits have the same numbers of ports.
+-- What is wrong with a record that may stand there. A line of a log stands only after a fact or a match that was taken,
+-- so that the circuits have the same numbers of ports.
 abbrev pub HasFault : Account → Record → Option Reject → Type 0
 HasFault account entry.Header fault = Passed fault
 HasFault account (entry.Fact head) fault = PortsTest account.graphs (FactTests account.graphs head) fault
@@ -89,8 +90,8 @@ abbrev pub after : Account → Record → Account
 after account entry =
     record (with_record account entry) { place = unwrap_or (next_place account.place entry) account.place }
 
--- Taking a record that may stand next: a record that is refused has the fault that is told, one that is taken has none, and what
--- isn't taken changes nothing.
+-- Taking a record that may stand next: a record that is refused has the fault that is named, one that is taken has
+-- none, and what isn't taken changes nothing.
 pub record Takes (old : Account) (entry : Record) (new : Account) (result : Result (Unit {0}) RecordStop) : Type 0 where
   pub refused : (reject : Reject) → result ≡ Err (stop.Reject reject) → HasFault old entry (Some reject)
   pub taken : OnOk result (HasFault old entry None)

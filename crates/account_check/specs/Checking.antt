@@ -50,17 +50,17 @@ abbrev pub WhateverFollows : Bool → List ℕ → (List ℕ → Type 0) → Typ
 WhateverFollows true bytes P = P bytes
 WhateverFollows false bytes P = (more : List ℕ) → P (bytes ++ more)
 
--- what a stop tells: the first bad line of a text
+-- what a stop says: the first bad line of a text
 abbrev pub TellsStop : Bool → Graphs → List ℕ → CheckStop → Type 0
 TellsStop finished graphs bytes stop = WhateverFollows finished bytes (λ text. IsVerdict graphs text (Err stop))
 
--- what a step tells: one record more was taken, or all are, or the next line is bad
+-- what a step says: one record more was taken, or all are, or the next line is bad
 abbrev pub Goes : Bool → Graphs → List ℕ → Reading → Account → Result Bool CheckStop → Type 0
 Goes finished graphs bytes reading account (Ok true) = IsChecking finished graphs bytes reading account
 Goes finished graphs bytes reading account (Ok false) = IsThrough finished graphs bytes reading account
 Goes finished graphs bytes reading account (Err stop) = TellsStop finished graphs bytes stop
 
--- what all steps tell: all records are taken, or a line is bad
+-- what all steps say: all records are taken, or a line is bad
 abbrev pub TakesAll : Bool → Graphs → List ℕ → Reading → Account → Result (Unit {0}) CheckStop → Type 0
 TakesAll finished graphs bytes reading account (Ok done) = IsThrough finished graphs bytes reading account
 TakesAll finished graphs bytes reading account (Err stop) = TellsStop finished graphs bytes stop
@@ -78,7 +78,8 @@ HasTaken graphs bytes progress = AreTaken graphs bytes progress.reading progress
 abbrev pub IsUnderWay : Progress → Type 0
 IsUnderWay progress = (graphs : Graphs) × (bytes : List ℕ) × HasTaken graphs bytes progress
 
--- Feeding: of the bytes so far all whole lines are valid records; or one of them is the first bad line, whatever comes after it.
+-- Feeding: of the bytes so far all whole lines are valid records; or one of them is the first bad line, whatever comes
+-- after it.
 abbrev pub Feeds : Graphs → List ℕ → Progress → Result (Unit {0}) CheckStop → Type 0
 Feeds graphs bytes progress result = TakesAll false graphs bytes progress.reading progress.account result
 

@@ -43,7 +43,8 @@ pub record AreWhole (graphs : Graphs) (pairs : List Pair) : Type 0 where
   pub inputs : IsSignedBijection graphs.first.inputs (matching_of graphs.first.inputs pairs).inputs
   pub outputs : IsSignedBijection (length graphs.first.outputs) (matching_of graphs.first.inputs pairs).outputs
 
--- the test that stands before each but those of the header, of the end and of the conclusion that the numbers of ports differ
+-- the test that stands before each but those of the header, of the end and of the conclusion that the numbers of ports
+-- differ
 abbrev pub PortsTest : Graphs → (Option Reject → Type 0) → Option Reject → Type 0
 PortsTest graphs Rest fault = Unless (HaveAsMany graphs.first graphs.second) reject.Conclusion Rest fault
 

@@ -41,8 +41,8 @@ unproved matching = record { matching = matching; closed = 0; taken = [] }
 abbrev pub nothing : Proof
 nothing = unproved (record { inputs = []; outputs = [] })
 
--- what log number c of a match is to refute: that output c / 2 and its partner can differ, where the output has the value true
--- for an even c, and false for an odd one
+-- what log number c of a match is to refute: that output c / 2 and its partner can differ, where the output has the
+-- value true for an even c, and false for an odd one
 abbrev pub log_query : Graphs → Matching → ℕ → Query
 log_query graphs matching c = match_query graphs.first.inputs matching (c / 2) (c % 2 == 0)
 

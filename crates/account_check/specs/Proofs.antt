@@ -14,7 +14,7 @@ use Rattle.claim_core.specs.declared.query.Query.{Query}
 use Rattle.claim_core.specs.ClaimQueries.{claim_query}
 use Rattle.claim_core.specs.Queries.{IsQuery}
 use Rattle.claim_core.specs.Formulas.{formula_of, IsRefuted}
-use Rattle.query_core.specs.ClaimClauses.{Telling}
+use Rattle.query_core.specs.ClaimClauses.{PartialQuery}
 use Rattle.account_check.specs.Logs.{OpenFact, Proof, log_count, log_query}
 
 -- A log of a query of two circuits, as far as its lines were taken.
@@ -35,8 +35,8 @@ pub record FactProof : Type 0 where
   pub graphs : Graphs
   pub fact : OpenFact
 
--- a claim's clauses are told
-abbrev pub IsFactLog : Claim → Telling → Type 0
+-- clauses of a claim's query are present
+abbrev pub IsFactLog : Claim → PartialQuery → Type 0
 IsFactLog claim base = base.query ≡ claim_query base.graphs claim
 
 -- The last log of a circuit's claims, if there was one.

@@ -1,5 +1,5 @@
--- What valid records show, whoever wrote them: all facts given are true, no match has all pairs of any ban given, and where the
--- account concludes that there is no match, there is none.
+-- What valid records show, whoever wrote them: all facts given are true, no match has all pairs of any ban given, and
+-- where the account concludes that there is no match, there is none.
 use Rattle.std.specs.Prelude.{◌≡◌, Option, None, Some}
 use Rattle.circuits.specs.Matches.{HaveNpnpEqualFunctions}
 use Rattle.net_core.specs.Sides.{Graphs}

@@ -10,7 +10,8 @@ use Rattle.account_check.specs.declared.verdict.CheckStop.{CheckStop}
 use Rattle.account_check.specs.declared.verdict.CheckStop.TheVariants.{Rejected, Memory}
 use Rattle.account_check.specs.Accounts.{account_after, verdict_of, AreValid, HasFault}
 
--- What is wrong with the line after these records: its form; or it is a record that may stand there, and that has this fault.
+-- What is wrong with the line after these records: its form; or it is a record that may stand there, and that has this
+-- fault.
 abbrev pub IsBad : Graphs → List ℕ → List Record → Why → Type 0
 IsBad graphs bytes before (why.Form fault) = HasFormFault bytes before fault
 IsBad graphs bytes before (why.Record reject) =

@@ -3,7 +3,7 @@ ghost use Rattle.std.specs.List.{list_all};
 ghost use Rattle.cnf_core.specs.Derivations.{line_fault};
 ghost use Rattle.cnf_core.specs.Stores.{HasRoom};
 ghost use Rattle.claim_core.specs.Claims.{IsClaim};
-ghost use Rattle.query_core.specs.ClaimClauses.{tells, told_formula};
+ghost use Rattle.query_core.specs.ClaimClauses.{is_present, present_formula};
 ghost use Rattle.account_check.specs.Logs.{fact_reject, refutation_of, unshown};
 ghost use Rattle.account_check.specs.declared.reject.RecordStop.TheVariants as stop;
 ghost use Rattle.account_check.specs.declared.reject.Reject.{Reject as AnyReject};
@@ -106,17 +106,17 @@ impl<'a> FactLog<'a> {
         ensures unchanged { OnErr result (self.new ≡ self.old) }
     {
         self.refuter.reserve(line.clause.len())?;
-        tell(alloc, &mut self.refuter, &line.hints)?;
+        make_present(alloc, &mut self.refuter, &line.hints)?;
         take(&mut self.refuter, line)
     }
 }
 
-// Takes a line exactly where it is derived from the clauses as they are told.
+// Takes a line exactly where it is derived from the clauses that are present.
 fn take(refuter: &mut Refuter<ClaimBase<'_>>, line: &LogLine) -> Result<(), RecordStop>
     requires { HasRoom refuter.old.room (length line.now.clause) }
     ensures refused { (reject : AnyReject) → result ≡ Err (stop.Reject reject)
-        → Some reject ≡ refutation_of (line_fault (told_formula refuter.old.base) refuter.old.taken line.now) }
-    ensures derived { OnOk result (line_fault (told_formula refuter.old.base) refuter.old.taken line.now ≡ None) }
+        → Some reject ≡ refutation_of (line_fault (present_formula refuter.old.base) refuter.old.taken line.now) }
+    ensures derived { OnOk result (line_fault (present_formula refuter.old.base) refuter.old.taken line.now ≡ None) }
     ensures base { refuter.new.base ≡ refuter.old.base }
     ensures taken { OnOk result (refuter.new.taken ≡ refuter.old.taken ++ line.now.clause ∷ []) }
     ensures unchanged { OnErr result (refuter.new ≡ refuter.old) }
@@ -125,8 +125,8 @@ fn take(refuter: &mut Refuter<ClaimBase<'_>>, line: &LogLine) -> Result<(), Reco
     Ok(())
 }
 
-// Goes over to the clauses of all gates, unless those that hints name are told.
-fn tell<'a>(
+// Goes over to the clauses of all gates, unless those that hints name are all present.
+fn make_present<'a>(
     alloc: Global,
     refuter: &mut Refuter<ClaimBase<'a>>,
     hints: &[u64],
@@ -135,9 +135,9 @@ fn tell<'a>(
     ensures query { refuter.new.base.query ≡ refuter.old.base.query }
     ensures taken { refuter.new.taken ≡ refuter.old.taken }
     ensures room { refuter.new.room ≡ refuter.old.room }
-    ensures told { OnOk result (list_all (tells refuter.new.base) hints.now ≡ true) }
+    ensures present { OnOk result (list_all (is_present refuter.new.base) hints.now ≡ true) }
 {
-    if refuter.base().tells(hints) {
+    if refuter.base().are_present(hints) {
         return Ok(());
     }
     let whole = refuter.base().whole(alloc)?;

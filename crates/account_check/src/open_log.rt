@@ -85,7 +85,7 @@ impl<'a> OpenLog<'a> {
         }
     }
 
-    /// Takes a line exactly where it is derived, and tells whether it is the empty one: then the query is refuted. What
+    /// Takes a line exactly where it is derived, and says whether it is the empty one: then the query is refuted. What
     /// is refused changes nothing, nor does running out of memory.
     pub(crate) fn line(&mut self, line: &LogLine) -> Result<bool, RecordStop>
         ensures refused { (reject : AnyReject) → result ≡ Err (stop.Reject reject)

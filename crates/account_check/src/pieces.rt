@@ -56,7 +56,7 @@ impl<'a> AccountCheck<'a> {
         })
     }
 
-    /// Takes the next bytes, and the records of the lines that are whole then. The first bad line is told at the piece
+    /// Takes the next bytes, and the records of the lines that are whole then. The first bad line is named at the piece
     /// that completes it, whatever comes after it. After a refusal no more may be fed.
     pub fn feed(&mut self, alloc: Global, piece: &[u8]) -> Result<(), CheckStop>
         requires under_way { IsUnderWay self.old }
@@ -126,7 +126,7 @@ fn take_all(alloc: Global, reader: &mut Reader, checker: &mut Checker<'_>) -> Re
     Ok(())
 }
 
-// Takes the next record, and tells whether there was one.
+// Takes the next record, and says whether there was one.
 fn take_next(
     alloc: Global,
     reader: &mut Reader,

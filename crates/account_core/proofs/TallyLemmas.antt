@@ -33,16 +33,16 @@ ShapeSays net k shape true = ShapeHolds net k shape
 ShapeSays net k shape false = ShapeFails net k shape
 
 -- a shape is placed, and what is said of it is so
-abbrev pub IsTold : Net → ℕ → Bool → Shape → Type 0
-IsTold net k holds shape = IsPlaced net.inputs shape × ShapeSays net k shape holds
+abbrev pub IsShownShape : Net → ℕ → Bool → Shape → Type 0
+IsShownShape net k holds shape = IsPlaced net.inputs shape × ShapeSays net k shape holds
 
 abbrev pub claim_of : Side → ℕ → Shape → Claim
 claim_of side output shape = record { side = side; output = output; shape = shape }
 
--- a true fact of a claim tells of the claim's shape
-fact_tells : (graphs : Graphs) (side : Side) (output : ℕ) (shape : Shape) (holds : Bool) → IsTrueFact graphs (decided (claim_of side output shape) holds) → IsTold (graph_of graphs side) output holds shape
-fact_tells graphs side output shape true is = (is.placed.placed, is.says)
-fact_tells graphs side output shape false is = (is.placed.placed, is.says)
+-- a true fact of a claim shows the claim's shape
+fact_shows : (graphs : Graphs) (side : Side) (output : ℕ) (shape : Shape) (holds : Bool) → IsTrueFact graphs (decided (claim_of side output shape) holds) → IsShownShape (graph_of graphs side) output holds shape
+fact_shows graphs side output shape true is = (is.placed.placed, is.says)
+fact_shows graphs side output shape false is = (is.placed.placed, is.says)
 
 -- a fact by its parts
 fact_is : (fact : Decided) (side : Side) (output : ℕ) (holds : Bool) → fact.holds ≡ holds → fact.claim.side ≡ side → fact.claim.output ≡ output → fact ≡ decided (claim_of side output fact.claim.shape) holds
@@ -50,9 +50,9 @@ fact_is fact side output holds said of_side of_output =
     ap (λ s. decided (claim_of s fact.claim.output fact.claim.shape) fact.holds) of_side
     ∙ (ap (λ o. decided (claim_of side o fact.claim.shape) fact.holds) of_output ∙ ap (λ b. decided (claim_of side output fact.claim.shape) b) said)
 
--- a shape of facts is told of
-shape_told : (graphs : Graphs) (given : Given) (numbers : List ℕ) (holds : Bool) (side : Side) (output : ℕ) (shape : Shape) → All (IsTrueFact graphs) given.facts → All (IsFactGiven given) numbers → SayOf given numbers holds side output → Contains (shapes_of given numbers) shape → IsTold (graph_of graphs side) output holds shape
-shape_told graphs given numbers holds side output shape facts known say held =
+-- a shape of facts is shown of
+shape_shown : (graphs : Graphs) (given : Given) (numbers : List ℕ) (holds : Bool) (side : Side) (output : ℕ) (shape : Shape) → All (IsTrueFact graphs) given.facts → All (IsFactGiven given) numbers → SayOf given numbers holds side output → Contains (shapes_of given numbers) shape → IsShownShape (graph_of graphs side) output holds shape
+shape_shown graphs given numbers holds side output shape facts known say held =
     let shape_at : ℕ → Shape = λ k. (fact_at given k).claim.shape in
     let within : held.0 < length numbers = omega (arith, held.1, length-map numbers shape_at) in
     let number = get_or numbers held.0 0 in
@@ -60,7 +60,7 @@ shape_told graphs given numbers holds side output shape facts known say held =
     let right : IsTrueFact graphs fact = facts number no_fact (known held.0 0 within) in
     let is = fact_is fact side output holds (say.says held.0 0 within) (say.of_side held.0 0 within) (say.of_output held.0 0 within) in
     let same : fact.claim.shape ≡ shape = sym (get_or-map shape_at numbers held.0 0 shape within) ∙ held.2 in
-    subst (IsTold (graph_of graphs side) output holds) same (fact_tells graphs side output fact.claim.shape holds (subst (IsTrueFact graphs) is right))
+    subst (IsShownShape (graph_of graphs side) output holds) same (fact_shows graphs side output fact.claim.shape holds (subst (IsTrueFact graphs) is right))
 
 each_listed : (inputs : List ℕ) (shapes : List Shape) (x : ℕ) → AreOfEach inputs shapes → Contains inputs x → Contains shapes (Up x) ⊎ Contains shapes (Down x)
 each_listed inputs shapes x each held =
@@ -89,26 +89,26 @@ abbrev pub Lacks : Tallied → Net → ℕ → ℕ → Type 0
 Lacks Support net k i = ShapeHolds net k (Up i) × ShapeHolds net k (Down i)
 Lacks Binate net k i = ShapeHolds net k (Up i) ⊎ ShapeHolds net k (Down i)
 
--- what is told of each input's shape, and of both its shapes
-each_told : (net : Net) (k : ℕ) (holds : Bool) (inputs : List ℕ) (shapes : List Shape) (x : ℕ) → AreOfEach inputs shapes → ((shape : Shape) → Contains shapes shape → IsTold net k holds shape) → Contains inputs x → (x < net.inputs) × (ShapeSays net k (Up x) holds ⊎ ShapeSays net k (Down x) holds)
-each_told net k holds inputs shapes x are told held =
+-- what is shown of each input's shape, and of both its shapes
+each_shown : (net : Net) (k : ℕ) (holds : Bool) (inputs : List ℕ) (shapes : List Shape) (x : ℕ) → AreOfEach inputs shapes → ((shape : Shape) → Contains shapes shape → IsShownShape net k holds shape) → Contains inputs x → (x < net.inputs) × (ShapeSays net k (Up x) holds ⊎ ShapeSays net k (Down x) holds)
+each_shown net k holds inputs shapes x are shown held =
     elim (each_listed inputs shapes x are held) [
-      | inl up ↦ ((told (Up x) up).0, inl (told (Up x) up).1)
-      | inr down ↦ ((told (Down x) down).0, inr (told (Down x) down).1)
+      | inl up ↦ ((shown (Up x) up).0, inl (shown (Up x) up).1)
+      | inr down ↦ ((shown (Down x) down).0, inr (shown (Down x) down).1)
     ]
 
-both_told : (net : Net) (k : ℕ) (holds : Bool) (inputs : List ℕ) (shapes : List Shape) (x : ℕ) → AreBothOfEach inputs shapes → ((shape : Shape) → Contains shapes shape → IsTold net k holds shape) → Contains inputs x → (x < net.inputs) × (ShapeSays net k (Up x) holds × ShapeSays net k (Down x) holds)
-both_told net k holds inputs shapes x are told held =
+both_shown : (net : Net) (k : ℕ) (holds : Bool) (inputs : List ℕ) (shapes : List Shape) (x : ℕ) → AreBothOfEach inputs shapes → ((shape : Shape) → Contains shapes shape → IsShownShape net k holds shape) → Contains inputs x → (x < net.inputs) × (ShapeSays net k (Up x) holds × ShapeSays net k (Down x) holds)
+both_shown net k holds inputs shapes x are shown held =
     let listed = both_listed inputs shapes x are held in
-    ((told (Up x) listed.0).0, ((told (Up x) listed.0).1, (told (Down x) listed.1).1))
+    ((shown (Up x) listed.0).0, ((shown (Up x) listed.0).1, (shown (Down x) listed.1).1))
 
-has : (kind : Tallied) (net : Net) (k : ℕ) (inputs : List ℕ) (shapes : List Shape) (x : ℕ) → HaveShapes kind inputs shapes → ((shape : Shape) → Contains shapes shape → IsTold net k false shape) → Contains inputs x → (x < net.inputs) × Has kind net k x
-has Support net k inputs shapes x are told held = each_told net k false inputs shapes x are told held
-has Binate net k inputs shapes x are told held = both_told net k false inputs shapes x are told held
+has : (kind : Tallied) (net : Net) (k : ℕ) (inputs : List ℕ) (shapes : List Shape) (x : ℕ) → HaveShapes kind inputs shapes → ((shape : Shape) → Contains shapes shape → IsShownShape net k false shape) → Contains inputs x → (x < net.inputs) × Has kind net k x
+has Support net k inputs shapes x are shown held = each_shown net k false inputs shapes x are shown held
+has Binate net k inputs shapes x are shown held = both_shown net k false inputs shapes x are shown held
 
-lacks : (kind : Tallied) (net : Net) (k : ℕ) (inputs : List ℕ) (shapes : List Shape) (x : ℕ) → LackShapes kind inputs shapes → ((shape : Shape) → Contains shapes shape → IsTold net k true shape) → Contains inputs x → (x < net.inputs) × Lacks kind net k x
-lacks Support net k inputs shapes x are told held = both_told net k true inputs shapes x are told held
-lacks Binate net k inputs shapes x are told held = each_told net k true inputs shapes x are told held
+lacks : (kind : Tallied) (net : Net) (k : ℕ) (inputs : List ℕ) (shapes : List Shape) (x : ℕ) → LackShapes kind inputs shapes → ((shape : Shape) → Contains shapes shape → IsShownShape net k true shape) → Contains inputs x → (x < net.inputs) × Lacks kind net k x
+lacks Support net k inputs shapes x are shown held = both_shown net k true inputs shapes x are shown held
+lacks Binate net k inputs shapes x are shown held = each_shown net k true inputs shapes x are shown held
 
 -- The claims of an output's input are those of another output's input, in this order or the other one.
 abbrev pub Correspond : Net → ℕ → ℕ → Net → ℕ → ℕ → Type 0
@@ -171,5 +171,5 @@ tally_contradicts graphs given pairs kind have lack correspond facts known_have 
     let other = other_side side in
     let taken = pair_goes p q pair Output (All-contains (HasPair p q) pairs pair extends tally.paired) tally.of_outputs in
     by_side graphs kind side pair tally.having tally.lacking p q match (correspond p q match) (omega (arith, taken.0, match.outputs.entries)) taken.1 tally.having_ascends tally.lacking_ascends tally.too_many
-    (λ x held. has kind (graph_of graphs side) (port_on side pair) tally.having (shapes_of given have) x tally.have_shapes (λ shape listed. shape_told graphs given have false side (port_on side pair) shape facts known_have tally.fail listed) held)
-    (λ x held. lacks kind (graph_of graphs other) (port_on other pair) tally.lacking (shapes_of given lack) x tally.lack_shapes (λ shape listed. shape_told graphs given lack true other (port_on other pair) shape facts known_lack tally.hold listed) held)
+    (λ x held. has kind (graph_of graphs side) (port_on side pair) tally.having (shapes_of given have) x tally.have_shapes (λ shape listed. shape_shown graphs given have false side (port_on side pair) shape facts known_have tally.fail listed) held)
+    (λ x held. lacks kind (graph_of graphs other) (port_on other pair) tally.lacking (shapes_of given lack) x tally.lack_shapes (λ shape listed. shape_shown graphs given lack true other (port_on other pair) shape facts known_lack tally.hold listed) held)

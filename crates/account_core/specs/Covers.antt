@@ -1,4 +1,5 @@
--- Ports of which some must go to some of others, though each way to pair two of them is excluded (the pigeonhole principle).
+-- Ports of which some must go to some of others, though each way to pair two of them is excluded (the pigeonhole
+-- principle).
 use Rattle.std.specs.Prelude.{ℕ, ◌+◌, ◌<◌, Bool, true, false, List, [], ◌∷◌, length, All, Any, Contains, Option, None, Some}
 use Rattle.std.specs.List.{AllZip, flat_map}
 use Rattle.circuits.specs.declared.port.Pair.{Pair}
@@ -23,7 +24,8 @@ ways kind from to = flat_map (λ f. row kind f to) from
 abbrev pub IsImpossible : List Pair → Pair → Type 0
 IsImpossible pairs pair = Any (λ assigned. Clash assigned pair) pairs
 
--- what stands for a way: nothing where it is impossible, else an earlier ban all of whose pairs are among the ban's and it
+-- what stands for a way: nothing where it is impossible, else an earlier ban all of whose pairs are among the ban's and
+-- it
 abbrev pub IsReference : Given → List Pair → Pair → Option ℕ → Type 0
 IsReference given pairs pair None = IsImpossible pairs pair
 IsReference given pairs pair (Some ban) =
@@ -36,8 +38,8 @@ pub record AreCoverNames (graphs : Graphs) (given : Given) (kind : PortKind)
   pub second_ports : All (λ port. port < ports_in graphs.second kind) to
   pub given_bans : (ban : ℕ) → Contains refs (Some ban) → IsBanGiven given ban
 
--- Both lists ascend, they have more ports than there are of the kind, so that some port of `from` goes to one of `to`; and there
--- is a reference for each way.
+-- Both lists ascend, they have more ports than there are of the kind, so that some port of `from` goes to one of `to`;
+-- and there is a reference for each way.
 pub record IsCover (graphs : Graphs) (given : Given) (pairs : List Pair) (kind : PortKind)
     (from to : List ℕ) (refs : List (Option ℕ)) : Type 0 where
   pub from_ascends : Ascend from

@@ -1,4 +1,5 @@
--- What a ban says: no match has all of its pairs (Katebi and Markov, DATE 2010: pairs that are excluded while a match is sought).
+-- What a ban says: no match has all of its pairs (Katebi and Markov, DATE 2010: pairs that are excluded while a match
+-- is sought).
 use Rattle.std.specs.Prelude.{ℕ, Bool, List, All}
 use Rattle.circuits.specs.declared.port.Pair.{Pair}
 use Rattle.circuits.specs.Matches.{IsMatchOfFunctions}

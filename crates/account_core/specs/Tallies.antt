@@ -1,5 +1,5 @@
--- Counts of an output's inputs that don't fit its partner's (support and unateness, as in textbooks of logic synthesis; a match
--- keeps both: Katebi and Markov, DATE 2010).
+-- Counts of an output's inputs that don't fit its partner's (support and unateness, as in textbooks of logic synthesis;
+-- a match keeps both: Katebi and Markov, DATE 2010).
 use Rattle.std.specs.Prelude.{◌≡◌, ◌⊎◌, ℕ, ◌+◌, ◌<◌, Bool, true, false, List, [], ◌∷◌, length, map, All, AllPairs, Contains}
 use Rattle.std.specs.List.{AllZip, flat_map}
 use Rattle.circuits.specs.declared.port.Pair.{Pair}
@@ -58,8 +58,8 @@ LackShapes Binate inputs shapes = AreOfEach inputs shapes
 abbrev pub Ascend : List ℕ → Type 0
 Ascend numbers = AllPairs (λ one other. one < other) numbers
 
--- Of two paired outputs one, on either side, has these inputs, and the other lacks those. There are more of both than a circuit
--- has inputs, so that some input that the one has goes to an input that the other lacks.
+-- Of two paired outputs one, on either side, has these inputs, and the other lacks those. There are more of both than a
+-- circuit has inputs, so that some input that the one has goes to an input that the other lacks.
 pub record IsTally (graphs : Graphs) (given : Given) (pairs : List Pair) (kind : Tallied) (have lack : List ℕ) : Type 0 where
   pub side : Side
   pub pair : Pair

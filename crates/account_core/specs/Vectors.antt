@@ -1,5 +1,5 @@
--- A vector on which paired outputs differ, whatever the inputs are that aren't paired (three values: Eichelberger, IBM J. Res.
--- Dev. 1965).
+-- A vector on which paired outputs differ, whatever the inputs are that aren't paired (three values: Eichelberger, IBM
+-- J. Res. Dev. 1965).
 use Rattle.std.specs.Prelude.{◌≡◌, ◌≢◌, ℕ, ◌<◌, ◌==◌, ◌&&◌, Bool, List, [], ◌∷◌, length, map, Contains, Some, slice_index_or, if◌then◌else◌}
 use Rattle.std.specs.List.{range_with_len}
 use Rattle.circuits.specs.declared.port.Pair.{Pair}
@@ -37,7 +37,8 @@ pub record AreSent (pairs : List Pair) (n : ℕ) (values sent : List Tri) : Type
       → ((pair : Pair) → Contains pairs pair → pair.kind ≡ Input → pair.to ≢ place)
       → value_at sent place ≡ X
 
--- what an output has on these values of the first circuit's inputs, and what its partner has on what the pairs make of them
+-- what an output has on these values of the first circuit's inputs, and what its partner has on what the pairs make of
+-- them
 abbrev pub first_value : Graphs → List Tri → ℕ → Tri
 first_value graphs values output = value_at (tri_outputs graphs.first values) output
 
@@ -45,8 +46,8 @@ abbrev pub second_value : Graphs → List Pair → List Tri → ℕ → Tri
 second_value graphs pairs values place =
     value_at (tri_outputs graphs.second (values_sent pairs graphs.second.inputs values)) place
 
--- There is a value for each input of the first circuit, and on them the output and its partner are both definite, and differ
--- by the sign of their pair.
+-- There is a value for each input of the first circuit, and on them the output and its partner are both definite, and
+-- differ by the sign of their pair.
 pub record ShowsDifference (graphs : Graphs) (pairs : List Pair) (output : ℕ) (values : List Tri) : Type 0 where
   pub pair : Pair
   pub paired : pair_of pairs Output output ≡ Some pair

@@ -1,5 +1,5 @@
--- The steps of the reader's code at the words of a line, which contracts of private functions cite; what they come to is
--- said in `Accounts`.
+-- The steps of the reader's code at the words of a line, which contracts of private functions cite; what they come to
+-- is said in `Accounts`.
 use Rattle.std.specs.Prelude.{ℕ, ◌^◌, ◌==◌, ◌&&◌, ◌||◌, not, Bool, true, false, List, [], ◌∷◌, codes, length, drop, take, Option, None, Some, Result, Ok, Err}
 use Rattle.std.specs.Prelude.{nat_eq, nat_lt, slice_index_or, if◌then◌else◌}
 use Rattle.std.specs.Char.{is_ascii_digit}

@@ -1,4 +1,5 @@
--- What the reader makes of the bytes that are left, for contracts of private functions; what it comes to is said in `Accounts`.
+-- What the reader makes of the bytes that are left, for contracts of private functions; what it comes to is said in
+-- `Accounts`.
 use Rattle.std.specs.Prelude.{ℕ, ◌+◌, Bool, List, [], ◌∷◌, codes, length, drop, Option, None, Some, Result, Ok, Err, nat_lt, if◌then◌else◌}
 use Rattle.std.specs.List.{before_first, position_or_len}
 use Rattle.std.specs.Str.{bytes_eq}

@@ -75,7 +75,8 @@ abbrev pub reference_word : Option ℕ → List ℕ
 reference_word (Some ban) = decimal ban
 reference_word None = codes "-"
 
--- why no match has a ban's pairs: `vector 0 =0x`, `mismatch 4 7`, `tally support 0 3 / 5 6`, `cover in 0 / 0 1 / 2 - 3 4`
+-- why no match has a ban's pairs: `vector 0 =0x`, `mismatch 4 7`, `tally support 0 3 / 5 6`,
+-- `cover in 0 / 0 1 / 2 - 3 4`
 abbrev pub step_words : Step → List (List ℕ)
 step_words (Vector output tris) = codes "vector" ∷ decimal output ∷ tris_word tris ∷ []
 step_words (Mismatch fails holds) = codes "mismatch" ∷ decimal fails ∷ decimal holds ∷ []

@@ -156,7 +156,7 @@ back_stays {X} list count place d later there =
     ∙ (drop-set-lt (place + 1) (set list count x) place (get_or list count d) (omega arith)
     ∙ drop-set-lt (place + 1) list count x (omega (arith, later)))
 
--- what stands from a place on tells the element there, and what stands after it
+-- what stands from a place on gives the element there, and what stands after it
 read_back : {X : Type 0} (list old : List X) (place : ℕ) (d : X) → drop place list ≡ drop place old → get_or list place d ≡ get_or old place d
 read_back {X} list old place d back =
     let there : place ≡ place + 0 = omega arith in

@@ -1,5 +1,5 @@
--- The facts and bans that a ban's step names, and what a ban rests on: what its step names, what the steps of those bans name,
--- and so on, as in the trimming of proofs (Wetzler, Heule and Hunt: DRAT-trim, SAT 2014).
+-- The facts and bans that a ban's step names, and what a ban rests on: what its step names, what the steps of those
+-- bans name, and so on, as in the trimming of proofs (Wetzler, Heule and Hunt: DRAT-trim, SAT 2014).
 use Rattle.std.specs.Prelude.{◌≡◌, ℕ, ◌<◌, Bool, true, List, [], ◌∷◌, ◌++◌, All, option_to_list}
 use Rattle.std.specs.List.{flat_map}
 use Rattle.circuits.specs.Literals.{EachAt, bit}

@@ -1,4 +1,4 @@
--- Facts and bans without those that a conclusion doesn't rest on, numbered anew.
+-- Facts and bans without those that a conclusion doesn't rest on, numbered again.
 use Rattle.std.specs.Prelude.{◌≡◌, ℕ, zero, suc, Bool, true, false, List, [], ◌∷◌, length, map}
 use Rattle.std.specs.List.{range_with_len}
 use Rattle.account_core.specs.declared.fact.Fact.{Fact}

@@ -1,5 +1,5 @@
 //! What a ban without pairs rests on. A search comes to more facts and bans than its last ban needs; here those are
-//! found that it does need, and numbered anew. An error comes only when out of memory.
+//! found that it does need, and numbered again. An error comes only when out of memory.
 #![tactic(auto)]
 
 mod keeping;

@@ -21,7 +21,7 @@ pub struct Core {
 }
 
 /// Keeps of facts and bans what the ban of a number rests on: that ban, what its step names, what the steps of these
-/// bans name, and so on, in their order and numbered anew. What is kept stays in memory where it is.
+/// bans name, and so on, in their order and numbered again. What is kept stays in memory where it is.
 pub fn trim(
     alloc: Global,
     facts: Items<Fact>,

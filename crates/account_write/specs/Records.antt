@@ -1,5 +1,6 @@
--- The records of the account of what a search came to (this project's format): after the header, for a match its pairs and the
--- logs that show it; for none the facts and bans, up to a ban without pairs; or that the circuits differ in their numbers of ports.
+-- The records of the account of what a search came to (this project's format): after the header, for a match its pairs
+-- and the logs that show it; for none the facts and bans, up to a ban without pairs; or that the circuits differ in
+-- their numbers of ports.
 use Rattle.std.specs.Prelude.{◌≡◌, ℕ, ◌+◌, ◌<◌, Bool, List, [], ◌∷◌, ◌++◌, length, map, All}
 use Rattle.std.specs.List.{flat_map}
 use Rattle.circuits.specs.declared.port.Pair.{Pair}
@@ -89,7 +90,8 @@ in_order front log facts logs bans back =
 abbrev pub records_of : Account → List Record
 records_of account = in_order account.front [] account.facts account.logs account.bans account.back
 
--- the records of an account that are still to be printed: what is left of a log that was begun comes before the next fact
+-- the records of an account that are still to be printed: what is left of a log that was begun comes before the next
+-- fact
 abbrev pub records_left : AccountLines → List Record
 records_left lines = in_order lines.front.now lines.log.now lines.facts.now lines.logs.now lines.bans.now lines.back.now
 

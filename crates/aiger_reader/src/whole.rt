@@ -49,7 +49,7 @@ fn read_file(alloc: Global, input: &[u8]) -> Result<Named, NetStop>
     let header = read_front(input)?;
     let mut body = read_body(alloc, input, header)?;
     let net = read_net(alloc, input, header, &mut body)?;
-    // a cycle is told at a gate's line, which stands before the symbols: so this comes before them
+    // a cycle is reported at a gate's line, which stands before the symbols: so this comes before them
     let graph = put_in_order(alloc, input, header, &net)?;
     name_ports(alloc, header, &mut body.rest, graph)
 }

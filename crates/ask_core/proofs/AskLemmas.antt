@@ -99,7 +99,7 @@ stopped_with graphs query lemmas s new old first after (Spent learned) of there 
   spent = stopped.spent;
 }
 
--- the solver that is made for the clauses of the cones, of which a base tells each
+-- the solver that is made for the clauses of the cones, of which a base gives each
 pub made_of_base : (graphs : Graphs) (query : Query) (lemmas : List LogLine) (cones : Coned) (base : Asking) (ids : List ℕ) (s : Solving) → cones.graphs ≡ graphs → cones.query ≡ query → base ≡ record { graphs = graphs; query = query } → ids ≡ cones.ids → AreConeIds cones.graphs cones.query cones.ids → AreDerived (formula_of graphs query) lemmas → s ≡ record { formula = formula_of base.graphs base.query; ids = ids; lines = lemmas } → IsOfCones graphs query lemmas s
 made_of_base graphs query lemmas cones base ids s graphs_are query_is base_is ids_are cone_ids derived is = record {
   formula = ap (λ (x : Solving). x.formula) is ∙ ap (λ (b : Asking). formula_of b.graphs b.query) base_is;

@@ -30,7 +30,7 @@ impl<'a> QuestionGuide for GatePairs<'a> {
         Ok(())
     }
 
-    // The tab tells of each line.
+    // The tab reports each line.
     fn learned(&mut self, _lines: u64) {}
 }
 

@@ -21,7 +21,7 @@ pub(crate) struct Signal {
 }
 
 /// The gates of two cones as one netlist, a gate that both have once. All signals are its outputs, the constant and the
-/// inputs too, so that a simulation tells what each of them has.
+/// inputs too, so that a simulation says what each of them has.
 pub(crate) struct Joint {
     pub(crate) graph: Graph,
     /// What each signal is.

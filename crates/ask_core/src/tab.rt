@@ -8,12 +8,12 @@ use std::alloc::Global;
 use std::marker::Model;
 use watch_core::{Stage, Watch};
 
-/// The watcher is told once in this many learned lines. Thousands are learned in a second, and what is shown changes
+/// What is learned is reported once in this many lines. Thousands are learned in a second, and what is shown changes
 /// once a second.
 pub const TOLD_EVERY: u64 = 64;
 
 /// A budget, and for contracts alone the lines that were charged to it, a refused one last: the solver has them. A
-/// watcher is told how many there are.
+/// watcher gets how many there are.
 #[derive(Drop)]
 pub struct Tab<'a, W: Watch> {
     budget: u64,

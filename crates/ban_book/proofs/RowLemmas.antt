@@ -1,4 +1,4 @@
--- Rows of outputs, and the facts that they tell of.
+-- Rows of outputs, and the facts that they have.
 use Rattle.std.proofs.Common.{◌≡◌, ℕ, ◌<◌, Bool, true, false, List, [], ◌∷◌, ◌++◌, length, get_or, sym, ap, ◌∙◌, inl, inr, arith}
 use Rattle.std.proofs.lemmas.Bool.{cases_order}
 use Rattle.std.proofs.lemmas.List.{get_or_default}
@@ -66,7 +66,7 @@ pub length_of_side : (side : Side) (one other : List InputClaims) (n : ℕ) → 
 length_of_side First one other n first second = first
 length_of_side Second one other n first second = second
 
--- what a row tells of an input with a value
+-- what a row says of an input with a value
 pub row_tells : (facts : List Decided) (side : Side) (output : ℕ) (row : List InputClaims) (input : ℕ) (value : Bool) → IsRow facts side output row → input < length row → IsDecidedAs facts (record { side = side; output = output; shape = one_input input value }) (decided_at row input value).holds (decided_at row input value).number
 row_tells facts side output row input false is below = (is.each input no_claims below).up
 row_tells facts side output row input true is below = (is.each input no_claims below).down

@@ -141,7 +141,7 @@ pub both_or_one : (holds : Bool) (row : List InputClaims) → count_by (says_one
 both_or_one holds row =
     omega (arith, length-filter_both (says_one holds) (says_both (not holds)) (λ claims. opposite holds claims.up.holds claims.down.holds) row, length-filter (says_one holds) row, length-filter (says_both (not holds)) row)
 
--- A tally's ban is valid in view of facts that the rows tell of.
+-- A tally's ban is valid in view of facts that the rows have.
 module _ (graphs : Graphs) (facts : List Decided) (pair : Pair) (one other : List InputClaims) (are : AreRows facts pair one other) where
   lists_are : (side : Side) (holds : Bool) → AreLists facts pair side holds (lists_by holds (row_on side one other) (row_on (other_side side) one other))
   lists_are side holds = record {

@@ -1,4 +1,5 @@
--- The bans with the same first pair are linked in a chain, the latest first, and so are those without pairs (an index of lists).
+-- The bans with the same first pair are linked in a chain, the latest first, and so are those without pairs (an index
+-- of lists).
 use Rattle.std.specs.Prelude.{◌≡◌, ℕ, ◌<◌, ◌≤◌, List, Option, None, Some, IfSome, length, slice_get, slice_index_or}
 use Rattle.std.specs.Map.{lookup}
 use Rattle.std.specs.Option.{option_eq}
@@ -44,7 +45,8 @@ abbrev pub HasNoneWithin : List Ban → Option Pair → List Pair → Type 0
 HasNoneWithin bans first pairs =
     (number : ℕ) (d : Ban) → IsOfChain bans first number → IsWithin pairs (slice_index_or bans number d) → ⊥
 
--- A chain was gone over down to one of its bans: each that has all of its pairs among these is that ban or an earlier one.
+-- A chain was gone over down to one of its bans: each that has all of its pairs among these is that ban or an earlier
+-- one.
 pub record IsWalked (bans : List Ban) (first : Option Pair) (pairs : List Pair) (next : Option ℕ) : Type 0 where
   pub found : IfSome next (IsOfChain bans first)
   pub rest : (number : ℕ) (d : Ban)

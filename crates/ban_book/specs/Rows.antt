@@ -1,5 +1,5 @@
--- An output's decided claims of one input, a row for each output (unateness and support of functions, as in textbooks of logic synthesis; a match keeps both:
--- Katebi and Markov, DATE 2010).
+-- An output's decided claims of one input, a row for each output (unateness and support of functions, as in textbooks
+-- of logic synthesis; a match keeps both: Katebi and Markov, DATE 2010).
 use Rattle.std.specs.Prelude.{◌≡◌, ◌≢◌, ℕ, ◌<◌, ◌||◌, ◌&&◌, Bool, true, false, not, if◌then◌else◌}
 use Rattle.std.specs.Prelude.{List, [], ◌∷◌, All, Contains, count_by, slice_index_or}
 use Rattle.std.specs.Bool.{beq}
@@ -71,7 +71,8 @@ one_of holds claims =
 abbrev pub both_of : Bool → InputClaims → List ℕ
 both_of holds claims = if says_both holds claims then claims.up.number ∷ claims.down.number ∷ [] else []
 
--- for one row the facts of one claim an input that holds (or fails), and for another one those of both claims that don't
+-- for one row the facts of one claim an input that holds (or fails), and for another one those of both claims that
+-- don't
 abbrev pub lists_by : Bool → List InputClaims → List InputClaims → Lists
 lists_by holds one other = record { one = flat_map (one_of holds) one; both = flat_map (both_of (not holds)) other }
 

@@ -1,5 +1,5 @@
--- A ban by a vector is a last resort: it is made only where no claim of one input shows one (unateness and support of functions, as in textbooks of logic
--- synthesis; a match keeps both: Katebi and Markov, DATE 2010).
+-- A ban by a vector is a last resort: it is made only where no claim of one input shows one (unateness and support of
+-- functions, as in textbooks of logic synthesis; a match keeps both: Katebi and Markov, DATE 2010).
 use Rattle.std.specs.Prelude.{◌≡◌, ◌≢◌, ℕ, ⊤, Bool, List, [], All, AllPairs, Contains}
 use Rattle.circuits.specs.declared.port.Pair.{Pair}
 use Rattle.circuits.specs.declared.port.PortKind.TheVariants.{Output}
@@ -39,7 +39,8 @@ pub record AreDecided (graphs : Graphs) (facts : List Decided) : Type 0 where
 abbrev pub IsDecided : List Decided → Claim → Type 0
 IsDecided facts claim = (holds : Bool) × Contains facts (decided claim holds)
 
--- For each input of a circuit it was decided whether an output may fall where the input goes up, and where it goes down.
+-- For each input of a circuit it was decided whether an output may fall where the input goes up, and where it goes
+-- down.
 pub record AreInputsDecided (facts : List Decided) (inputs : ℕ) (side : Side) (output : ℕ) : Type 0 where
   pub each : (shape : Shape)
       → HasOneInput shape
@@ -63,7 +64,8 @@ pub record HaveNoFacts (graphs : Graphs) (facts : List Decided) (pairs : List Pa
       → ⊥
   pub no_tally : (kind : Tallied) (have lack : List ℕ) → IsShownBy graphs facts pairs (step.Tally kind have lack) → ⊥
 
--- If the ban is by a vector, then all claims of one input at its two outputs are decided, and none of them shows a ban of its pairs.
+-- If the ban is by a vector, then all claims of one input at its two outputs are decided, and none of them shows a ban
+-- of its pairs.
 pub record IsLastResort (graphs : Graphs) (facts : List Decided) (ban : Ban) : Type 0 where
   pub decided : All (λ pair. pair.kind ≡ Output → AreEndsDecided graphs facts pair) ban.pairs
   pub no_facts : HaveNoFacts graphs facts ban.pairs

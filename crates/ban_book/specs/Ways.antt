@@ -1,5 +1,5 @@
--- The ways of ports, and what closes them (a value of a variable that is ruled out with its reason, as in conflict-directed
--- backjumping: Prosser, Comput. Intell. 1993).
+-- The ways of ports, and what closes them (a value of a variable that is ruled out with its reason, as in
+-- conflict-directed backjumping: Prosser, Comput. Intell. 1993).
 use Rattle.std.specs.Prelude.{◌≡◌, ℕ, ◌+◌, ◌/◌, ◌%◌, ◌<◌, ◌==◌, List, [], ◌∷◌, ◌++◌, length, All, Option, Some}
 use Rattle.std.specs.List.{AllZip, range_with_len}
 use Rattle.circuits.specs.declared.port.Pair.{Pair}
@@ -43,8 +43,8 @@ abbrev pub block_of : Side → PortKind → ℕ → ℕ → Block
 block_of side kind port count =
     record { kind = kind; from = ports_tried side port count; to = ports_tried (other_side side) port count }
 
--- Ports of both circuits, in order, together more than either has, so that one of the first circuit's goes to one of the second's (P. Hall, J. London Math.
--- Soc. 1935; a block of zeros: Frobenius, 1917).
+-- Ports of both circuits, in order, together more than either has, so that one of the first circuit's goes to one of
+-- the second's (P. Hall, J. London Math. Soc. 1935; a block of zeros: Frobenius, 1917).
 pub record IsBlock (count : ℕ) (block : Block) : Type 0 where
   pub from_ascends : Ascend block.from
   pub to_ascends : Ascend block.to

@@ -1,4 +1,4 @@
--- What tests tell.
+-- What tests say.
 use Rattle.std.proofs.Common.{◌≡◌, ℕ, ◌+◌, ◌<◌, ◌&&◌, Bool, true, false, List, ◌∷◌, length, get_or, slice_index_or, drop, All, ap, subst, ◌↔◌, inl, inr, refl, sym, ◌∙◌, arith, add-one, drop-cons}
 use Rattle.std.specs.Bool.{IsTrue}
 use Rattle.std.proofs.lemmas.Bool.{cases_lt}

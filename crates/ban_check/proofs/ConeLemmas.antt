@@ -203,7 +203,7 @@ pub cones_kept : (net : Net) (output : ℕ) (cone : List ℕ) (before after : Li
 cones_kept net output cone before after (Ok done) puts same is old = cones_more net output cone before after puts is old
 cones_kept net output cone before after (Err e) puts same is old = subst (AreCones net) (sym same) old
 
--- what a look-up tells
+-- what a look-up says
 pub got_cone : (entries : List (ℕ × List ℕ)) (output : ℕ) (r : Option (Bor (List ℕ))) → option_copied r ≡ cone_kept entries output → IfSome r (λ cone. cone_kept entries output ≡ Some cone.now)
 got_cone entries output None is = tt
 got_cone entries output (Some cone) is = sym is

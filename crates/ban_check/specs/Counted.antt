@@ -60,8 +60,8 @@ pub record AreTooMany (inputs : ℕ) (given : Given) (each twice : List ℕ) : T
   pub go_over_twice : GoOverTwice 0 (shapes_of given twice)
   pub too_many : inputs < length each + length twice / 2
 
--- the same of a tally's lists: what one output has is told by one fact an input, and what the other lacks by two; or the other
--- way round
+-- the same of a tally's lists: what one output has is shown by one fact an input, and what the other lacks by two; or
+-- the other way round
 abbrev pub HaveTooMany : ℕ → Given → Tallied → List ℕ → List ℕ → Type 0
 HaveTooMany inputs given Support have lack = AreTooMany inputs given have lack
 HaveTooMany inputs given Binate have lack = AreTooMany inputs given lack have

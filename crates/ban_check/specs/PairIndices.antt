@@ -14,7 +14,8 @@ use Rattle.ban_check.specs.declared.missing.Missing.TheVariants as missing
 abbrev pub found_at : List (Port × Pair) → Port → Option Pair
 found_at entries port = lookup (port_eq.it port) entries
 
--- What an index has for a port is one of the pairs, and of this port; and it has each of the first pairs for both of its ports.
+-- What an index has for a port is one of the pairs, and of this port; and it has each of the first pairs for both of
+-- its ports.
 pub record IsIndexOfFirst (pairs : List Pair) (count : ℕ) (entries : List (Port × Pair)) : Type 0 where
   pub each : (port : Port) (pair : Pair) → found_at entries port ≡ Some pair
       → Contains pairs pair × (port_of port.side pair ≡ port)
@@ -34,8 +35,8 @@ IsAllMissing missing.None pair = Unit {0}
 IsAllMissing (missing.One one) pair = one ≡ pair
 IsAllMissing missing.Several pair = ⊥
 
--- Which pairs of an earlier ban are missing among these: all of that ban's are there with one more exactly where that one is all
--- that is missing.
+-- Which pairs of an earlier ban are missing among these: all of that ban's are there with one more exactly where that
+-- one is all that is missing.
 abbrev pub AreMissing : List Pair → List Pair → Missing → Type 0
 AreMissing pairs ban missing = (pair : Pair) → (IsAllMissing missing pair ↔ All (Contains (pair ∷ pairs)) ban)
 

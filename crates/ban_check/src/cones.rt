@@ -9,7 +9,7 @@ use items::Items;
 use net_core::Graph;
 use std::alloc::{AllocError, Global};
 
-/// For this many gates a signal of the circuit there is room in the cones that are kept, and one cone may go beyond.
+/// The cones that are kept have room for this many gates for each signal of the circuit; the last cone may go beyond.
 /// With four bytes each they take four times as much as the gates themselves.
 const LISTED_A_SIGNAL: usize = 8;
 

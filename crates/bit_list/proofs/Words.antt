@@ -41,7 +41,7 @@ written-elsewhere words n word i room others apart =
       | inr other ↦ ap (word_bit (i % 64)) (get_or-set_other words (n / 64) (i / 64) word 0 other)
     ]
 
--- a digit of base two is told by whether it is 1
+-- a digit of base two is given by whether it is 1
 digit : (m n : ℕ) → m < 2 → n < 2 → eqb m 1 ≡ eqb n 1 → m ≡ n
 digit zero zero l k e = refl
 digit zero (suc zero) l k e = absurd (cc e)

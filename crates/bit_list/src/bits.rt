@@ -65,7 +65,7 @@ impl Bits {
     ///
     /// # Errors
     ///
-    /// Only when out of memory: no memory holds 2^64 bits.
+    /// Only when out of memory: 2^64 bits fit no memory.
     pub fn push(&mut self, bit: bool) -> Result<(), AllocError>
         ensures pushed { OnOk result (self.new ≡ self.old ++ bit ∷ []) }
         ensures refused { OnErr result (self.new ≡ self.old) }

@@ -108,7 +108,7 @@ impl<'a> Survey<'a> {
         ensures lines { lines_left lines.new ≡ lines_left lines.old }
     {
         let at = first.at();
-        // Only the cover tells how wide a row should be, so that a row is in one is asked first.
+        // Only the cover says how wide a row should be, so that a row is in one is asked first.
         let Some(cover) = self.cover else {
             return Err(fault_at(at, NetKind::RowOutside));
         };

@@ -168,7 +168,7 @@ fn read_file(alloc: Global, input: &[u8]) -> Result<Named, NetStop>
     let names = number_names(alloc, input, &survey)?;
     // Names have numbers only now, so the covers are read in a second pass: a cover may name what a later one defines.
     let covers = read_covers(alloc, input, &names)?;
-    // The limits come after the names, so a file that is malformed is told so however many ports it has.
+    // The limits come after the names, so a file that is malformed is said to be so however many ports it has.
     check_limits(input, &survey)?;
     name_net(alloc, input, &survey, covers)
 }

@@ -28,9 +28,12 @@ const MOST_COUNTS: usize = 1 << 15;
 /// one seed of six in place of three; with four times as many the minimum and maximum of 16 bits takes a second longer.
 const MOST_ANCHORS: usize = 24;
 
-/// How many of them have one profile, so that three profiles are tried at least. A profile that many vectors have tells
+/// How many of them have one profile, so that three profiles are tried at least. A profile that many vectors have says
 /// little.
 const MOST_ALIKE: usize = 8;
+
+/// The bit that is set in the class of an output, so that no input has the same one.
+const OF_OUTPUT: u64 = 1 << 63;
 
 /// What the inputs of a circuit have on drawn vectors, and a hash of each vector's profile: of how many outputs change
 /// with each input, and how many inputs change each output, by the ports' cells. Corresponding vectors have one
@@ -182,8 +185,7 @@ fn add_outputs(
     hashes: &mut [u64],
 ) -> Result<(), AllocError> {
     for (output, changes) in of_outputs.iter().enumerate() {
-        // an input's class isn't an output's
-        let class = class_of(cells, port_at(output)) | 1 << 63;
+        let class = class_of(cells, port_at(output)) | OF_OUTPUT;
         add_hashes(class, &changes.counts(alloc)?, hashes);
     }
     Ok(())
@@ -304,7 +306,7 @@ fn state_by(
     Ok(state.copy()?.with_inputs(inputs))
 }
 
-// Keys that tell open literals which are 1 on a vector from the others.
+// Keys that distinguish open literals which are 1 on a vector from the others.
 fn anchor_keys(
     alloc: Global,
     cells: &[usize],
@@ -334,7 +336,7 @@ fn anchors(alloc: Global, left: &Profiles, right: &Profiles) -> Result<Vec<Ancho
 /// The vectors of one profile.
 #[derive(Clone, Copy, Drop, PartialEq, Eq, PartialOrd, Ord)]
 struct ProfileClass {
-    /// Whether the first of them was drawn: those that were climbed to tell more.
+    /// Whether the first of them was drawn: those that were climbed to say more.
     is_drawn: bool,
     /// How many vectors of both circuits have it.
     size: usize,

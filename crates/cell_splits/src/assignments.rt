@@ -34,7 +34,7 @@ impl CellAssignment {
     }
 
     /// The inputs of the first circuit whose signs are known have one bit: 0 or 1 on all is what few drawn assignments
-    /// come near to, and what tells the bits of two numbers that are compared.
+    /// come near to, and what distinguishes the bits of two numbers that are compared.
     pub fn constant(
         alloc: Global,
         inputs: &Cells,

@@ -34,7 +34,7 @@ const MOST_STARTS: usize = 3;
 const FIRST_OF_TWO: usize = 160;
 
 /// 256 vectors of a circuit on which many outputs change with many inputs, far more than on drawn ones: there wide
-/// gates tell their inputs. A column for each input. The first `BEST` are the best so far, the others are made of them.
+/// gates show their inputs. A column for each input. The first `BEST` are the best so far, the others are made of them.
 /// The climb starts from drawn vectors and from others, which may be none, blocks of 256 with a column for each input.
 pub fn climbed(
     alloc: Global,

@@ -25,7 +25,7 @@ impl Drop for Keys {
 
 impl Keys {
     /// An output's literal goes by its bits, and by those that it has where an input of a cell is inverted; an input's
-    /// by the bits that the outputs of a cell have where it is inverted. Inputs that are alone in their cells tell
+    /// by the bits that the outputs of a cell have where it is inverted. Inputs that are alone in their cells say
     /// nothing.
     pub fn new(
         alloc: Global,

@@ -12,7 +12,7 @@ use std::alloc::{AllocError, Global};
 use std::cmp::Reverse;
 use word_sim::mix;
 
-/// From how many pairs of inputs on a feature tells nothing: nearly all inputs of circuits with fewer than 64 have it.
+/// From how many pairs of inputs on a feature says nothing: nearly all inputs of circuits with fewer than 64 have it.
 const MOST_PAIRS: usize = 1 << 12;
 
 /// What one feature weighs where one input has it. Where it is four times as frequent it weighs half of that. Of the
@@ -89,7 +89,7 @@ impl Responses {
         Ok(found)
     }
 
-    // Adds the responses to an input. Going by the words of the bits that tell which gates it reaches gained nothing on
+    // Adds the responses to an input. Going by the words of the bits that say which gates it reaches gained nothing on
     // counts and parities of 128 and 256 inputs.
     fn add_input(
         &mut self,

@@ -16,7 +16,7 @@ pub struct Patterns {
 
 impl Patterns {
     /// Drawn vectors, 64 of each kind: even ones, mostly 0, mostly 1, and all but a port or two of one value. Wide
-    /// gates tell their inputs only by the last three. Mostly is seven of eight; three of four or 15 of 16 change none
+    /// gates show their inputs only by the last three. Mostly is seven of eight; three of four or 15 of 16 change none
     /// of 29 pairs.
     pub fn draw(alloc: Global, inputs: &Cells, draws: &mut Draws) -> Result<Patterns, AllocError> {
         let mut patterns = Patterns {

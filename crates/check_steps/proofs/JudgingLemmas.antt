@@ -106,7 +106,7 @@ stopped_by tells graphs old new progress fed halted feeds is = record {
     same : ◌≡◌ {A = Result Outcome ReadStop} (Err halted) (Err stop.ReadFault) → halted ≡ stop.ReadFault
     same e = cc
 
--- a bad line is told
+-- a bad line is named
 pub rejected_by : (tells : Bool) (graphs : Graphs) (old new : ShelfState) (progress : Progress) (fed : Result (Unit {0}) Halt) (line : ℕ) (reason : Why) → FeedsRest tells graphs old new progress fed → fed ≡ Err (halt.Bad line reason) → JudgesRest tells graphs old new (Ok (Rejected line reason))
 rejected_by tells graphs old new progress fed line reason feeds is =
     let bad = feeds.bad line reason is in record {

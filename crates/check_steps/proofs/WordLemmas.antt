@@ -7,9 +7,9 @@ use Rattle.std.proofs.lemmas.Bool.{false≢true}
 use Rattle.std.proofs.lemmas.Bool.Decides.{eqb_tells}
 use Rattle.std.proofs.lemmas.Slice.{between_to_end}
 use Rattle.std.proofs.lemmas.Slice.Eq.{bytes_eq-Decides}
-use Rattle.check_steps.specs.Asks.{sought_by, wanted_by, wished_by}
+use Rattle.check_steps.specs.Asks.{match_request, make_request, restore_request}
 use Rattle.check_steps.specs.declared.words.Match.{Match as MatchWords}
-use Rattle.check_steps.specs.Words.{AreBudgetAndSeed, AreFourNames, AreNames, AreTwoNames, AsksInfo, AsksMake, AsksMatch, AsksRestore, HaveInfoForm, IsNumber, Wanted}
+use Rattle.check_steps.specs.Words.{AreBudgetAndSeed, AreFourNames, AreNames, AreTwoNames, AsksInfo, AsksMake, AsksMatch, AsksRestore, HaveInfoForm, IsNumber, MakeRequest}
 use Rattle.check_steps.specs.declared.words.Info.{Info as InfoWords}
 use Rattle.check_steps.specs.declared.words.Make.{Make as MakeWords}
 use Rattle.check_steps.specs.declared.words.Restore.{Restore as RestoreWords}
@@ -52,7 +52,7 @@ pub asks_match : (words : List (List ℕ)) (first second account : List ℕ) (nu
     → IfSome result (λ asked. (asked.first.now ≡ first) × (asked.second.now ≡ second) × (asked.account.now ≡ account))
     → IfSome result (λ asked. AreNames first second account)
     → IfSome result (λ asked. AreBudgetAndSeed numbers asked.budget asked.seed)
-    → IfSome result (λ asked. AsksMatch words (sought_by asked))
+    → IfSome result (λ asked. AsksMatch words (match_request asked))
 asks_match words first second account numbers None form are names_are numbers_are = tt
 asks_match words first second account numbers (Some asked) form are names_are numbers_are = record {
   numbers = numbers;
@@ -95,7 +95,7 @@ pub asks_make : (words : List (List ℕ)) (word first second : List ℕ) (number
     → IsNumber word number
     → IfSome result (λ made. (made.number ≡ number) × (made.first.now ≡ first) × (made.second.now ≡ second))
     → IfSome result (λ made. AreTwoNames first second)
-    → IfSome result (λ made. AsksMake words (wanted_by made))
+    → IfSome result (λ made. AsksMake words (make_request made))
 asks_make words word first second number None form is are names = tt
 asks_make words word first second number (Some made) form is are names = record {
   word = word;
@@ -105,7 +105,7 @@ asks_make words word first second number (Some made) form is are names = record 
 }
 
 -- where the second word is no number, no pair is asked for
-pub not_make : (words : List (List ℕ)) (word : List ℕ) → get_or words 1 [] ≡ word → ((value : ℕ) → IsNumber word value → ⊥) → (wanted : Wanted) → AsksMake words wanted → ⊥
+pub not_make : (words : List (List ℕ)) (word : List ℕ) → get_or words 1 [] ≡ word → ((value : ℕ) → IsNumber word value → ⊥) → (wanted : MakeRequest) → AsksMake words wanted → ⊥
 not_make words word is none wanted asks =
     let same : asks.word ≡ word = sym (ap (λ (words : List (List ℕ)). get_or words 1 []) asks.form) ∙ is in
     none wanted.number (subst (λ w. IsNumber w wanted.number) same asks.number_is)
@@ -141,7 +141,7 @@ pub asks_restore : (words : List (List ℕ)) (first second account restored : Li
     → words ≡ codes "restore" ∷ first ∷ second ∷ account ∷ restored ∷ []
     → IfSome result (λ asked. (asked.first.now ≡ first) × (asked.second.now ≡ second) × (asked.account.now ≡ account) × (asked.restored.now ≡ restored))
     → IfSome result (λ asked. AreFourNames first second account restored)
-    → IfSome result (λ asked. AsksRestore words (wished_by asked))
+    → IfSome result (λ asked. AsksRestore words (restore_request asked))
 asks_restore words first second account restored None form are names_are = tt
 asks_restore words first second account restored (Some asked) form are names_are = record {
   form = form ∙ ap (λ name. codes "restore" ∷ name ∷ second ∷ account ∷ restored ∷ []) (sym are.0) ∙ ap (λ name. codes "restore" ∷ asked.first.now ∷ name ∷ account ∷ restored ∷ []) (sym are.1) ∙ ap (λ name. codes "restore" ∷ asked.first.now ∷ asked.second.now ∷ name ∷ restored ∷ []) (sym are.2) ∙ ap (λ name. codes "restore" ∷ asked.first.now ∷ asked.second.now ∷ asked.account.now ∷ name ∷ []) (sym are.3);

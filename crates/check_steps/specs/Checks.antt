@@ -21,8 +21,8 @@ use Rattle.check_steps.specs.declared.outcome.Outcome.TheVariants.{AcceptedMatch
 abbrev pub AskFor : List (List ℕ) → Check → Type 0
 AskFor words check = AsksCheck words check.first.now check.second.now check.account.now
 
--- What the outcome of a check says of the words and the files. No other outcome ends one; a fault of the outside and running out
--- of memory say nothing of them.
+-- What the outcome of a check says of the words and the files. No other outcome ends one; a fault of the outside and
+-- running out of memory say nothing of them.
 abbrev pub IsOfCheck : (List ℕ → Option (List ℕ)) → List (List ℕ) → Outcome → Type 0
 IsOfCheck held words (AcceptedMatch matching) = IsAccepted held words (verdict.Match matching)
 IsOfCheck held words AcceptedRefusal = IsAccepted held words verdict.None
@@ -34,8 +34,8 @@ IsOfCheck held words ReadFault = Unit {0}
 IsOfCheck held words Memory = Unit {0}
 IsOfCheck held words other = ⊥
 
--- Whoever wrote the account, a matching that is accepted is a match of the files' netlists, and where a refusal is accepted
--- they have no match.
+-- Whoever wrote the account, a matching that is accepted is a match of the files' netlists, and where a refusal is
+-- accepted they have no match.
 pub record IsSound (held : List ℕ → Option (List ℕ)) (words : List (List ℕ)) (outcome : Outcome) : Type 0 where
   pub matches : (matching : Matching) → outcome ≡ AcceptedMatch matching → IsMatchOfFiles held words matching
   pub refuses : outcome ≡ AcceptedRefusal → LacksMatch held words

@@ -8,8 +8,8 @@ use Rattle.check_steps.specs.declared.outcome.Which.TheVariants.{First, Second, 
 use Rattle.check_steps.specs.declared.outcome.Outcome.{Outcome}
 use Rattle.check_steps.specs.declared.outcome.Outcome.TheVariants.{Absent, TooLarge, Malformed, ReadFault, Memory}
 
--- What a file that is no netlist ends the run with, where it stands under a name: `file` says which one it is. Faults of the outside and running out of memory
--- say nothing of it.
+-- What a file that is no netlist ends the run with, where it stands under a name: `file` says which one it is. Faults
+-- of the outside and running out of memory say nothing of it.
 abbrev pub EndsAt : Which → Option (List ℕ) → Outcome → Type 0
 EndsAt file content (Absent which) = (which ≡ file) × (content ≡ None)
 EndsAt file content (TooLarge which) = (which ≡ file) × HasTooMuch content

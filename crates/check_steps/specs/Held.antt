@@ -33,8 +33,8 @@ pub record HasTooMuch (content : Option (List ℕ)) : Type 0 where
   pub there : content ≡ Some bytes
   pub long : most_bytes < length bytes
 
--- What stands under a name is a netlist, and this is the graph by which accounts number its gates: its definitions by level, then by place, each expanded to
--- gates.
+-- What stands under a name is a netlist, and this is the graph by which accounts number its gates: its definitions by
+-- level, then by place, each expanded to gates.
 pub record HasGraph (content : Option (List ℕ)) (graph : Net) : Type 0 where
   pub netlist : Netlist
   pub holds : HasNetlist content netlist

@@ -41,7 +41,8 @@ pub record FeedsNext (tells : Bool) (graphs : Graphs) (bytes : List ℕ) (old ne
   pub last : NoCallFollows old new
   pub failed : result ≡ Err (halt.Stop stop.ReadFault) → Rose old.faults new.faults
 
--- Checking all unread bytes of an account, of which none was checked yet: all its whole lines are valid, or a line is bad.
+-- Checking all unread bytes of an account, of which none was checked yet: all its whole lines are valid, or a line is
+-- bad.
 pub record FeedsRest (tells : Bool) (graphs : Graphs) (old new : ShelfState) (progress : Progress)
     (result : Result (Unit {0}) Halt) : Type 0 where
   pub files : (n : List ℕ) → new.held n ≡ old.held n

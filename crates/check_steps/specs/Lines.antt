@@ -19,8 +19,8 @@ file_word First = codes "first"
 file_word Second = codes "second"
 file_word Account = codes "account"
 
--- the line of a pair that was tried: its number, that it is matched and the account accepted, and its numbers of inputs,
--- outputs and gates
+-- the line of a pair that was tried: its number, that it is matched and the account accepted, and its numbers of
+-- inputs, outputs and gates
 abbrev pub tried_line : ℕ → List ℕ
 tried_line number = codes "trial " ++ decimal number ++ codes " matched accepted 64 32 2000" ++ 10 ∷ []
 

@@ -19,9 +19,9 @@ pub record IsNumber (word : List ℕ) (value : ℕ) : Type 0 where
   pub short : length word ≤ 20
   pub fits : value < 2 ^ 64
 
--- What is sought: a match of two netlists, of which an account is written, with n learned clauses at most, and by vectors
--- that are drawn from a seed.
-pub record Sought : Type 0 where
+-- What `match` is asked for: a match of two netlists, of which an account is written, with so many learned clauses at
+-- most, and by vectors that are drawn from a seed.
+pub record MatchRequest : Type 0 where
   pub first : List ℕ
   pub second : List ℕ
   pub account : List ℕ
@@ -50,7 +50,8 @@ pub record AreNames (first second account : List ℕ) : Type 0 where
   pub not_first : account ≢ first
   pub not_second : account ≢ second
 
--- Names of two netlists, of an account, and of a file that is written: none is empty, and the last is none of the others.
+-- Names of two netlists, of an account, and of a file that is written: none is empty, and the last is none of the
+-- others.
 pub record AreFourNames (first second account restored : List ℕ) : Type 0 where
   pub first_named : first ≢ []
   pub second_named : second ≢ []
@@ -60,21 +61,21 @@ pub record AreFourNames (first second account restored : List ℕ) : Type 0 wher
   pub not_second : restored ≢ second
   pub not_account : restored ≢ account
 
--- What is restored: the second of two netlists with the first one's ports, by an account of a match of them, in a file that is
--- written.
-pub record Wished : Type 0 where
+-- What `restore` is asked for: the second of two netlists with the first one's ports, by an account of a match of them,
+-- in a file that is written.
+pub record RestoreRequest : Type 0 where
   pub first : List ℕ
   pub second : List ℕ
   pub account : List ℕ
   pub restored : List ℕ
 
 -- `restore FIRST SECOND ACCOUNT NEW`
-pub record AsksRestore (words : List (List ℕ)) (wished : Wished) : Type 0 where
+pub record AsksRestore (words : List (List ℕ)) (wished : RestoreRequest) : Type 0 where
   pub form : words ≡ codes "restore" ∷ wished.first ∷ wished.second ∷ wished.account ∷ wished.restored ∷ []
   pub names : AreFourNames wished.first wished.second wished.account wished.restored
 
 -- `match FIRST SECOND ACCOUNT [BUDGET [SEED]]`
-pub record AsksMatch (words : List (List ℕ)) (sought : Sought) : Type 0 where
+pub record AsksMatch (words : List (List ℕ)) (sought : MatchRequest) : Type 0 where
   pub numbers : List (List ℕ)
   pub form : words ≡ codes "match" ∷ sought.first ∷ sought.second ∷ sought.account ∷ numbers
   pub names : AreNames sought.first sought.second sought.account
@@ -97,14 +98,14 @@ pub record AreTwoNames (first second : List ℕ) : Type 0 where
   pub second_named : second ≢ []
   pub apart : second ≢ first
 
--- What is made: the pair of a number, in two files.
-pub record Wanted : Type 0 where
+-- What `make` is asked for: the pair of a number, in two files.
+pub record MakeRequest : Type 0 where
   pub number : ℕ
   pub first : List ℕ
   pub second : List ℕ
 
 -- `make NUMBER FIRST SECOND`
-pub record AsksMake (words : List (List ℕ)) (wanted : Wanted) : Type 0 where
+pub record AsksMake (words : List (List ℕ)) (wanted : MakeRequest) : Type 0 where
   pub word : List ℕ
   pub form : words ≡ codes "make" ∷ word ∷ wanted.first ∷ wanted.second ∷ []
   pub number_is : IsNumber word wanted.number
@@ -118,7 +119,7 @@ pub record AsksTrial (words : List (List ℕ)) (number : ℕ) : Type 0 where
 
 -- the words ask for a pair
 abbrev pub AskForPair : List (List ℕ) → Type 0
-AskForPair words = (wanted : Wanted) × AsksMake words wanted
+AskForPair words = (wanted : MakeRequest) × AsksMake words wanted
 
 -- the words name two netlists and an account, for a check or for a match
 abbrev pub NameThree : List (List ℕ) → List ℕ → List ℕ → List ℕ → Type 0
@@ -132,13 +133,13 @@ abbrev pub ReadFiles : List (List ℕ) → Type 0
 ReadFiles words =
     ((first second account : List ℕ) × NameThree words first second account)
     ⊎ ((file : List ℕ) × (budget : ℕ) × AsksInfo words file budget)
-    ⊎ ((wished : Wished) × AsksRestore words wished)
+    ⊎ ((wished : RestoreRequest) × AsksRestore words wished)
 
 -- words of no form that is known
 pub record AskNothing (words : List (List ℕ)) : Type 0 where
   pub no_check : (first second account : List ℕ) → AsksCheck words first second account → ⊥
-  pub no_restore : (wished : Wished) → AsksRestore words wished → ⊥
-  pub no_match : (sought : Sought) → AsksMatch words sought → ⊥
+  pub no_restore : (wished : RestoreRequest) → AsksRestore words wished → ⊥
+  pub no_match : (sought : MatchRequest) → AsksMatch words sought → ⊥
   pub no_info : (file : List ℕ) (budget : ℕ) → AsksInfo words file budget → ⊥
-  pub no_make : (wanted : Wanted) → AsksMake words wanted → ⊥
+  pub no_make : (wanted : MakeRequest) → AsksMake words wanted → ⊥
   pub no_trial : (number : ℕ) → AsksTrial words number → ⊥

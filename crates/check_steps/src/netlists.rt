@@ -66,7 +66,7 @@ fn parse_netlist(alloc: Global, which: Which, bytes: &[u8]) -> Result<Named, Out
     }
 }
 
-/// Reads a file in the format that its first four bytes tell: AIGER where they are `aag ` or `aig `, else BLIF.
+/// Reads a file in the format that its first four bytes say: AIGER where they are `aag ` or `aig `, else BLIF.
 fn read_circuit(alloc: Global, bytes: &[u8]) -> Result<Named, NetStop>
     requires { length bytes.now ≤ most_bytes }
     ensures netlist { IfOk result

@@ -1,10 +1,10 @@
 //! The words of the command line.
 
 ghost use Rattle.std.specs.Prelude.{◌≡◌, ◌≢◌, ◌⊎◌, ℕ, [], ◌↔◌, IsTrue, List, map, IfSome, IfNone, string_bytes};
-ghost use Rattle.check_steps.specs.Asks.{Ask, sought_by, wanted_by, wished_by};
+ghost use Rattle.check_steps.specs.Asks.{Ask, match_request, make_request, restore_request};
 ghost use Rattle.check_steps.specs.Words.{AreBudgetAndSeed, AreFourNames, AreNames, AreTwoNames, AskNothing, AsksCheck};
 ghost use Rattle.check_steps.specs.Words.{AsksInfo, AsksMake, AsksMatch, AsksRestore, AsksTrial, IsNumber};
-ghost use Rattle.check_steps.specs.Words.{Sought, Wanted, Wished};
+ghost use Rattle.check_steps.specs.Words.{MatchRequest, MakeRequest, RestoreRequest};
 
 use text_core::{Cursor, decimal};
 
@@ -150,9 +150,9 @@ fn check_asked(words: &[String]) -> Option<Check<'_>>
 
 /// What the words ask to restore: `restore`, and four names that aren't empty, the last of which is none of the others.
 fn restore_asked(words: &[String]) -> Option<Restore<'_>>
-    ensures asked { IfSome result (λ asked. AsksRestore (map string_bytes words.now) (wished_by asked)) }
+    ensures asked { IfSome result (λ asked. AsksRestore (map string_bytes words.now) (restore_request asked)) }
     ensures not_asked { IfNone result
-        ((wished : Wished) → AsksRestore (map string_bytes words.now) wished → ⊥) }
+        ((wished : RestoreRequest) → AsksRestore (map string_bytes words.now) wished → ⊥) }
 {
     match words {
         [command, first, second, account, restored] if command.as_str() == "restore" => restore_of(
@@ -199,9 +199,9 @@ fn are_four_names(first: &str, second: &str, account: &str, restored: &str) -> b
 
 /// The match that the words ask for: `match`, three names, and perhaps a budget, and after it perhaps a seed.
 fn match_asked(words: &[String]) -> Option<Match<'_>>
-    ensures asked { IfSome result (λ asked. AsksMatch (map string_bytes words.now) (sought_by asked)) }
+    ensures asked { IfSome result (λ asked. AsksMatch (map string_bytes words.now) (match_request asked)) }
     ensures not_asked { IfNone result
-        ((sought : Sought) → AsksMatch (map string_bytes words.now) sought → ⊥) }
+        ((sought : MatchRequest) → AsksMatch (map string_bytes words.now) sought → ⊥) }
 {
     match words {
         [command, first, second, account, numbers @ ..] if command.as_str() == "match" => {
@@ -294,8 +294,8 @@ fn info_of(file: &str, budget: u64) -> Option<Info<'_>>
 
 /// The pair that the words ask for: `make`, a number, and two names that aren't empty and differ.
 fn make_asked(words: &[String]) -> Option<Make<'_>>
-    ensures asked { IfSome result (λ made. AsksMake (map string_bytes words.now) (wanted_by made)) }
-    ensures not_asked { IfNone result ((wanted : Wanted) → AsksMake (map string_bytes words.now) wanted → ⊥) }
+    ensures asked { IfSome result (λ made. AsksMake (map string_bytes words.now) (make_request made)) }
+    ensures not_asked { IfNone result ((wanted : MakeRequest) → AsksMake (map string_bytes words.now) wanted → ⊥) }
 {
     match words {
         [command, number, first, second] if command.as_str() == "make" => {

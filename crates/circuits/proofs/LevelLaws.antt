@@ -102,7 +102,7 @@ no_level-cycle circuit j k s t way cycle =
     on : (u : ℕ) → ((n : ℕ) × Reaches circuit n u t) → (w : ℕ) × Names circuit u w × ((m : ℕ) × Reaches circuit m w t)
     on u way = step u way.0 way.1
 
--- whether all of a list has P, where P can be told of each
+-- whether all of a list has P, where P can be decided of each
 pub All-told : (P : ℕ → Type 0) → ((s : ℕ) → P s ⊎ (P s → ⊥)) → (xs : List ℕ) → All P xs ⊎ (All P xs → ⊥)
 All-told P tell [] = inl (All-nil P)
 All-told P tell (x ∷ xs) = both (tell x) (All-told P tell xs)

@@ -14,8 +14,8 @@ gate_def gate = And gate.a gate.b
 abbrev pub as_circuit : Net → Circuit
 as_circuit net = record { inputs = net.inputs; defs = map gate_def net.gates; outputs = net.outputs }
 
--- It has the same numbers of inputs and outputs, and on each vector gives the bits that the circuit's outputs have under the
--- valuations that meet all its definitions at once.
+-- It has the same numbers of inputs and outputs, and on each vector gives the bits that the circuit's outputs have
+-- under the valuations that meet all its definitions at once.
 pub record Computes (net : Net) (circuit : Circuit) : Type 0 where
   pub inputs : net.inputs ≡ circuit.inputs
   pub outputs : length net.outputs ≡ length circuit.outputs

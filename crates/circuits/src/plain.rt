@@ -327,7 +327,7 @@ fn is_part_of_match(
 fn entries(alloc: Global, n: u32, code: u32) -> Result<Vec<(u32, bool)>, AllocError>
     ensures { IfOk result (λ entries. entries.items ≡ entries_of n code) }
 {
-    // A digit in base sixteen holds a place below 8 and a sign, so seven of them fit the code's 32 bits.
+    // A digit in base sixteen is a place below 8 and a sign, so seven of them fit the code's 32 bits.
     let mut entries = Vec::new(alloc);
     let mut rest = code;
     for i in 0..n {

@@ -80,7 +80,7 @@ pub second_output : (left right : List (List SatLit)) (a b : SatLit) (id : ℕ) 
 second_output left right a b id some after here =
     sym (after_left left right a b id some after ∙ (ap (clause_at (right ++ (a ∷ []) ∷ (b ∷ []) ∷ [])) here ∙ get_or-append-add right ((a ∷ []) ∷ (b ∷ []) ∷ []) 1 []))
 
--- the same, where it is told how far after the first clause a number is
+-- the same, where it is given how far after the first clause a number is
 pub at_left : (left right : List (List SatLit)) (a b : SatLit) (id k : ℕ) → id ≡ 1 + k → k < length left → clause_at (clauses_by left right a b) id ≡ clause_at left k
 at_left left right a b id k is below =
     let at : id - 1 ≡ k = omega (arith, is) in

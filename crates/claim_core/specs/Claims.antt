@@ -1,5 +1,5 @@
--- Claims: that an output never falls where one or two inputs change (unateness and symmetry of functions, as in textbooks of
--- logic synthesis).
+-- Claims: that an output never falls where one or two inputs change (unateness and symmetry of functions, as in
+-- textbooks of logic synthesis).
 use Rattle.std.specs.Prelude.{◌≡◌, ℕ, ◌<◌, Bool, true, false, not, List, length, slice_set}
 use Rattle.circuits.specs.Literals.{bit}
 use Rattle.circuits.specs.Netlists.{Net, function_of}

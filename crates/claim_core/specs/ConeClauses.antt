@@ -23,8 +23,8 @@ left_gates graphs query = length (circuit_of graphs query.left).gates
 abbrev pub right_gates : Graphs → Query → ℕ
 right_gates graphs query = length (circuit_of graphs query.right).gates
 
--- The number of a clause that belongs to the cones: that of variable 0; those of a left gate that the left output reaches;
--- those of a right gate that the right output reaches; those of the two outputs.
+-- The number of a clause that belongs to the cones: that of variable 0; those of a left gate that the left output
+-- reaches; those of a right gate that the right output reaches; those of the two outputs.
 abbrev pub IsConeId : Graphs → Query → ℕ → Type 0
 IsConeId graphs query id =
     (id ≡ 0)

@@ -91,8 +91,8 @@ abbrev pub shared_from : ℕ → ℕ → List Bool → List ℕ
 shared_from first own [] = []
 shared_from first own (reaches ∷ more) = (if reaches then own else first) ∷ shared_from (first + 1) (own + 1) more
 
--- Gate t of the right circuit has a variable of its own, after the left circuit's gates. Where both cones are of one circuit,
--- and it reaches no input whose feeds differ, it has the left gate's.
+-- Gate t of the right circuit has a variable of its own, after the left circuit's gates. Where both cones are of one
+-- circuit, and it reaches no input whose feeds differ, it has the left gate's.
 abbrev pub right_variables : Graphs → Query → List ℕ
 right_variables graphs query =
     let first = bits_in graphs query + 1 in

@@ -56,7 +56,8 @@ one_input i true = Down i
 abbrev pub two_inputs : ℕ → Bool → ℕ → Bool → Shape
 two_inputs i a j b = if nat_lt i j then Swap i j a b else Swap j i b a
 
--- the value of an input goes with the input's sign; values are exchanged with the opposite ones where the output is inverted
+-- the value of an input goes with the input's sign; values are exchanged with the opposite ones where the output is
+-- inverted
 abbrev pub moved_value : Bool → Pair → Bool → Bool
 moved_value exchanged input a = differ (differ a input.flip) exchanged
 

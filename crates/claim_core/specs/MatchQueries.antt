@@ -11,7 +11,8 @@ use Rattle.claim_core.specs.declared.query.Query.{Query}
 use Rattle.claim_core.specs.Queries.{IsWired}
 pub use Rattle.claim_core.specs.Feeds.{straight}
 
--- what a place gets by the entries from number i on: the bit of the input that goes there, inverted where the entry says so
+-- what a place gets by the entries from number i on: the bit of the input that goes there, inverted where the entry
+-- says so
 abbrev pub wire_to : ℕ → List (ℕ × Bool) → ℕ → Feed
 wire_to i [] place = Fixed false
 wire_to i (entry ∷ entries) place = if entry.0 == place then Wire i entry.1 else wire_to (i + 1) entries place
@@ -20,8 +21,8 @@ wire_to i (entry ∷ entries) place = if entry.0 == place then Wire i entry.1 el
 abbrev pub moved_feed : List (ℕ × Bool) → List Feed
 moved_feed entries = map (wire_to 0 entries) (range_with_len 0 (length entries))
 
--- Whether output k of the first circuit, of n inputs, can have this value while its partner hasn't the value that belongs to
--- it.
+-- Whether output k of the first circuit, of n inputs, can have this value while its partner hasn't the value that
+-- belongs to it.
 abbrev pub match_query : ℕ → Matching → ℕ → Bool → Query
 match_query n matching k value = record {
   left = record { side = First; output = k; feed = straight n };

@@ -1,5 +1,5 @@
--- The rows of a report: of each output the inputs of its support, with their unateness, and the pairs of these inputs that are
--- symmetric or skew symmetric (this project's own form).
+-- The rows of a report: of each output the inputs of its support, with their unateness, and the pairs of these inputs
+-- that are symmetric or skew symmetric (this project's own form).
 use Rattle.std.specs.Prelude.{◌≡◌, ◌⊎◌, ℕ, ◌<◌, ◌≤◌, Bool, List, length, All, AllPairs, Any}
 use Rattle.circuits.specs.Circuits.{Circuit, FitsCircuit, circuit_outputs}
 use Rattle.circuits.specs.Literals.{EachAt, bit}

@@ -1,4 +1,4 @@
--- The rows of all outputs, and what they tell.
+-- The rows of all outputs, and what they say.
 use Rattle.std.proofs.Common.{◌≡◌, ℕ, ◌+◌, ◌<◌, List, [], ◌∷◌, ◌++◌, length, map, get_or, refl, sym, subst, ◌∙◌, arith}
 use Rattle.std.proofs.lemmas.List.{length_push}
 use Rattle.circuits.proofs.EachLemmas.{each_push}

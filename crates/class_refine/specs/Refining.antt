@@ -26,7 +26,8 @@ pub record OnlyDeletes (before after : Domained) : Type 0 where
   pub assigned : assigned_in after.entries ≡ assigned_in before.entries
   pub less : left after ≤ left before
 
--- Bans came after those that were kept, none by a vector. Where those before were valid in view of these facts, all are.
+-- Bans came after those that were kept, none by a vector. Where those before were valid in view of these facts, all
+-- are.
 pub record AddsShown (graphs : Graphs) (facts : List Decided) (before after : List Ban) : Type 0 where
   pub added : List Ban
   pub more : after ≡ before ++ added

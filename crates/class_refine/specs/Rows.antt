@@ -1,4 +1,5 @@
--- The decided claims of all outputs of two circuits (unateness and support of functions, as in textbooks of logic synthesis).
+-- The decided claims of all outputs of two circuits (unateness and support of functions, as in textbooks of logic
+-- synthesis).
 use Rattle.std.specs.Prelude.{◌≡◌, ℕ, List, ◌∷◌, [], ◌++◌, length, map, All, Contains}
 use Rattle.circuits.specs.Literals.{EachAt}
 use Rattle.circuits.specs.declared.port.Pair.{Pair}
@@ -37,7 +38,7 @@ pub record AreAllRows (graphs : Graphs) (facts : List Decided) (rows : Rows) : T
 abbrev pub decided : Grounds → List Decided
 decided grounds = map decided_by grounds.facts.now
 
--- The facts are of the two circuits, and the rows tell of them.
+-- The facts are of the two circuits, and the rows are of them.
 pub record AreGrounds (grounds : Grounds) : Type 0 where
   pub lawful : AreFacts grounds.graphs.now grounds.facts.now
   pub rows_are : AreAllRows grounds.graphs.now (decided grounds) grounds.rows.now

@@ -1,5 +1,5 @@
--- What refining comes to: no ban and no fact excludes any pair that remains (arc consistency: Mackworth, Artif. Intell. 1977; functional properties of ports:
--- Katebi and Markov, DATE 2010).
+-- What refining comes to: no ban and no fact excludes any pair that remains (arc consistency: Mackworth, Artif. Intell.
+-- 1977; functional properties of ports: Katebi and Markov, DATE 2010).
 use Rattle.std.specs.Prelude.{ℕ, ◌<◌, ⊤, List, [], ◌∷◌, length, All}
 use Rattle.circuits.specs.declared.port.Pair.{Pair}
 use Rattle.circuits.specs.declared.port.PortKind.{PortKind}
@@ -64,8 +64,8 @@ pub record HasLeft (domains : Domained) (side : Side) (kind : PortKind) (port : 
   pub of_port : IsOf side kind port pair
   pub remains : Remains domains pair
 
--- The claims of one input are decided, and nothing excludes the assigned pairs. Each pair that isn't deleted clashes with no assigned one, and nothing excludes
--- it beside them. Each port has one.
+-- The claims of one input are decided, and nothing excludes the assigned pairs. Each pair that isn't deleted clashes
+-- with no assigned one, and nothing excludes it beside them. Each port has one.
 pub record IsStable (graphs : Graphs) (facts : List Decided) (bans : List Ban) (domains : Domained) : Type 0 where
   pub decided : AreOutputsDecided graphs facts
   pub alone : AreClean graphs facts bans (assigned_in domains.entries)

@@ -46,7 +46,8 @@ SaysOf facts claim holds k =
 abbrev pub number_in : List (Claim × ℕ) → Claim → Option ℕ
 number_in entries claim = lookup (claim_eq.it claim) entries
 
--- What an index has for a claim is the number of a fact of it, and it has one for each of the first facts that is of two inputs.
+-- What an index has for a claim is the number of a fact of it, and it has one for each of the first facts that is of
+-- two inputs.
 pub record IsIndexOfFirst (facts : List Decided) (count : ℕ) (entries : List (Claim × ℕ)) : Type 0 where
   pub each : (claim : Claim) → IfSome (number_in entries claim) (λ number.
       (number < length facts) × ((fact_at (given_of facts []) number).claim ≡ claim))

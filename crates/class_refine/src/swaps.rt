@@ -32,7 +32,7 @@ pub(crate) struct Exchange {
 }
 
 /// The ban of the pairs of an output and two inputs where a claim of both inputs holds and its image under the pairs
-/// fails, or the other way round. All facts are gone over, for each open way anew. That is cheap enough: the search
+/// fails, or the other way round. All facts are gone over, for each open way again. That is cheap enough: the search
 /// refines whole matchings alone, which have no open way, so each fact is looked at once.
 pub(crate) fn swap_ban(
     alloc: Global,

@@ -3,7 +3,7 @@ ghost use Rattle.cnf_core.specs.Clauses.{Formula, clause_at, literals_of, variab
 
 use crate::clause::Clause3;
 
-/// A formula in conjunctive normal form that tells its clauses by their numbers. It tells the same ones at each call.
+/// A formula in conjunctive normal form that gives its clauses by their numbers. It gives the same ones at each call.
 pub trait Base {
     /// The formula: how many variables there are, and the clauses.
     ghost formula: { Self → Formula };

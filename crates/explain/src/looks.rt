@@ -13,8 +13,8 @@ pub(crate) enum FileLook {
     Liberty,
 }
 
-/// The first bytes that tell a file by themselves: the magic numbers of compressed files, and the byte order marks of
-/// UTF-8 and UTF-16.
+/// First bytes that show by themselves what a file is: the magic numbers of compressed files, and the byte order marks
+/// of UTF-8 and UTF-16.
 static MARKS: [(&[u8], FileLook); 7] = [
     (b"\x1f\x8b", FileLook::Compressed("gzip")),
     (b"\xfd7zXZ\x00", FileLook::Compressed("xz")),
@@ -36,7 +36,7 @@ static WORDS: [(&[u8], FileLook); 6] = [
 ];
 
 impl FileLook {
-    /// What a file looks like, where its first bytes tell it.
+    /// What a file looks like, where its first bytes show it.
     pub(crate) fn of(bytes: &[u8]) -> Option<FileLook> {
         if bytes.is_empty() {
             return Some(FileLook::Empty);

@@ -11,8 +11,8 @@ use Rattle.ban_book.specs.Vectors.{AreLastResorts}
 pub use Rattle.oracle_core.specs.Oracles.{HasServed}
 use Rattle.oracle_core.specs.Oracles.{Known, Suits, Serves}
 
--- What is known is of these circuits. Each ban is valid in view of the facts, and of the bans before it, and is by a vector
--- only as a last resort.
+-- What is known is of these circuits. Each ban is valid in view of the facts, and of the bans before it, and is by a
+-- vector only as a last resort.
 pub record AreValid (graphs : Graphs) (known : Known) (bans : List Ban) : Type 0 where
   pub graphs_are : graphs ≡ known.graphs
   pub each : AreValidBans graphs (map decided_by known.facts) bans

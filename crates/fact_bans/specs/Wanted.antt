@@ -20,8 +20,8 @@ abbrev pub ListsWanted : Known → Wanted → ℕ → List ℕ → Type 0
 ListsWanted known wanted below numbers =
     ListsOf (shaped_by wanted.both) (map decided_by known.facts) wanted.holds wanted.side wanted.output below numbers
 
--- Facts of an input may be listed: the oracle may be asked, there is such an output and such an input, and the facts of the inputs
--- before it are listed.
+-- Facts of an input may be listed: the oracle may be asked, there is such an output and such an input, and the facts of
+-- the inputs before it are listed.
 pub record MayList (known : Known) (ledger : Ledgered) (wanted : Wanted) (input : ℕ) (numbers : List ℕ) : Type 0 where
   pub lawful : AreFacts known.graphs known.facts
   pub suits : Suits known ledger

@@ -72,7 +72,8 @@ fn keys(
 }
 
 // Of the keys that one circuit has more often than the other, the one with the fewest ways to pair its outputs with
-// those of other keys. It counts anew for each output, which is cheap enough: it is done once a try, and tries are few.
+// those of other keys. It counts again for each output, which is cheap enough: it is done once a try, and tries are
+// few.
 fn rarest(first: &[Key], second: &[Key]) -> Option<Key> {
     let mut found = None;
     let mut fewest = MOST_WAYS + 1;

@@ -23,11 +23,12 @@ use items::Items;
 use oracle_core::Oracle;
 use std::alloc::{AllocError, Global};
 
-/// Where one of two circuits with as many ports has more outputs that depend on this many inputs and are binate in this
-/// many: makes a ban without pairs, and answers its number. None where none was shown.
+/// Counts, of each output of two circuits with as many ports, the inputs that it depends on and those that it is binate
+/// in. Where the one circuit has more outputs with the same two counts than the other, makes a ban without pairs, and
+/// answers its number. None where none was shown.
 ///
-/// Outputs of the one circuit that are alike in this would have to go to as many of the other one, so that one of them
-/// goes to an output that isn't. Each of these ways has a tally, and one cover refers to them.
+/// A match takes an output to one with the same two counts, and of these the other circuit has too few: one output
+/// would have to go to one with other counts. Each of these ways has a tally, and one cover refers to them.
 ///
 /// It is tried n times at most. A try fails only where a claim is decided otherwise than vectors let expect, which is
 /// noted, so that the next one goes by other counts.

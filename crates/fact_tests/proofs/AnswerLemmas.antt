@@ -42,7 +42,7 @@ module _ (eq : Query → Query → Bool) (decides : (x y : Query) → Decides (e
       let differs : eq k e.0 ≡ false = false_from_ne_true (eq k e.0) (λ here. apart 0 (kept_of e) (omega arith) (sym ((decides k e.0).0 here))) in
       ap (λ b. cond b ((e.0, a) ∷ es) (e ∷ insert_entry eq es k a)) differs ∙ ap (λ l. e ∷ l) (added es k a (λ i d below. apart (suc i) d (omega (arith, below))))
 
-  -- what a look-up tells of the queries that were answered
+  -- what a look-up says of the queries that were answered
   pub got : (es : List (Query × Answer)) (known : List Kept) (k : Query) (r : Option (Bor Answer)) → map kept_of es ≡ known → option_copied r ≡ lookup (eq k) es → IfSome r (λ answer. Contains known (kept_of (k, answer.now)))
   got es known k None view is = tt
   got es known k (Some a) view is = subst (λ (ks : List Kept). Contains ks (kept_of (k, a.now))) view (found es k a.now (sym is))

@@ -281,7 +281,7 @@ same_near v w end near new leaves changed tracks = record {
   others = λ s below unchanged. tracks.others s below (subst (λ changed. IsUnchanged changed s) changed unchanged);
 }
 
--- what is listed of a signal tells its literal
+-- what is listed of a signal gives its literal
 pub listed_tells : (literal : Lit) (near : Near) (sides new : SideWords) → IsListed near.changed (signal_of literal) (Some sides)
     → new.one ≡ signed_word sides.one (inverts literal)
     → new.other ≡ signed_word sides.other (inverts literal)
@@ -322,7 +322,7 @@ leaf_tells literal near next number word new unchanged leaf changed digits first
     tracked v w end below (inl same) tracks = same_near v w end near next same changed tracks
     tracked v w end below (inr added) tracks = leaf_more v w end (signal_of literal) near next tracks added.0 below unchanged added.1 changed
 
--- the bits of a gate, once both operands are told
+-- the bits of a gate, once both operands are known
 gate_told : (gate : Gate) (signal : ℕ) (near first second : Near) (one other new : SideWords) → Tells gate.a near first one
     → Tells gate.b first second other
     → new.one ≡ bit_and one.one other.one
@@ -336,7 +336,7 @@ gate_told gate signal near first second one other new upper lower left right v w
     let both = sides_and v w second.leaves (literal_bit v gate.a) (literal_bit v gate.b) (literal_bit w gate.a) (literal_bit w gate.b) one other new left right a b in
     (lower.tracks v w signal here.second mid, λ m lane. (here.bit_is ∙ (both m lane).0, there.bit_is ∙ (both m lane).1))
 
--- a gate, once both operands are told
+-- a gate, once both operands are known
 pub went : (gate : Gate) (signal : ℕ) (near first second last : Near) (one other new : SideWords) (result : Went) → Tells gate.a near first one
     → Tells gate.b first second other
     → new.one ≡ bit_and one.one other.one

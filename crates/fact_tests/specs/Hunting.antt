@@ -11,6 +11,6 @@ IsGroup net output group = (group.net ≡ net) × Covers group output
 abbrev pub IsOf : Net → Signed → Type 0
 IsOf net signed = signed.net ≡ net
 
-abbrev pub AreHeld : Net → Option Signed → Type 0
-AreHeld net None = Unit {0}
-AreHeld net (Some group) = IsOf net group
+abbrev pub IsLastGroup : Net → Option Signed → Type 0
+IsLastGroup net None = Unit {0}
+IsLastGroup net (Some group) = IsOf net group

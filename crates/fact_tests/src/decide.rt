@@ -62,6 +62,6 @@ pub trait Decide {
         ensures decides { Decides (IsAnswer (circuits self.old) query.now)
             (circuits self.old) query.now ledger.old ledger.new result };
 
-    /// Whoever watches is told what the run is at. No answer depends on it.
+    /// Whoever watches gets what the run is at. No answer depends on it.
     fn at(&self, stage: Stage);
 }

@@ -59,7 +59,7 @@ pub struct Sources<'a, W: Watch> {
     second: Source<'a>,
     /// What queries of the last matching have learned.
     shared: SharedLemmas<'a>,
-    /// Is told what the run is at.
+    /// Gets what the run is at.
     watch: &'a W,
 }
 

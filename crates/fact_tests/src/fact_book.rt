@@ -59,7 +59,7 @@ impl<'a> FactBook<'a> {
 }
 
 impl<'a, W: Watch> FactBook<'a, W> {
-    /// The same, with a watcher that is told what the run is at.
+    /// The same, with a watcher that gets what the run is at.
     ///
     /// # Errors
     ///

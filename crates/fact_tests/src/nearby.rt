@@ -25,7 +25,7 @@ const PASSES_A_QUESTION: u32 = 64;
 
 /// What is seen of outputs on vectors near those that questions about them gave. Where few vectors break a claim, as
 /// with the carry of an adder, those that are drawn don't show it; but one that breaks another claim of the output
-/// tells where to look, and of other outputs too: the carry goes on to those after it. So all outputs of a group
+/// says where to look, and of other outputs too: the carry goes on to those after it. So all outputs of a group
 /// (`Sightings`) are looked at. Contracts see it as the circuit.
 #[derive(Drop)]
 pub(crate) struct Nearby<'a> {

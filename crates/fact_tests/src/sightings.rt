@@ -23,18 +23,18 @@ pub(crate) struct Sightings<'a> {
     graph: &'a Graph,
     seed: u64,
     /// Those of the group that was asked about last.
-    held: Option<Signatures<'a>>,
+    last_group: Option<Signatures<'a>>,
 }
 
 impl<'a> Model for Sightings<'a> {
     ghost use Rattle.circuits.specs.Netlists.{Net};
-    ghost use Rattle.fact_tests.specs.Hunting.{AreHeld};
+    ghost use Rattle.fact_tests.specs.Hunting.{IsLastGroup};
 
     ghost Value = { Net };
 
     ghost view = { λ a. a.graph.now };
 
-    ghost invariant = { λ a. AreHeld a.graph.now a.held };
+    ghost invariant = { λ a. IsLastGroup a.graph.now a.last_group };
 }
 
 impl<'a> Sightings<'a> {
@@ -45,7 +45,7 @@ impl<'a> Sightings<'a> {
         Sightings {
             graph,
             seed,
-            held: None,
+            last_group: None,
         }
     }
 
@@ -61,16 +61,16 @@ impl<'a> Sightings<'a> {
         ensures same { self.new ≡ self.old }
         ensures breaks { IfOk result (λ found. IfSome found (BreaksShape self.old output shape)) }
     {
-        if let Some(held) = &self.held {
-            if held.covers(output) {
-                return held.sighting(alloc, output, shape);
+        if let Some(group) = &self.last_group {
+            if group.covers(output) {
+                return group.sighting(alloc, output, shape);
             }
         }
-        // what is kept goes before its successor comes
-        self.held = None;
+        // the last group goes before the next one comes
+        self.last_group = None;
         let group = group_of(alloc, self.graph, output, self.seed)?;
         let vector = group.sighting(alloc, output, shape)?;
-        self.held = Some(group);
+        self.last_group = Some(group);
         Ok(vector)
     }
 }

@@ -12,8 +12,8 @@ pub record HasSizes (net : Net) : Type 0 where
   pub outputs : length net.outputs ≡ 32
   pub gates : length net.gates ≡ 2000
 
--- The first netlist and the matching are drawn one after the other. The second netlist is the first under the matching, with
--- the operands of each gate exchanged.
+-- The first netlist and the matching are drawn one after the other. The second netlist is the first under the matching,
+-- with the operands of each gate exchanged.
 pub record ArePairOf (number : ℕ) (first second : Net) (inputs outputs : List (ℕ × Bool)) : Type 0 where
   pub first_gates : first.gates ≡ (made 32 (generator_of number)).gates
   pub first_outputs : first.outputs ≡ (made 32 (generator_of number)).outputs

@@ -1,4 +1,4 @@
-//! Shelves and sinks that fail at the calls that they are told.
+//! Shelves and sinks that fail at the calls that are given to them.
 
 ghost use Rattle.std.specs.Prelude.{◌≡◌, IfOk};
 ghost use Rattle.shelf_core.specs.State.{Closed};
@@ -69,7 +69,7 @@ fn fails_at_each_call(rt: HostRuntime) -> Result<(), Fail> {
     Ok(())
 }
 
-/// The calls 1 and 4 of these are told to fail.
+/// The calls 1 and 4 of these are made to fail.
 fn reads_on(shelf: &mut MemShelf) -> Result<bool, ShelfStop>
     requires { (⟦<MemShelf as Shelf>⟧.state shelf.old).mode ≡ Closed }
 {
@@ -93,7 +93,7 @@ fn reads_on(shelf: &mut MemShelf) -> Result<bool, ShelfStop>
     )
 }
 
-/// A call that isn't told to fail does what it does elsewhere, also after one that failed.
+/// A call that isn't made to fail does what it does elsewhere, also after one that failed.
 #[test]
 fn goes_on_after_a_failure(rt: HostRuntime) -> Result<(), Fail> {
     let mut shelf = shelf_failing_at(rt.alloc(), &[9, 1, 4])?;
@@ -102,7 +102,7 @@ fn goes_on_after_a_failure(rt: HostRuntime) -> Result<(), Fail> {
     Ok(())
 }
 
-/// A sink writes nothing of a piece where it is told to fail.
+/// A sink writes nothing of a piece where it is made to fail.
 #[test]
 fn fails_at_a_put(rt: HostRuntime) -> Result<(), Fail> {
     let mut sink = MemSink::new(rt.alloc(), [1].to_vec(rt.alloc())?);

@@ -1,4 +1,4 @@
-//! What the machine's files refuse, and how that is told.
+//! What the machine's files refuse, and how that is reported.
 
 ghost use Rattle.std.specs.Prelude.{◌≡◌, OnOk};
 ghost use Rattle.shelf_core.specs.State.{Closed};
@@ -56,7 +56,7 @@ fn write_letter(shelf: &mut DiskShelf<HostRuntime>, name: &str) -> Result<(), Sh
     shelf.close()
 }
 
-/// Whether the last failure of a shelf is of this name, and is told so.
+/// Whether the last failure of a shelf is of this name, and is reported so.
 fn tells(
     alloc: Global,
     shelf: &DiskShelf<HostRuntime>,
@@ -90,7 +90,7 @@ fn keeps_it(
 
 const USED: &str = "this run has read or made it already, by this name or another";
 
-/// Whether a file that was made or read is refused to a writer by its name, a path and a link, and that is told.
+/// Whether a file that was made or read is refused to a writer by its name, a path and a link, and that is reported.
 fn refuses_each_name(
     rt: HostRuntime,
     shelf: &mut DiskShelf<HostRuntime>,
@@ -132,7 +132,7 @@ fn refuses_what_it_read(rt: HostRuntime, names: [&str; 3]) -> Result<bool, Fail>
     Ok(read & refuses_each_name(rt, &mut shelf, names[0], names[1], names[2])?)
 }
 
-/// A file that was made or read isn't made anew, by whatever name. Another run may write it.
+/// A file that was made or read isn't made again, by whatever name. Another run may write it.
 #[test]
 fn makes_no_file_that_it_used(rt: HostRuntime) -> Result<(), Fail> {
     let name = "shelf_core_made_by_a_test";

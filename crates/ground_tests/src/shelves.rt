@@ -58,7 +58,7 @@ fn reads_the_letter(shelf: &mut SafeShelf) -> Result<bool, ShelfStop>
     Ok((len == 7) & first & second & third & end)
 }
 
-/// Makes a report, which wasn't there, and the letter anew: seven calls.
+/// Makes a report, which wasn't there, and the letter again: seven calls.
 fn writes_two_files(shelf: &mut SafeShelf) -> Result<bool, ShelfStop>
     requires { (⟦<SafeShelf as Shelf>⟧.state shelf.old).mode ≡ Closed }
 {

@@ -29,7 +29,7 @@ use Rattle.hier_blif.specs.LineFaults.{fault_at, at_line, is_ended, names_before
 use Rattle.hier_blif.specs.Reading.{is_known, fault_of, closed, with_lines, open_after, current_after, ended_by, ended_after, names_by, Advances, models_from, IsReading}
 use Rattle.hier_blif.proofs.ModelLemmas.{models_on, models_end}
 
--- what is known of the lines before tells what is wrong with the next one
+-- what is known of the lines before says what is wrong with the next one
 known_same : (earlier : List (List Piece)) (line : List Piece) (reader : Reader) → names_of reader.names ≡ bytes_of (names_before earlier) → is_known reader line ≡ is_taken earlier line
 known_same earlier line reader h =
     ap (list_any (bytes_eq (word_of line 1).bytes)) h

@@ -14,7 +14,7 @@ abbrev pub first_of : List HierFault → Option HierFault
 first_of [] = None
 first_of (fault ∷ faults) = Some fault
 
--- there is none of these faults, or the first of them is told
+-- there is none of these faults, or the first of them is named
 abbrev pub Finds : {T : Type 0} → List HierFault → Result T HierStop → Type 0
 Finds faults (Ok value) = faults ≡ []
 Finds faults (Err stop) = IsStopBy (λ fault. first_of faults ≡ Some fault) stop

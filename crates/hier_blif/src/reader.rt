@@ -132,7 +132,7 @@ impl<'a> Reader<'a> {
         ensures lines { OnOk result (lines_left lines.new ≡ lines_left lines.old) }
     {
         let at = first.at();
-        // Only the cover tells how wide a row should be, so that a row is in one is asked first.
+        // Only the cover says how wide a row should be, so that a row is in one is asked first.
         let Some(open) = self.in_cover else {
             return Err(fault_at(at, HierKind::RowOutside));
         };

@@ -124,7 +124,7 @@ gone w after clause old back new level fitting size is rewatched fits present so
       ];
 }
 
--- ---- a search begins anew
+-- ---- a search begins again
 
 -- what is justified stays so after going back
 pub justified_back : (clauses : List (List SatLit)) (old back : Trailing) (level : ℕ) → IsBack old back level → (k : ℕ) → k < length back.entries → IsJustified clauses (before old.entries k) (entry_at old.entries k).literal (entry_at old.entries k).reason → IsJustified clauses (before back.entries k) (entry_at back.entries k).literal (entry_at back.entries k).reason

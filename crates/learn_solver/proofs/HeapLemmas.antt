@@ -1,4 +1,4 @@
--- Numbers in a heap are exchanged, held and taken out.
+-- Numbers in a heap are exchanged, queued and taken out.
 use Rattle.std.proofs.Common.{◌≡◌, ◌≢◌, ℕ, ◌+◌, ◌<◌, ◌≤◌, Bool, true, false, List, [], ◌∷◌, length, nat_lt, slice_index_or, slice_set, replicate, inl, inr, refl, sym, ◌∙◌, ap, arith}
 use Rattle.std.specs.List.{SwappedAt, range_with_len}
 use Rattle.std.proofs.lemmas.Bool.{cases_eq, cases_lt, lt-ltb, le-ltb}
@@ -7,14 +7,14 @@ use Rattle.std.proofs.lemmas.Bool.Decides.{nat_tests}
 use Rattle.std.proofs.lemmas.List.Elements.{All-map}
 use Rattle.std.proofs.lemmas.List.FromFn.{get_or-range_with_len, length-range_with_len}
 use Rattle.circuits.specs.Literals.{bit}
-use Rattle.learn_solver.specs.Heaps.{AreInverse, are_held, exchanged, turned}
+use Rattle.learn_solver.specs.Heaps.{AreInverse, are_queued, exchanged, turned}
 
--- whether a number is held
-pub held_at : (held : ℕ) (places : List ℕ) (v d : ℕ) → v < length places → bit (are_held held places) v ≡ nat_lt (slice_index_or places v d) held
-held_at held places v d within = get_or-map (λ place. nat_lt place held) places v d false within
+-- whether a number is queued
+pub queued_at : (queued : ℕ) (places : List ℕ) (v d : ℕ) → v < length places → bit (are_queued queued places) v ≡ nat_lt (slice_index_or places v d) queued
+queued_at queued places v d within = get_or-map (λ place. nat_lt place queued) places v d false within
 
-pub as_many_held : (held : ℕ) (places : List ℕ) → length (are_held held places) ≡ length places
-as_many_held held places = length-map places (λ place. nat_lt place held)
+pub as_many_queued : (queued : ℕ) (places : List ℕ) → length (are_queued queued places) ≡ length places
+as_many_queued queued places = length-map places (λ place. nat_lt place queued)
 
 -- all numbers in their order
 pub inverse_start : (count : ℕ) → AreInverse count (range_with_len 0 count) (range_with_len 0 count)
@@ -102,79 +102,79 @@ inverse_exchanged count numbers places now one other is low lower swapped size =
       ∙ (ap (λ p. slice_index_or numbers p e) (turned_twice one other (slice_index_or places v d)) ∙ is.back v d e known));
 }
 
--- what is held stays so where both places are held ones, or neither is
-pub held_exchanged : (held : ℕ) (places : List ℕ) (one other : ℕ) → nat_lt one held ≡ nat_lt other held → are_held held (exchanged one other places) ≡ are_held held places
-held_exchanged held [] one other same = refl
-held_exchanged held (place ∷ places) one other same = ap (λ b. b ∷ are_held held (exchanged one other places)) (kept place) ∙ ap (λ marks. nat_lt place held ∷ marks) (held_exchanged held places one other same)
+-- what is queued stays so where both places are queued ones, or neither is
+pub queued_exchanged : (queued : ℕ) (places : List ℕ) (one other : ℕ) → nat_lt one queued ≡ nat_lt other queued → are_queued queued (exchanged one other places) ≡ are_queued queued places
+queued_exchanged queued [] one other same = refl
+queued_exchanged queued (place ∷ places) one other same = ap (λ b. b ∷ are_queued queued (exchanged one other places)) (kept place) ∙ ap (λ marks. nat_lt place queued ∷ marks) (queued_exchanged queued places one other same)
   where
-    kept : (k : ℕ) → nat_lt (turned one other k) held ≡ nat_lt k held
+    kept : (k : ℕ) → nat_lt (turned one other k) queued ≡ nat_lt k queued
     kept k = grind (arith, nat_tests)
 
--- ---- a number stands at the first place that isn't held, or that isn't any more
+-- ---- a number stands at the first place that isn't queued, or that isn't any more
 
--- whether another number is held doesn't change with the one at that place
-others_held : (count held : ℕ) (numbers places : List ℕ) (v : ℕ) → AreInverse count numbers places → v < count → slice_index_or places v 0 ≡ held → (u : ℕ) → u < length places → u ≢ v → nat_lt (slice_index_or places u 0) (held + 1) ≡ nat_lt (slice_index_or places u 0) held
-others_held count held numbers places v is known there u low other = elim (cases_lt (slice_index_or places u 0) held) [
-  | inl front ↦ lt-ltb _ (held + 1) (omega (arith, front)) ∙ sym (lt-ltb _ held front)
-  | inr rest ↦ le-ltb _ (held + 1) (omega (arith, rest, there, apart)) ∙ sym (le-ltb _ held rest)
+-- whether another number is queued doesn't change with the one at that place
+others_queued : (count queued : ℕ) (numbers places : List ℕ) (v : ℕ) → AreInverse count numbers places → v < count → slice_index_or places v 0 ≡ queued → (u : ℕ) → u < length places → u ≢ v → nat_lt (slice_index_or places u 0) (queued + 1) ≡ nat_lt (slice_index_or places u 0) queued
+others_queued count queued numbers places v is known there u low other = elim (cases_lt (slice_index_or places u 0) queued) [
+  | inl front ↦ lt-ltb _ (queued + 1) (omega (arith, front)) ∙ sym (lt-ltb _ queued front)
+  | inr rest ↦ le-ltb _ (queued + 1) (omega (arith, rest, there, apart)) ∙ sym (le-ltb _ queued rest)
 ]
   where
     apart : slice_index_or places u 0 ≢ slice_index_or places v 0
     apart same = other (sym (is.back u 0 0 (omega (arith, low, is.as_many_places))) ∙ (ap (λ p. slice_index_or numbers p 0) same ∙ is.back v 0 0 known))
 
 -- one mark is set, and each other is as before
-set_marks : (held later v : ℕ) (mark : Bool) (places : List ℕ) → v < length places → nat_lt (slice_index_or places v 0) later ≡ mark → ((u : ℕ) → u < length places → u ≢ v → nat_lt (slice_index_or places u 0) later ≡ nat_lt (slice_index_or places u 0) held) → are_held later places ≡ slice_set (are_held held places) v mark
-set_marks held later v mark places there own others =
-    ext_get_or false (are_held later places) (slice_set (are_held held places) v mark) (as_many_held later places ∙ sym (length-set (are_held held places) v mark ∙ as_many_held held places)) (λ u within.
-    let low : u < length places = omega (arith, within, as_many_held later places) in
-    held_at later places u 0 low ∙ elim (cases_eq u v) [
-      | inl same ↦ ap (λ w. nat_lt (slice_index_or places w 0) later) same ∙ (own ∙ sym (ap (bit (slice_set (are_held held places) v mark)) same ∙ get_or-set_same (are_held held places) v mark false (omega (arith, there, as_many_held held places))))
-      | inr apart ↦ others u low apart ∙ sym (get_or-set_other (are_held held places) v u mark false apart ∙ held_at held places u 0 low)
+set_marks : (queued later v : ℕ) (mark : Bool) (places : List ℕ) → v < length places → nat_lt (slice_index_or places v 0) later ≡ mark → ((u : ℕ) → u < length places → u ≢ v → nat_lt (slice_index_or places u 0) later ≡ nat_lt (slice_index_or places u 0) queued) → are_queued later places ≡ slice_set (are_queued queued places) v mark
+set_marks queued later v mark places there own others =
+    ext_get_or false (are_queued later places) (slice_set (are_queued queued places) v mark) (as_many_queued later places ∙ sym (length-set (are_queued queued places) v mark ∙ as_many_queued queued places)) (λ u within.
+    let low : u < length places = omega (arith, within, as_many_queued later places) in
+    queued_at later places u 0 low ∙ elim (cases_eq u v) [
+      | inl same ↦ ap (λ w. nat_lt (slice_index_or places w 0) later) same ∙ (own ∙ sym (ap (bit (slice_set (are_queued queued places) v mark)) same ∙ get_or-set_same (are_queued queued places) v mark false (omega (arith, there, as_many_queued queued places))))
+      | inr apart ↦ others u low apart ∙ sym (get_or-set_other (are_queued queued places) v u mark false apart ∙ queued_at queued places u 0 low)
     ])
 
--- where a number stands says whether it is held
-pub place_says : (count held v place : ℕ) (numbers places : List ℕ) (marks : List Bool) → AreInverse count numbers places → are_held held places ≡ marks → v < length marks → place ≡ slice_index_or places v place → (v < count) × (place ≡ slice_index_or places v 0) × (place < count) × (nat_lt place held ≡ bit marks v)
-place_says count held v place numbers places marks is marks_are low place_is =
-    let within : v < length places = omega (arith, low, as_many_held held places, ap length marks_are) in
+-- where a number stands says whether it is queued
+pub place_says : (count queued v place : ℕ) (numbers places : List ℕ) (marks : List Bool) → AreInverse count numbers places → are_queued queued places ≡ marks → v < length marks → place ≡ slice_index_or places v place → (v < count) × (place ≡ slice_index_or places v 0) × (place < count) × (nat_lt place queued ≡ bit marks v)
+place_says count queued v place numbers places marks is marks_are low place_is =
+    let within : v < length places = omega (arith, low, as_many_queued queued places, ap length marks_are) in
     let at = get_or_read places v place within place_is 0 in
-    (omega (arith, within, is.as_many_places), at, omega (arith, at, is.within v 0 within), ap (λ p. nat_lt p held) at ∙ (sym (held_at held places v 0 within) ∙ ap (λ held. bit held v) marks_are))
+    (omega (arith, within, is.as_many_places), at, omega (arith, at, is.within v 0 within), ap (λ p. nat_lt p queued) at ∙ (sym (queued_at queued places v 0 within) ∙ ap (λ queued. bit queued v) marks_are))
 
--- a number that stands after the held ones is exchanged with the first of these, and held
-pub admitted : (count held : ℕ) (numbers places now : List ℕ) (place v : ℕ) → AreInverse count numbers places → AreInverse count now (exchanged place held places) → v < count → place ≡ slice_index_or places v 0 → held ≤ place → are_held (held + 1) (exchanged place held places) ≡ slice_set (are_held held places) v true
-admitted count held numbers places now place v is new known place_is late =
-    let there = turned_at place held places v 0 (omega (arith, known, is.as_many_places)) ∙ (ap (turned place held) (sym place_is) ∙ turned_one place held) in
-    set_marks held (held + 1) v true (exchanged place held places) (omega (arith, known, new.as_many_places)) (lt-ltb _ (held + 1) (omega (arith, there))) (others_held count held now (exchanged place held places) v new known there)
-    ∙ ap (λ marks. slice_set marks v true) (held_exchanged held places place held (le-ltb place held late ∙ sym (le-ltb held held (omega arith))))
+-- a number that stands after the queued ones is exchanged with the first of these, and queued
+pub admitted : (count queued : ℕ) (numbers places now : List ℕ) (place v : ℕ) → AreInverse count numbers places → AreInverse count now (exchanged place queued places) → v < count → place ≡ slice_index_or places v 0 → queued ≤ place → are_queued (queued + 1) (exchanged place queued places) ≡ slice_set (are_queued queued places) v true
+admitted count queued numbers places now place v is new known place_is late =
+    let there = turned_at place queued places v 0 (omega (arith, known, is.as_many_places)) ∙ (ap (turned place queued) (sym place_is) ∙ turned_one place queued) in
+    set_marks queued (queued + 1) v true (exchanged place queued places) (omega (arith, known, new.as_many_places)) (lt-ltb _ (queued + 1) (omega (arith, there))) (others_queued count queued now (exchanged place queued places) v new known there)
+    ∙ ap (λ marks. slice_set marks v true) (queued_exchanged queued places place queued (le-ltb place queued late ∙ sym (le-ltb queued queued (omega arith))))
 
--- a held number is exchanged with the last held one, and taken out
-pub dismissed : (count last : ℕ) (numbers places now : List ℕ) (place v : ℕ) → AreInverse count numbers places → AreInverse count now (exchanged place last places) → v < count → place ≡ slice_index_or places v 0 → place < last + 1 → are_held last (exchanged place last places) ≡ slice_set (are_held (last + 1) places) v false
+-- a queued number is exchanged with the last queued one, and taken out
+pub dismissed : (count last : ℕ) (numbers places now : List ℕ) (place v : ℕ) → AreInverse count numbers places → AreInverse count now (exchanged place last places) → v < count → place ≡ slice_index_or places v 0 → place < last + 1 → are_queued last (exchanged place last places) ≡ slice_set (are_queued (last + 1) places) v false
 dismissed count last numbers places now place v is new known place_is front =
     let there = turned_at place last places v 0 (omega (arith, known, is.as_many_places)) ∙ (ap (turned place last) (sym place_is) ∙ turned_one place last) in
-    set_marks (last + 1) last v false (exchanged place last places) (omega (arith, known, new.as_many_places)) (le-ltb _ last (omega (arith, there))) (λ u inside other. sym (others_held count last now (exchanged place last places) v new known there u inside other))
-    ∙ ap (λ marks. slice_set marks v false) (held_exchanged (last + 1) places place last (lt-ltb place (last + 1) front ∙ sym (lt-ltb last (last + 1) (omega arith))))
+    set_marks (last + 1) last v false (exchanged place last places) (omega (arith, known, new.as_many_places)) (le-ltb _ last (omega (arith, there))) (λ u inside other. sym (others_queued count last now (exchanged place last places) v new known there u inside other))
+    ∙ ap (λ marks. slice_set marks v false) (queued_exchanged (last + 1) places place last (lt-ltb place (last + 1) front ∙ sym (lt-ltb last (last + 1) (omega arith))))
 
--- none is held
-pub none_held : (held : ℕ) (places : List ℕ) (count : ℕ) → held ≡ 0 → length places ≡ count → are_held held places ≡ replicate count false
-none_held held places count none size =
-    ext_get_or false (are_held held places) (replicate count false) (as_many_held held places ∙ (size ∙ sym (length-replicate count false))) (λ v within.
-    let low : v < length places = omega (arith, within, as_many_held held places) in
-    held_at held places v 0 low ∙ (le-ltb (slice_index_or places v 0) held (omega (arith, none)) ∙ sym (get_or-replicate count v false false (omega (arith, low, size)))))
+-- none is queued
+pub none_queued : (queued : ℕ) (places : List ℕ) (count : ℕ) → queued ≡ 0 → length places ≡ count → are_queued queued places ≡ replicate count false
+none_queued queued places count none size =
+    ext_get_or false (are_queued queued places) (replicate count false) (as_many_queued queued places ∙ (size ∙ sym (length-replicate count false))) (λ v within.
+    let low : v < length places = omega (arith, within, as_many_queued queued places) in
+    queued_at queued places v 0 low ∙ (le-ltb (slice_index_or places v 0) queued (omega (arith, none)) ∙ sym (get_or-replicate count v false false (omega (arith, low, size)))))
 
--- A number is moved forward from a place: its place isn't after that, and what is held stays so.
+-- A number is moved forward from a place: its place isn't after that, and what is queued stays so.
 pub record IsLifting (count first : ℕ) (places : List ℕ) (numbers now : List ℕ) (place : ℕ) : Type 0 where
   pub inverse : AreInverse count numbers now
   pub low : place ≤ first
   pub known : first < count
-  pub held : (held : ℕ) → first < held → are_held held now ≡ are_held held places
+  pub queued : (queued : ℕ) → first < queued → are_queued queued now ≡ are_queued queued places
 
--- The first number is moved back among the held ones, which stay so.
-pub record IsSinking (count held : ℕ) (places : List ℕ) (numbers now : List ℕ) : Type 0 where
+-- The first number is moved back among the queued ones, which stay so.
+pub record IsSinking (count queued : ℕ) (places : List ℕ) (numbers now : List ℕ) : Type 0 where
   pub inverse : AreInverse count numbers now
-  pub held_are : are_held held now ≡ are_held held places
+  pub queued_are : are_queued queued now ≡ are_queued queued places
 
--- where any are held, the first number is
-pub first_held : (count held : ℕ) (numbers places : List ℕ) (first : ℕ) → AreInverse count numbers places → 0 < held → held ≤ count → first ≡ slice_index_or numbers 0 first → bit (are_held held places) first ≡ true
-first_held count held numbers places first is some most first_is =
+-- where any are queued, the first number is
+pub first_queued : (count queued : ℕ) (numbers places : List ℕ) (first : ℕ) → AreInverse count numbers places → 0 < queued → queued ≤ count → first ≡ slice_index_or numbers 0 first → bit (are_queued queued places) first ≡ true
+first_queued count queued numbers places first is some most first_is =
     let low : first < count = omega (arith, first_is, is.known 0 first (omega (arith, some, most, is.as_many))) in
     let front : slice_index_or places first 0 ≡ 0 = ap (λ v. slice_index_or places v 0) first_is ∙ is.there 0 first 0 (omega (arith, some, most)) in
-    held_at held places first 0 (omega (arith, low, is.as_many_places)) ∙ lt-ltb (slice_index_or places first 0) held (omega (arith, front, some))
+    queued_at queued places first 0 (omega (arith, low, is.as_many_places)) ∙ lt-ltb (slice_index_or places first 0) queued (omega (arith, front, some))

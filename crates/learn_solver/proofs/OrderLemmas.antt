@@ -10,6 +10,6 @@ pub record IsReleasing (trail : Trailing) (order : Order) (place : ℕ) : Type 0
   pub order_is : IsOrder trail.variables order
   pub within : place ≤ length trail.entries
 
--- how many are held
+-- how many are queued
 abbrev pub how_many : List Bool → ℕ
-how_many held = sum_by one_if held
+how_many queued = sum_by one_if queued

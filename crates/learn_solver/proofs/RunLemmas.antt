@@ -63,7 +63,7 @@ can_turn s search is = record {
   order = subst (λ n. IsOrder n search.tools.order) (sym is.learning.searching.variables) is.learning.tools_are.order;
 }
 
--- what it is after, and when it begins anew, are none of what is kept of the variables
+-- what it is after, and when it begins again, are none of what is kept of the variables
 pub turned_beside : (old new : Search) (focus : Focus) (restarts : Restarts) → HasTurned (record old { tools = record old.tools { focus = focus; restarts = restarts } }) new → HasTurned old new
 turned_beside old new focus restarts turned = record {
   fitting = turned.fitting;

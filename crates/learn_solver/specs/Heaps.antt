@@ -20,10 +20,10 @@ abbrev pub exchanged : ℕ → ℕ → List ℕ → List ℕ
 exchanged one other places = map (turned one other) places
 
 -- for each number whether it is in the queue: those at the first places are
-abbrev pub are_held : ℕ → List ℕ → List Bool
-are_held held places = map (λ place. nat_lt place held) places
+abbrev pub are_queued : ℕ → List ℕ → List Bool
+are_queued queued places = map (λ place. nat_lt place queued) places
 
 -- What each heap keeps: a key for each number, and the order of the numbers, the first of which are in the queue.
-pub record IsKept (keys numbers places : List ℕ) (held : ℕ) : Type 0 where
+pub record IsKept (keys numbers places : List ℕ) (queued : ℕ) : Type 0 where
   pub inverse : AreInverse (length keys) numbers places
-  pub most : held ≤ length keys
+  pub most : queued ≤ length keys

@@ -52,8 +52,8 @@ pub trait QuestionGuide {
     /// Only when out of memory.
     fn done_with(&mut self, candidate: Candidate, lines: u64) -> Result<(), AllocError>;
 
-    /// The search for the question itself has this many lines now, lemmas among them. It is told after each step, also
-    /// after a decision, so that is to cost next to nothing.
+    /// The search for the question itself has this many lines now, lemmas among them. This is called after each step,
+    /// also after a decision, so it has to cost next to nothing.
     fn learned(&mut self, lines: u64);
 }
 

@@ -201,6 +201,7 @@ impl Analysis {
         if !marked[variable] | (trail.level_at(place) >= trail.level()) {
             return Ok(());
         }
+        // its literals are of lower levels, so that none counts
         let _ = mark(marked, trail, clauses.get(id));
         self.steps.push(id)?;
         marked[variable] = false;

@@ -4,7 +4,7 @@ ghost use Rattle.std.specs.Prelude.{ℕ, ◌≡◌, ◌/◌, ◌<◌, ◌≤◌,
 ghost use Rattle.std.specs.Prelude.{replicate, slice_set};
 ghost use Rattle.std.specs.List.{range_with_len};
 ghost use Rattle.circuits.specs.Literals.{bit};
-ghost use Rattle.learn_solver.specs.Heaps.{AreInverse, are_held, exchanged};
+ghost use Rattle.learn_solver.specs.Heaps.{AreInverse, are_queued, exchanged};
 
 use std::alloc::{AllocError, Global};
 use std::marker::Model;
@@ -20,18 +20,18 @@ pub(crate) struct Heap {
     numbers: Vec<usize>,
     /// Where each number stands.
     places: Vec<usize>,
-    held: usize,
+    queued: usize,
 }
 
 impl Model for Heap {
     ghost use Rattle.std.specs.Prelude.{Bool, List};
-    ghost use Rattle.learn_solver.specs.Heaps.{IsKept, are_held};
+    ghost use Rattle.learn_solver.specs.Heaps.{IsKept, are_queued};
 
     ghost Value = { List Bool };
 
-    ghost view = { λ a. are_held a.held a.places.items };
+    ghost view = { λ a. are_queued a.queued a.places.items };
 
-    ghost invariant = { λ a. IsKept a.keys.items a.numbers.items a.places.items a.held };
+    ghost invariant = { λ a. IsKept a.keys.items a.numbers.items a.places.items a.queued };
 }
 
 impl Heap {
@@ -46,7 +46,7 @@ impl Heap {
             keys,
             numbers,
             places,
-            held: 0,
+            queued: 0,
         })
     }
 
@@ -62,14 +62,14 @@ impl Heap {
         requires { number < length self.now }
         ensures { result ≡ bit self.now number }
     {
-        self.places[number] < self.held
+        self.places[number] < self.queued
     }
 
     /// Takes all numbers out.
     pub(crate) fn clear(&mut self)
         ensures { self.new ≡ replicate (length self.old) false }
     {
-        self.held = 0;
+        self.queued = 0;
     }
 
     /// Puts a number in, unless it is there.
@@ -87,17 +87,17 @@ impl Heap {
     /// Takes out the number that comes first, if there is one.
     pub(crate) fn pop(&mut self) -> Option<usize>
         ensures known { IfSome result (λ number. number < length self.old) }
-        ensures held { IfSome result (λ number. bit self.old number ≡ true) }
+        ensures queued { IfSome result (λ number. bit self.old number ≡ true) }
         ensures taken { IfSome result (λ number. self.new ≡ slice_set self.old number false) }
         ensures none { IfNone result (self.old ≡ replicate (length self.old) false) }
         ensures same { IfNone result (self.new ≡ self.old) }
     {
-        if self.held == 0 {
+        if self.queued == 0 {
             return None;
         }
         let first = self.numbers[0];
         self.dismiss(first);
-        sink(&self.keys, &mut self.numbers, &mut self.places, self.held);
+        sink(&self.keys, &mut self.numbers, &mut self.places, self.queued);
         Some(first)
     }
 
@@ -129,25 +129,25 @@ impl Heap {
         ensures { self.new ≡ slice_set self.old number true }
     {
         let place = self.places[number];
-        exchange(&mut self.numbers, &mut self.places, place, self.held);
-        self.held += 1;
+        exchange(&mut self.numbers, &mut self.places, place, self.queued);
+        self.queued += 1;
     }
 
     // Takes a number out. The last one comes to its place.
     fn dismiss(&mut self, number: usize)
         requires known { number < length self.old }
-        requires held { bit self.old number ≡ true }
+        requires queued { bit self.old number ≡ true }
         ensures { self.new ≡ slice_set self.old number false }
     {
         let place = self.places[number];
-        self.held -= 1;
-        exchange(&mut self.numbers, &mut self.places, place, self.held);
+        self.queued -= 1;
+        exchange(&mut self.numbers, &mut self.places, place, self.queued);
     }
 
     // Moves a number forward, to where it comes after the one before it.
     fn lift(&mut self, number: usize)
         requires known { number < length self.old }
-        requires held { bit self.old number ≡ true }
+        requires queued { bit self.old number ≡ true }
         ensures { self.new ≡ self.old }
     {
         let place = self.places[number];
@@ -160,7 +160,7 @@ fn lift_from(keys: &[u64], numbers: &mut Vec<usize>, places: &mut Vec<usize>, pl
     requires inverse { AreInverse (length keys.now) numbers.old.items places.old.items }
     requires there { place < length keys.now }
     ensures inverse { AreInverse (length keys.now) numbers.new.items places.new.items }
-    ensures held { (held : ℕ) → place < held → are_held held places.new.items ≡ are_held held places.old.items }
+    ensures queued { (queued : ℕ) → place < queued → are_queued queued places.new.items ≡ are_queued queued places.old.items }
 {
     let mut place = place;
     while place > 0 {
@@ -174,15 +174,15 @@ fn lift_from(keys: &[u64], numbers: &mut Vec<usize>, places: &mut Vec<usize>, pl
 }
 
 // Moves the first number back, while one of the two below it comes out before it.
-fn sink(keys: &[u64], numbers: &mut Vec<usize>, places: &mut Vec<usize>, held: usize)
+fn sink(keys: &[u64], numbers: &mut Vec<usize>, places: &mut Vec<usize>, queued: usize)
     requires inverse { AreInverse (length keys.now) numbers.old.items places.old.items }
-    requires within { held ≤ length keys.now }
+    requires within { queued ≤ length keys.now }
     ensures inverse { AreInverse (length keys.now) numbers.new.items places.new.items }
-    ensures held { are_held held places.new.items ≡ are_held held places.old.items }
+    ensures queued { are_queued queued places.new.items ≡ are_queued queued places.old.items }
 {
     let mut place = 0;
-    while place < held / 2 {
-        let below = first_below(keys, numbers, held, place);
+    while place < queued / 2 {
+        let below = first_below(keys, numbers, queued, place);
         if !precedes(keys, numbers[below], numbers[place]) {
             return;
         }
@@ -192,15 +192,15 @@ fn sink(keys: &[u64], numbers: &mut Vec<usize>, places: &mut Vec<usize>, held: u
 }
 
 // Which of the two places below one has the number that comes out first. There may be one of them alone.
-fn first_below(keys: &[u64], numbers: &[usize], held: usize, place: usize) -> usize
+fn first_below(keys: &[u64], numbers: &[usize], queued: usize, place: usize) -> usize
     requires known { All (λ number. number < length keys.now) numbers.now }
-    requires within { held ≤ length numbers.now }
-    requires there { place < held / 2 }
+    requires within { queued ≤ length numbers.now }
+    requires there { place < queued / 2 }
     ensures later { place < result }
-    ensures there { result < held }
+    ensures there { result < queued }
 {
     let below = 2 * place + 1;
-    let last = below + 1 == held;
+    let last = below + 1 == queued;
     if last || precedes(keys, numbers[below], numbers[below + 1]) {
         return below;
     }
@@ -225,8 +225,8 @@ fn exchange(numbers: &mut Vec<usize>, places: &mut Vec<usize>, one: usize, other
     ensures inverse { (count : ℕ) → AreInverse count numbers.old.items places.old.items
         → AreInverse count numbers.new.items places.new.items }
     ensures places { places.new.items ≡ exchanged one other places.old.items }
-    ensures kept { (held : ℕ) → nat_lt one held ≡ nat_lt other held
-        → are_held held places.new.items ≡ are_held held places.old.items }
+    ensures kept { (queued : ℕ) → nat_lt one queued ≡ nat_lt other queued
+        → are_queued queued places.new.items ≡ are_queued queued places.old.items }
 {
     let first = numbers[one];
     let second = numbers[other];

@@ -49,7 +49,7 @@ impl<'a, B: Base> Solver<'a, B> {
         Ok(None)
     }
 
-    // Looks for each candidate whether its literals can be true together, and tells the guide.
+    // Looks for each candidate whether its literals can be true together, and reports to the guide.
     fn follow<G: QuestionGuide, L: Charge>(
         &mut self,
         alloc: Global,
@@ -95,7 +95,7 @@ impl<'a, B: Base> Solver<'a, B> {
         Ok(None)
     }
 
-    /// Searches until there is an answer, and tells the guide how many lines there are.
+    /// Searches until there is an answer, and reports to the guide how many lines there are.
     pub(crate) fn finish<G: QuestionGuide, L: Charge>(
         &mut self,
         alloc: Global,

@@ -1,4 +1,4 @@
-//! When a search begins anew.
+//! When a search begins again.
 
 /// How many lines are learned at least from one restart to the next. With 50 the parity of 64 bits took a third fewer
 /// lines than without restarts, the majority of 15 a quarter fewer, and adders of 64 bits up to a twelfth more
@@ -24,7 +24,7 @@ impl Restarts {
         }
     }
 
-    /// Counts a learned line. True: it is time to begin anew.
+    /// Counts a learned line. True: it is time to begin again.
     pub(crate) fn count(&mut self) -> bool {
         self.left = self.left.saturating_sub(1);
         if self.left > 0 {

@@ -186,7 +186,7 @@ impl Search {
     }
 
     /// Goes back to a level with a learned clause, of which one literal alone isn't false there, and to level 0 where
-    /// it is time to begin anew. A restart comes after a learned line alone, each of which costs a unit, so there are
+    /// it is time to begin again. A restart comes after a learned line alone, each of which costs a unit, so there are
     /// no more of them than units.
     pub(crate) fn go_back(&mut self, clause: &[SatLit], level: u64) -> Result<(), AllocError>
         requires { CanReturn self.old clause.now level }
@@ -309,6 +309,7 @@ fn put_wanted<B: Base>(base: &B, ids: &[u64], watches: &mut Watches) -> Result<(
 {
     for id in ids.iter() {
         let clause = base.clause(*id);
+        // clauses are added in order, so that a clause's number is its place
         let _ = watches.add(clause.literals())?;
     }
     Ok(())
@@ -324,6 +325,7 @@ fn put_lines(lines: &[LogLine], watches: &mut Watches) -> Result<(), AllocError>
     ensures variables { OnOk result (watches.new.variables ≡ watches.old.variables) }
 {
     for line in lines.iter() {
+        // lines too are added in order
         let _ = watches.add(&line.clause)?;
     }
     Ok(())

@@ -10,9 +10,9 @@ use std::cmp::Reverse;
 /// How good a cell is to be split by a guess; the least is taken.
 #[derive(Clone, Copy, Drop, PartialEq, Eq, PartialOrd, Ord)]
 struct Rank {
-    /// Signs that nothing tells are guessed last.
+    /// Signs that nothing shows are guessed last.
     is_blind: bool,
-    /// Among these an input that changes much tells most.
+    /// Among these an input that changes much shows most.
     influence: Reverse<u32>,
     /// A small cell has few wrong candidates. Where all signs are known a large one splits more by one guess.
     size: usize,
@@ -123,7 +123,7 @@ pub(crate) fn next_point(
     }
 }
 
-// A literal of a cell: the first one, and then the last of the others first, as nothing tells that another order is
+// A literal of a cell: the first one, and then the last of the others first, as nothing says that another order is
 // better; in later rounds a drawn one, and the others in a drawn order.
 fn point_of(
     alloc: Global,

@@ -26,7 +26,7 @@ const MOST_BLOCKS: u64 = 256;
 const LEAST_BLOCKS: u64 = 16;
 
 /// An input with fewer changes of outputs on drawn vectors is faint: with 5.5 standard deviations of slack fewer than
-/// 32 changes in one direction don't tell its sign.
+/// 32 changes in one direction don't show its sign.
 const FEW_CHANGES: u32 = 64;
 
 /// The vectors that are counted, in blocks of 256.

@@ -19,7 +19,8 @@ use std::alloc::{AllocError, Global};
 /// four have 16 values, fewer than pairs of vectors are taken.
 const FEW_OPEN: usize = 4;
 
-/// How often a search begins anew, with other choices. Most matchings that are found are found in the first two rounds.
+/// How often a search begins again, with other choices. Most matchings that are found are found in the first two
+/// rounds.
 const ROUNDS: u32 = 8;
 
 /// How many guesses may fail in the first round. In each further round half as many more may, some 390 in all. With
@@ -322,7 +323,7 @@ impl<'a> Guesser<'a> {
         Ok(Some(likeness))
     }
 
-    // Every other round goes by draws, as likeness may mislead. While signs are open it tells little, and a guess
+    // Every other round goes by draws, as likeness may mislead. While signs are open it says little, and a guess
     // serves to split cells, unless one guess decides all signs.
     fn goes_by_likeness(&self, state: &State) -> bool {
         (self.refiner.round % 2 == 0)

@@ -151,7 +151,7 @@ fn does_agree(outputs: &Words, from: u32, entry: (u32, bool), partners: &Words) 
 }
 
 // A number for what each gate has on the first eight words, up to its complement, ascending. Gates that are constant
-// there are left out: they tell nothing.
+// there are left out: they say nothing.
 fn classes_of(alloc: Global, graph: &Graph, inputs: &Words) -> Result<Vec<u64>, AllocError>
     requires { HasColumns graph.now.inputs inputs.now }
 {

@@ -14,7 +14,7 @@ impl Patience {
     /// That many guesses may fail. In every other round that is said of choice points all of whose guesses failed, and
     /// eight guesses that fail at once count as such a point: where each sign has to be guessed by itself, as of two
     /// numbers that are added or subtracted, every other guess fails at once and the next one is right. The other
-    /// rounds begin anew the sooner, which serves where the first guess is wrong.
+    /// rounds begin again the sooner, which serves where the first guess is wrong.
     pub(crate) fn of_round(round: u32, failures: u32) -> Patience {
         if round % 2 == 1 {
             return Patience {

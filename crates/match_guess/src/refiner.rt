@@ -22,7 +22,7 @@ const MOST_ROUNDS: u32 = 100_000;
 /// longer.
 const MANY_ASSIGNMENTS: u32 = 8;
 
-/// Under how many more where these told nothing: one turn. Without these the minimum and maximum of 16 bits takes two
+/// Under how many more where these showed nothing: one turn. Without these the minimum and maximum of 16 bits takes two
 /// seconds longer.
 const FEW_ASSIGNMENTS: u32 = 4;
 
@@ -30,7 +30,7 @@ const FEW_ASSIGNMENTS: u32 = 4;
 /// vectors show influences a fourth as large; a fourth of the blocks does as well for 29 pairs.
 const MANY_BLOCKS: u64 = 16;
 
-/// How often in a round assignments of inputs whose signs are known may tell nothing. Of inputs that are alike, as
+/// How often in a round assignments of inputs whose signs are known may show nothing. Of inputs that are alike, as
 /// those of a parity, they never do, and of two numbers that are compared always.
 const MOST_IN_VAIN: u32 = 4;
 
@@ -243,7 +243,7 @@ impl<'a> Refiner<'a> {
         }
     }
 
-    // Splits cells whose signs are known, by counts under assignments too where vectors tell nothing and drawn ones
+    // Splits cells whose signs are known, by counts under assignments too where vectors show nothing and drawn ones
     // left inputs faint: of two numbers that are compared the next bits matter once those above them are equal.
     fn split_known(&mut self, alloc: Global, state: State) -> Result<Option<State>, AllocError> {
         let before = state.count();
@@ -262,7 +262,7 @@ impl<'a> Refiner<'a> {
         Ok(Some(state))
     }
 
-    // Splits cells by counts under assignments, of more vectors where few tell nothing.
+    // Splits cells by counts under assignments, of more vectors where few show nothing.
     fn split_by_assignments(
         &mut self,
         alloc: Global,

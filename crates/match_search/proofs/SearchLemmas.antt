@@ -113,7 +113,7 @@ searching_asked is serves = record {
   trials = is.trials;
 }
 
--- and the search may begin anew
+-- and the search may begin again
 pub may_search_on : {graphs : Graphs} {old now : Lent} → IsSearching graphs old now → MaySearch graphs now
 may_search_on {graphs} {old} {now} is = record {
   may = record {

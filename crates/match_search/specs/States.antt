@@ -68,7 +68,8 @@ pub record AreSameLoans (old new : Lent) : Type 0 where
 abbrev pub MayGoOn : Graphs → Lent → Type 0
 MayGoOn graphs lent = MayMakeBans graphs lent.known lent.ledger lent.bans
 
--- What a call does that assigns and deletes no pair: claims were decided and bans made by their facts, whatever it answers, and the trials stay.
+-- What a call does that assigns and deletes no pair: claims were decided and bans made by their facts, whatever it
+-- answers, and the trials stay.
 pub record GoesOn {X : Type 0} (graphs : Graphs) (old new : Lent) (result : Result X Stop) : Type 0 where
   pub same : AreSameLoans old new
   pub makes : MakesBans graphs old.known new.known old.ledger new.ledger old.bans new.bans result
@@ -97,8 +98,8 @@ pub record MayStep (graphs : Graphs) (lent : Lent) (domains : Domained) : Type 0
   pub trail : IsShownTrail graphs lent.known lent.bans domains
   pub trials : AreTrials graphs.first lent.vectors
 
--- What a step does: claims were decided and bans made by their facts, whatever it answers, and where it does the next step may be made, with these pairs
--- assigned and deleted.
+-- What a step does: claims were decided and bans made by their facts, whatever it answers, and where it does the next
+-- step may be made, with these pairs assigned and deleted.
 pub record Steps {X : Type 0} (graphs : Graphs) (old new : Lent) (domains : Domained) (result : Result X Stop) : Type 0 where
   pub same : AreSameLoans old new
   pub makes : MakesBans graphs old.known new.known old.ledger new.ledger old.bans new.bans result
@@ -111,8 +112,8 @@ pub record Explores {X : Type 0} (graphs : Graphs) (old new : Lent) (result : Re
   pub makes : MakesBans graphs old.known new.known old.ledger new.ledger old.bans new.bans result
   pub trials : OnOk result (AreTrials graphs.first new.vectors)
 
--- What a search does: claims were decided, and the bans are valid by their facts, whatever it answers; and a match that it
--- answers is shown, or a ban without pairs.
+-- What a search does: claims were decided, and the bans are valid by their facts, whatever it answers; and a match that
+-- it answers is shown, or a ban without pairs.
 pub record Searches (graphs : Graphs) (old new : Known) (before after : Ledgered) (bans : List Ban) (result : Result Found Stop)
     : Type 0 where
   pub serves : Serves old new before after result

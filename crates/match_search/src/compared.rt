@@ -10,7 +10,7 @@ pub(crate) struct ComparedPairs {
 }
 
 impl ComparedPairs {
-    /// None was, of circuits with this many inputs and outputs.
+    /// No pair was compared yet. The circuits have this many inputs and outputs.
     pub(crate) fn new(
         alloc: Global,
         inputs: u32,

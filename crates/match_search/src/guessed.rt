@@ -17,8 +17,8 @@ use query_core::Ledger;
 use std::alloc::Global;
 use watch_core::Stage;
 
-/// How many guessed matchings are compared. Each is right on the vectors that showed the ones before it to be wrong, so
-/// that it isn't wrong for what they were; that they are 16 was chosen, and not measured.
+/// How many guessed matchings are compared. Each is right on the vectors on which the ones before it are wrong, so that
+/// none repeats a mistake. That there are 16 was chosen, and not measured.
 const MOST_GUESSES: u32 = 16;
 
 /// What a guess comes to.

@@ -84,8 +84,8 @@ impl Guide {
         self.rounds.advance();
     }
 
-    /// Notes that the search begins anew, with no pair assigned and no ban, so that no output has its tallies. What was
-    /// learned of the ports, as their weights, stays.
+    /// Notes that the search begins again, with no pair assigned and no ban, so that no output has its tallies. What
+    /// was learned of the ports, as their weights, stays.
     pub fn begin_anew(&mut self) {
         self.room = BanRoom::new();
         self.tallied = 0;

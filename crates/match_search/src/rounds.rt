@@ -1,7 +1,7 @@
 //! How long a search goes on before it starts over.
 
 /// How many conflicts the shortest rounds have. With 32 a near miss of a comparator of 16 words, one of a rotation of
-/// 32 bits and others took half as long again, since all that follows of the first pairs is deleted anew.
+/// 32 bits and others took half as long again, since all that follows of the first pairs is deleted again.
 const SHORTEST: u64 = 100;
 
 /// In every other round an output counts as if it had this many times its ways. Once inputs have pairs, the partners of

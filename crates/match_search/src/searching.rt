@@ -27,14 +27,14 @@ const MOST_TRIES: u32 = 32;
 /// million conflicts, hours of work.
 const MOST_ROUNDS: u64 = 10_000;
 
-/// How often the search begins anew with no bans, once they take all their room, which takes some seconds at least.
+/// How often the search begins again with no bans, once they take all their room, which takes some seconds at least.
 /// After the last time it goes on without letting bans go: then less is left after each turn, so that it ends.
 const MOST_TIMES: u64 = 10_000;
 
 /// Looks for a match of two circuits with as many ports, as conflict-driven solvers look for models, unless counts of
 /// inputs refuse one at once. Ports are decided one by one, and bans and ports with one way left are propagated. From a
 /// conflict a ban is learned that leads as far back as it can. Pairs are tried on vectors, and the outputs of whole
-/// matchings are compared. Another seed draws other vectors. `docs/SEARCH.md` tells how, and why it ends.
+/// matchings are compared. Another seed draws other vectors. `docs/SEARCH.md` says how, and why it ends.
 ///
 /// The book's bans are valid in view of the oracle's facts, whatever is answered. A ban by a vector is a last resort:
 /// the claims of one input of its two outputs are decided, and neither a mismatch of these nor a tally is valid for its
@@ -99,8 +99,8 @@ fn search_all<O: Oracle>(
 /// variables, until a match is found, or a ban without pairs. The heuristic state comes from the caller, and there may
 /// be bans already. Where a match is found, the claims of one input of all outputs are decided.
 ///
-/// Bans that take all their room are let go, and the search begins anew. A ban without pairs rests on those of its book
-/// alone, so nothing that it needs is gone.
+/// Bans that take all their room are let go, and the search begins again. A ban without pairs rests on those of its
+/// book alone, so nothing that it needs is gone.
 ///
 /// # Errors
 ///

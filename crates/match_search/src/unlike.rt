@@ -92,7 +92,7 @@ fn broken_beside(claims: &BrokenClaims, pair: Pair, side: Side, port: u32) -> u8
     }
 }
 
-// Lists those of a port of the first circuit and each of some of the second.
+// Lists the pairs of a port of the first circuit and each of some of the second whose broken claims differ.
 fn list_port(
     domains: &Domains,
     pair: Pair,
@@ -120,7 +120,8 @@ fn exchanged(broken: u8) -> u8 {
     }
 }
 
-// Lists the way of two ports whose sign, with that of an assigned pair, is such, if it is open.
+// Lists the pair of two ports, if it is open. Its sign is that of the assigned pair, or the opposite one where `sign`
+// is true.
 fn list_way(
     domains: &Domains,
     pair: Pair,

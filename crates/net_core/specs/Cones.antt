@@ -1,4 +1,5 @@
--- The cone of an output: the gates that it reaches through operands (the transitive fan-in of textbooks of logic synthesis).
+-- The cone of an output: the gates that it reaches through operands (the transitive fan-in of textbooks of logic
+-- synthesis).
 use Rattle.std.specs.Prelude.{◌≡◌, ◌⊎◌, ◌↔◌, ℕ, ◌+◌, ◌-◌, ◌<◌, ◌≤◌, eqb, Bool, true, false, List, [], ◌∷◌, ◌++◌, length, All, Contains, slice_index_or}
 use Rattle.std.specs.Prelude.{slice_set}
 use Rattle.std.specs.List.{IsDistinct}
@@ -10,8 +11,8 @@ use Rattle.circuits.specs.Netlists.{Net}
 abbrev pub output_signal : Net → ℕ → ℕ
 output_signal net k = signal_of (slice_index_or net.outputs k (record { 0 = 0 }))
 
--- A set of signals, as a bit for each, is closed under operands: with a gate's signal it has the signals of both operands.
--- Gate 0 has the signal `first`.
+-- A set of signals, as a bit for each, is closed under operands: with a gate's signal it has the signals of both
+-- operands. Gate 0 has the signal `first`.
 abbrev pub HasOperands : ℕ → List Gate → List Bool → Type 0
 HasOperands first gates set = EachAt (λ t gate. bit set (first + t) ≡ true
     → (bit set (signal_of gate.a) ≡ true) × (bit set (signal_of gate.b) ≡ true)) gates

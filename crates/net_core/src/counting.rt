@@ -8,7 +8,7 @@ use crate::plain_net::PlainNet;
 use circuits::{Def, Trit};
 use items::Items;
 
-/// How many gates a netlist has. A count that no `usize` holds is given as the greatest one.
+/// How many gates a netlist has. A count that fits no `usize` is given as the greatest one.
 pub(crate) fn gate_count(net: &PlainNet) -> usize
     ensures { result ≡ min (gates_in net.now) (2 ^ 64 - 1) }
 {

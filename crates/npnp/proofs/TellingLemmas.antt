@@ -1,17 +1,17 @@
--- What a run tells is what was answered.
+-- What a run reports is what was answered.
 use Rattle.std.proofs.Common.{◌≡◌, inl, inr, ℕ, List, Option, sym, subst, ◌∙◌}
-use Rattle.run_steps.specs.Outcomes.{IsSoundAnswer, IsTold}
-use Rattle.run_steps.specs.Steps.{TellsLine}
+use Rattle.run_steps.specs.Outcomes.{IsSoundAnswer, IsReported}
+use Rattle.run_steps.specs.Steps.{SaysLine}
 use Rattle.check_steps.specs.declared.outcome.Ending.{Ending}
 use Rattle.check_steps.specs.declared.outcome.Outcome.{Outcome}
 use Rattle.check_steps.specs.declared.outcome.Outcome.TheVariants.{Memory}
 
--- an outcome that is told whole is the one that was answered
-pub answered_as : {told answered outcome : Outcome} → (IsTold told → told ≡ answered) → IsTold outcome → told ≡ outcome → answered ≡ outcome
-answered_as same whole is = sym (same (subst IsTold (sym is) whole)) ∙ is
+-- an outcome that is reported whole is the one that was answered
+pub answered_as : {reported answered outcome : Outcome} → (IsReported reported → reported ≡ answered) → IsReported outcome → reported ≡ outcome → answered ≡ outcome
+answered_as same whole is = sym (same (subst IsReported (sym is) whole)) ∙ is
 
--- what holds of an outcome, and where memory runs out, holds of what its line tells
-pub by_line : (P : Outcome → Type 0) {outcome : Outcome} (ending : Ending) → TellsLine outcome ending → P outcome → P Memory → P ending.outcome
+-- what holds of an outcome, and where memory runs out, holds of what its line says
+pub by_line : (P : Outcome → Type 0) {outcome : Outcome} (ending : Ending) → SaysLine outcome ending → P outcome → P Memory → P ending.outcome
 by_line P ending (inl line) one memory = subst P (sym line.0) one
 by_line P ending (inr is) one memory = subst P (sym is) memory
 

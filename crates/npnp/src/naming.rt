@@ -29,12 +29,9 @@ fn partners(
     names: &[Name],
     others: &[Name],
 ) -> Result<Option<Items<(u32, bool)>>, AllocError> {
-    let mut places = IndexSet::new(alloc);
-    for other in others.iter() {
-        if !add_name(&mut places, other)? {
-            return Ok(None);
-        }
-    }
+    let Some(places) = places_of(alloc, others)? else {
+        return Ok(None);
+    };
     let mut partners = Items::new(alloc);
     for name in names.iter() {
         let Some(place) = place_of(&places, name) else {
@@ -43,6 +40,20 @@ fn partners(
         partners.push((place, false))?;
     }
     Ok(Some(partners))
+}
+
+// Names by their places, unless two are the same.
+fn places_of<'a>(
+    alloc: Global,
+    names: &'a [Name],
+) -> Result<Option<IndexSet<&'a [u8]>>, AllocError> {
+    let mut places = IndexSet::new(alloc);
+    for name in names.iter() {
+        if !add_name(&mut places, name)? {
+            return Ok(None);
+        }
+    }
+    Ok(Some(places))
 }
 
 // Adds a name, and answers whether it is a new one.

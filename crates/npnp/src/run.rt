@@ -16,11 +16,11 @@ ghost use Rattle.run_steps.specs.Match.{HasNoMatch, IsAskedToMatch, IsMatchFound
 ghost use Rattle.check_steps.specs.Ends.{EndsEarly, IsAbsent};
 ghost use Rattle.run_steps.specs.Outcomes.{FollowsWords, IsAskedOf, IsDecided, IsOfMatch, IsOfTrial, IsRight};
 ghost use Rattle.run_steps.specs.Outcomes.{IsSettled};
-ghost use Rattle.run_steps.specs.Outcomes.{IsSoundAnswer, IsSpentOn, IsTold, Leaves, LeavesFiles, MayBeCut};
+ghost use Rattle.run_steps.specs.Outcomes.{IsSoundAnswer, IsSpentOn, IsReported, Leaves, LeavesFiles, MayBeCut};
 ghost use Rattle.run_steps.specs.Restore.{AsChecked, HasRestored, IsRestorable, NamesRestored};
 ghost use Rattle.run_steps.specs.Report.{IsReport};
 ghost use Rattle.check_steps.specs.Lines.{line_of};
-ghost use Rattle.run_steps.specs.Steps.{Decides, TellsLine, PutsText, WritesPart};
+ghost use Rattle.run_steps.specs.Steps.{Decides, SaysLine, PutsText, WritesPart};
 ghost use Rattle.npnp.specs.CommandLine.{bytes_of};
 ghost use Rattle.run_steps.specs.Commands.{IsTrialCommand};
 ghost use Rattle.run_steps.specs.Trial.{IsSpentOnPair, IsTried};
@@ -66,7 +66,7 @@ const OUT_OF_MEMORY: &[u8] = b"out of memory\n";
 /// bytes, and its last line by itself. The files of a pair, and a netlist that is restored, are written one after the
 /// other in such pieces. After a failure no further call of the shelf is made.
 ///
-/// The sink is told what the run is at, and gets the report at the end.
+/// The sink gets what the run is at, and gets the report at the end.
 ///
 /// What is promised of files is promised on a shelf that tells its files (`S.tells`), as one in memory, and what is
 /// promised of the report's bytes on a sink that tells them (`K.tells`). A disk and standard output tell nothing.
@@ -145,7 +145,7 @@ pub fn run<S: Shelf, K: Sink>(
 
     // A pair is made exactly where the words ask for one, unless a write failed or memory ran out. The two files are
     // then the pair as it is printed, which is read as circuits of the pair's functions, and these have a match.
-    ensures made { IsTold result → ((result ≡ Outcome.Made) ↔ AskForPair (bytes_of words.now)) }
+    ensures made { IsReported result → ((result ≡ Outcome.Made) ↔ AskForPair (bytes_of words.now)) }
     ensures pair { IsTrue S.tells → result ≡ Outcome.Made → HasMadePair (S.state shelf.new).held (bytes_of words.now) }
 
     // A netlist is restored exactly where the words ask for it and a check by the first three names accepts the
@@ -163,11 +163,11 @@ pub fn run<S: Shelf, K: Sink>(
     // pair.
     ensures tried { (number : ℕ) (account : List ℕ) → result ≡ Outcome.Tried number account
         → IsTried (bytes_of words.now) number account }
-    ensures trial { IsTold result → (number : ℕ) → AsksTrial (bytes_of words.now) number → IsOfTrial number result }
+    ensures trial { IsReported result → (number : ℕ) → AsksTrial (bytes_of words.now) number → IsOfTrial number result }
 
     // The words have no known form exactly where that is answered, unless the report can't be put. Such words, and
     // those of a trial, lead to no call of the shelf.
-    ensures usage { IsTold result → ((result ≡ Outcome.Usage) ↔ AskNothing (bytes_of words.now)) }
+    ensures usage { IsReported result → ((result ≡ Outcome.Usage) ↔ AskNothing (bytes_of words.now)) }
     ensures no_call { AskNothing (bytes_of words.now) → shelf.new ≡ shelf.old }
     ensures trial_no_call { (number : ℕ) → AsksTrial (bytes_of words.now) number → shelf.new ≡ shelf.old }
 
@@ -201,7 +201,7 @@ pub fn run<S: Shelf, K: Sink>(
         → MayBeCut (S.state shelf.old).held (S.state shelf.new).held (bytes_of words.now) }
 
     // The report is put whole, or after a failed write or running out of memory a first part of a right one.
-    ensures report { IsTrue K.tells → IsTold result
+    ensures report { IsTrue K.tells → IsReported result
         → (text : List ℕ)
         × IsReport S.tells (S.state shelf.old).held (bytes_of words.now) result text
         × ((K.state out.new).written ≡ (K.state out.old).written ++ text) }
@@ -276,7 +276,7 @@ fn follow<S: Shelf, W: Watch>(
 
 /// The end of a run with an outcome whose report is one line.
 fn end_by_line(alloc: Global, outcome: Outcome) -> Ending
-    ensures { TellsLine outcome result }
+    ensures { SaysLine outcome result }
 {
     match report_line(alloc, &outcome) {
         Ok(report) => Ending { outcome, report },
@@ -289,13 +289,13 @@ fn end_by_line(alloc: Global, outcome: Outcome) -> Ending
 
 /// Puts the report of an ending, and answers how the run ends with that. After a failed write of a file nothing is put.
 fn tell<K: Sink>(ending: Ending, out: &mut K) -> Outcome
-    ensures report { IsTrue K.tells → IsTold result
+    ensures report { IsTrue K.tells → IsReported result
         → (K.state out.new).written ≡ (K.state out.old).written ++ ending.report.items }
     ensures part { IsTrue K.tells
         → ((ending.outcome ≢ Outcome.Memory)
         × WritesPart (K.state out.old) (K.state out.new) ending.report.items)
         ⊎ WritesPart (K.state out.old) (K.state out.new) (line_of Outcome.Memory) }
-    ensures same { IsTold result → result ≡ ending.outcome }
+    ensures same { IsReported result → result ≡ ending.outcome }
     ensures write_fault { result ≡ Outcome.WriteFault
         → ((ending.outcome ≡ Outcome.WriteFault) × (out.new ≡ out.old))
         ⊎ Rose (K.state out.old).faults (K.state out.new).faults }

@@ -1,4 +1,4 @@
-//! What a long run is at, told on standard error.
+//! What a long run is at, printed on standard error.
 
 use crate::asked::is_asked;
 use std::cell::Cell;
@@ -10,19 +10,19 @@ use watch_core::{Stage, Watch};
 /// The variable of the environment that asks for it, by the value 1, or forbids it by 0.
 const VARIABLE: &str = "NPNP_PROGRESS";
 
-/// Nothing is told before a run has taken this many seconds, since most runs are over then; and after that once in
+/// Nothing is printed before a run has taken this many seconds, since most runs are over then; and after that once in
 /// each.
 const FIRST: u64 = 2;
 
 const BETWEEN: u64 = 1;
 
-/// A watcher that tells standard error now and then what a run is at.
+/// A watcher that prints on standard error now and then what a run is at.
 #[derive(Drop)]
 pub(crate) struct Progress<R> {
     rt: R,
-    /// When the run began; None where nothing is to be told.
+    /// When the run began; None where nothing is to be printed.
     start: Option<Instant>,
-    /// The time since then from which on the next line is told.
+    /// The time since then from which on the next line is printed.
     due: Cell<Duration>,
     /// The last stage, except that clauses were learned for it.
     stage: Cell<Stage>,
@@ -31,7 +31,7 @@ pub(crate) struct Progress<R> {
 }
 
 impl Progress<HostRuntime> {
-    /// It tells where standard error is a terminal, or the environment asks for it.
+    /// It prints where standard error is a terminal, or the environment asks for it.
     pub(crate) fn new(rt: &HostRuntime) -> io::Result<Progress<HostRuntime>> {
         let start = if is_asked(rt, VARIABLE) {
             Instant::now(rt).ok()

@@ -8,33 +8,33 @@ use Rattle.pair_domains.specs.Numbers.{pair_number, pairs_of_ports, port_number}
 use Rattle.pair_domains.specs.Trails.{AreEntries, IsFreePort, IsAssignedAt, IsOpen, IsPairOf, IsPlace, gone_in, assigned_in, ports_of}
 
 -- where the entry of a pair stands, if it has one
-pub record TellsPlace (entries : List Entry) (pair : Pair) (place : Option ℕ) : Type 0 where
+pub record IsPlaceOf (entries : List Entry) (pair : Pair) (place : Option ℕ) : Type 0 where
   pub found : IfSome place (IsPlace entries pair)
   pub none : IfNone place (IsOpen entries pair)
 
 -- the pair of a port that is assigned, if there is one
-pub record TellsAssigned (entries : List Entry) (side : Side) (kind : PortKind) (port : ℕ) (pair : Option Pair) : Type 0 where
+pub record IsPairAt (entries : List Entry) (side : Side) (kind : PortKind) (port : ℕ) (pair : Option Pair) : Type 0 where
   pub found : IfSome pair (IsAssignedAt entries side kind port)
   pub none : IfNone pair (IsFreePort entries side kind port)
 
 -- the place of each pair's entry
 pub record ArePlaces (inputs outputs : ℕ) (entries : List Entry) (places : List (Option ℕ)) : Type 0 where
   pub size : length places ≡ pairs_of_ports inputs outputs
-  pub tells : (pair : Pair)
+  pub each : (pair : Pair)
       → IsPairOf inputs outputs pair
-      → TellsPlace entries pair (slice_index_or places (pair_number inputs outputs pair) None)
+      → IsPlaceOf entries pair (slice_index_or places (pair_number inputs outputs pair) None)
 
 -- the assigned pair of each port
 pub record ArePairsAt (inputs outputs : ℕ) (entries : List Entry) (assigned : List (Option Pair)) : Type 0 where
   pub size : length assigned ≡ 2 * inputs + 2 * outputs
-  pub tells : (side : Side) (kind : PortKind) (port : ℕ)
+  pub each : (side : Side) (kind : PortKind) (port : ℕ)
       → port < ports_of inputs outputs kind
-      → TellsAssigned entries side kind port (slice_index_or assigned (port_number inputs outputs side kind port) None)
+      → IsPairAt entries side kind port (slice_index_or assigned (port_number inputs outputs side kind port) None)
 
 -- how many pairs of each port are deleted
 pub record AreCounts (inputs outputs : ℕ) (entries : List Entry) (gone : List ℕ) : Type 0 where
   pub size : length gone ≡ 2 * inputs + 2 * outputs
-  pub tells : (side : Side) (kind : PortKind) (port : ℕ)
+  pub each : (side : Side) (kind : PortKind) (port : ℕ)
       → port < ports_of inputs outputs kind
       → slice_index_or gone (port_number inputs outputs side kind port) 0 ≡ gone_in entries side kind port
 

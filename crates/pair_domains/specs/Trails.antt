@@ -1,5 +1,5 @@
--- Signed pairs that are assigned or deleted, in order (the trail of Marques-Silva and Sakallah, GRASP, 1999, over the candidate pairs of Katebi and Markov,
--- DATE 2010).
+-- Signed pairs that are assigned or deleted, in order (the trail of Marques-Silva and Sakallah, GRASP, 1999, over the
+-- candidate pairs of Katebi and Markov, DATE 2010).
 use Rattle.std.specs.Prelude.{◌≡◌, ◌≢◌, ℕ, ◌<◌, ◌==◌, ◌&&◌, Bool, true, false, not, List, length, map, filter, count_by, All, AllPairs, Contains}
 use Rattle.std.specs.Prelude.{slice_index_or}
 use Rattle.circuits.specs.declared.port.Pair.{Pair}

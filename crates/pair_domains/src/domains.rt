@@ -5,7 +5,7 @@ ghost use Rattle.std.specs.Prelude.{IfSome, IsTrue, None, OnErr, OnOk, Option, f
 ghost use Rattle.std.specs.Prelude.{slice_index_or, take};
 ghost use Rattle.circuits.specs.declared.port.Pair.{Pair as AnyPair};
 ghost use Rattle.net_core.specs.declared.graphs.Side.TheVariants.{First, Second};
-ghost use Rattle.pair_domains.specs.Kept.{TellsAssigned, TellsPlace};
+ghost use Rattle.pair_domains.specs.Kept.{IsPairAt, IsPlaceOf};
 ghost use Rattle.pair_domains.specs.Trails.{AreDomains, IsDeleted, IsFreePort, IsOpen, IsPairOf, gone_in, assigned_in};
 ghost use Rattle.pair_domains.specs.Trails.{ports_of};
 ghost use Rattle.account_core.specs.Assigned.{AreApart};
@@ -106,7 +106,7 @@ impl Domains {
     /// Where the entry of a pair stands, or None exactly where the pair is open.
     pub fn place(&self, pair: Pair) -> Option<usize>
         requires { IsPairOf self.now.inputs self.now.outputs pair }
-        ensures { TellsPlace self.now.entries pair result }
+        ensures { IsPlaceOf self.now.entries pair result }
     {
         self.places[pair_number(self.inputs, self.outputs, pair)]
     }
@@ -149,7 +149,7 @@ impl Domains {
     /// The assigned pair of a port of a circuit, or None exactly where there is none.
     pub fn assigned(&self, side: Side, kind: PortKind, port: u32) -> Option<Pair>
         requires { port < ports_of self.now.inputs self.now.outputs kind }
-        ensures { TellsAssigned self.now.entries side kind port result }
+        ensures { IsPairAt self.now.entries side kind port result }
     {
         self.pairs_at[port_number(self.inputs, self.outputs, side, kind, port)]
     }

@@ -1,4 +1,5 @@
--- The assigned pairs of a conflict, and where to go back to (conflict clauses and the first unique implication point: Marques-Silva and Sakallah, GRASP, 1999).
+-- The assigned pairs of a conflict, and where to go back to (conflict clauses and the first unique implication point:
+-- Marques-Silva and Sakallah, GRASP, 1999).
 use Rattle.std.specs.Prelude.{◌≡◌, ◌≢◌, ℕ, ◌<◌, ◌≤◌, List, [], ◌∷◌, length, take, Contains, slice_index_or}
 use Rattle.circuits.specs.declared.port.Pair.{Pair}
 use Rattle.net_core.specs.Sides.{Graphs}

@@ -19,7 +19,7 @@ abbrev pub in_order : PortKind → Pair → Pair → List Pair
 in_order Input pair with = pair ∷ with ∷ []
 in_order Output pair with = with ∷ pair ∷ []
 
--- the ban of two pairs of which facts tell that no match has both
+-- the ban of two pairs of which facts show that no match has both
 abbrev pub mismatch_ban : Pair → Pair → ℕ → ℕ → Ban
 mismatch_ban pair with fails holds = record { pairs = in_order pair.kind pair with; step = step.Mismatch fails holds }
 
@@ -39,8 +39,8 @@ pub record AreGrounded (graphs : Graphs) (facts : List Decided) (entries : List 
 pub record StayGrounded (before after : List Entry) : Type 0 where
   pub stay : (graphs : Graphs) (facts : List Decided) → AreGrounded graphs facts before → AreGrounded graphs facts after
 
--- Bans came after those that were kept, and no vector shows them. Where those before were valid all are, in view of any facts that show the deletions by
--- mismatches.
+-- Bans came after those that were kept, and no vector shows them. Where those before were valid all are, in view of any
+-- facts that show the deletions by mismatches.
 pub record LearnsMore (graphs : Graphs) (entries : List Entry) (before after : List Ban) : Type 0 where
   pub added : List Ban
   pub more : after ≡ before ++ added

@@ -1,5 +1,5 @@
--- That what became of each pair follows from what stands before it (the implication graph of Marques-Silva and Sakallah, GRASP,
--- 1999).
+-- That what became of each pair follows from what stands before it (the implication graph of Marques-Silva and
+-- Sakallah, GRASP, 1999).
 use Rattle.std.specs.Prelude.{ℕ, ⊤, List, take, Some}
 use Rattle.circuits.specs.declared.port.Pair.{Pair}
 use Rattle.circuits.specs.Literals.{EachAt}
@@ -15,8 +15,8 @@ use Rattle.pair_domains.specs.Trails.{Domained, IsDeleted, assigned_in, ports_of
 use Rattle.pair_search.specs.ConflictSets.{FitPorts}
 use Rattle.pair_search.specs.Named.{AreNamed, EachWay, IsLeftOutOr}
 
--- what became of a pair follows: a choice from nothing, the last way of a port from the deletions of all others, and a deletion from the assigned pairs that
--- its reason names
+-- what became of a pair follows: a choice from nothing, the last way of a port from the deletions of all others, and a
+-- deletion from the assigned pairs that its reason names
 abbrev pub IsJustified : ℕ → ℕ → List Ban → List Entry → Pair → Fate → Type 0
 IsJustified inputs outputs bans before pair (Assigned Choice) = ⊤
 IsJustified inputs outputs bans before pair (Assigned (LastWay side)) =

@@ -1,4 +1,5 @@
--- The assigned pairs that the reasons of deletions name (nodes of the implication graph of Marques-Silva and Sakallah, GRASP, 1999).
+-- The assigned pairs that the reasons of deletions name (nodes of the implication graph of Marques-Silva and Sakallah,
+-- GRASP, 1999).
 use Rattle.std.specs.Prelude.{◌≡◌, ◌⊎◌, ℕ, ◌*◌, ◌<◌, List, ◌∷◌, All, Contains, Option, None, Some}
 use Rattle.std.specs.List.{AllZip}
 use Rattle.circuits.specs.declared.port.Pair.{Pair}
@@ -31,8 +32,8 @@ IsNamedIn bans entries pairs pair = (why : Reason) × Contains entries (deleted 
 abbrev pub EachWay : Port → ℕ → (Pair → Type 0) → Type 0
 EachWay port count P = (number : ℕ) → number < 2 * count → P (nth_way port.side port.kind port.number number)
 
--- a way is impossible beside pairs, or it is deleted, and what its reason names is among them; or a ban that is noted has no other
--- pairs than it and them
+-- a way is impossible beside pairs, or it is deleted, and what its reason names is among them; or a ban that is noted
+-- has no other pairs than it and them
 abbrev pub IsGathered : List Ban → List Entry → List Pair → Pair → Option ℕ → Type 0
 IsGathered bans entries pairs way None = IsImpossible pairs way ⊎ IsNamedIn bans entries pairs way
 IsGathered bans entries pairs way (Some number) = Covers bans (way ∷ pairs) number
@@ -55,7 +56,8 @@ AreWaysNamed bans domains port skipped pairs =
 abbrev pub AreAllNamed : List Ban → List Entry → List Pair → Option Pair → List Pair → Type 0
 AreAllNamed bans entries ways skipped pairs = All (λ way. IsLeftOutOr skipped way (IsNamedIn bans entries pairs way)) ways
 
--- each of some ways but the one that is left out is impossible beside pairs, or deleted as those are, or has a noted ban
+-- each of some ways but the one that is left out is impossible beside pairs, or deleted as those are, or has a noted
+-- ban
 abbrev pub AreAllGathered : List Ban → List Entry → List Pair → Option Pair → List Pair → List (Option ℕ) → Type 0
 AreAllGathered bans entries ways skipped pairs noted =
     AllZip (λ way number. IsLeftOutOr skipped way (IsGathered bans entries pairs way number)) ways noted

@@ -1,4 +1,5 @@
--- What is done about the latest pair of a conflict (the first unique implication point: Marques-Silva and Sakallah, GRASP, 1999).
+-- What is done about the latest pair of a conflict (the first unique implication point: Marques-Silva and Sakallah,
+-- GRASP, 1999).
 use Rattle.std.specs.Prelude.{ℕ, List, ◌∷◌, take, All, Contains, slice_index_or}
 use Rattle.circuits.specs.declared.port.Pair.{Pair}
 use Rattle.pair_domains.specs.declared.entry.Entry.{Entry}

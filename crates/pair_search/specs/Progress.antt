@@ -1,5 +1,5 @@
--- How much of a search is left: a number in a mixed radix that has a digit for each level, how many pairs are open where it
--- ends (levels of decisions: Marques-Silva and Sakallah, GRASP, 1999).
+-- How much of a search is left: a number in a mixed radix that has a digit for each level, how many pairs are open
+-- where it ends (levels of decisions: Marques-Silva and Sakallah, GRASP, 1999).
 use Rattle.std.specs.Prelude.{◌≡◌, ℕ, suc, zero, ◌+◌, ◌-◌, ◌*◌, ◌≤◌, Bool, true, false, cond, List, [], ◌∷◌, ◌++◌}
 use Rattle.account_core.specs.declared.step.Ban.{Ban}
 use Rattle.pair_domains.specs.declared.entry.Entry.{Entry}
@@ -58,8 +58,8 @@ pub record Propagates (bans : List Ban) (before after : Domained) : Type 0 where
   pub grounded : StayGrounded before.entries after.entries
   pub less : left after ≤ left before
 
--- The circuits stay. What became of each pair follows from what stands before it, and whatever facts showed the deletions by
--- mismatches before, they show those after too.
+-- The circuits stay. What became of each pair follows from what stands before it, and whatever facts showed the
+-- deletions by mismatches before, they show those after too.
 pub record StaysJustified (bans : List Ban) (before after : Domained) : Type 0 where
   pub inputs : after.inputs ≡ before.inputs
   pub outputs : after.outputs ≡ before.outputs

@@ -56,6 +56,7 @@ fn are_others_assigned(domains: &Domains, pairs: &[Pair], way: Pair) -> bool
     true
 }
 
+// Whether a pair is assigned, or is this one.
 fn is_assigned_or(domains: &Domains, pair: Pair, way: Pair) -> bool
     ensures { IsTrue result → Contains (way ∷ assigned_in domains.now.entries) pair }
 {

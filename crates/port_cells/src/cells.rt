@@ -214,7 +214,7 @@ fn are_alike(left: &[Ranked], right: &[Ranked]) -> bool {
     true
 }
 
-// Numbers the classes of sorted literals, and tells how many there are.
+// Numbers the classes of sorted literals, and says how many there are.
 fn number_classes(ranked: &[Ranked], cells: &mut [usize]) -> usize {
     let mut count = 0usize;
     for place in 0..ranked.len() {

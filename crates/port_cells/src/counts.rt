@@ -125,7 +125,7 @@ impl Counter {
     }
 
     /// In which directions outputs were seen to change with inputs: each count is 0 or 1, whatever the vectors were
-    /// drawn by. How often outputs are true isn't told.
+    /// drawn by. How often outputs are true isn't counted.
     pub fn signs(&self, alloc: Global) -> Result<Counts, AllocError> {
         let mut of_inputs = Items::new(alloc);
         for influences in self.of_inputs.iter() {

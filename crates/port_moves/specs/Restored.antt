@@ -9,7 +9,8 @@ pub record AreEqual (one other : Net) : Type 0 where
   pub outputs : length other.outputs ≡ length one.outputs
   pub functions : (x : List Bool) → length x ≡ one.inputs → function_of other x ≡ function_of one x
 
--- the same, said of circuits with definitions in any order: under the valuations that meet all definitions of either at once
+-- the same, said of circuits with definitions in any order: under the valuations that meet all definitions of either at
+-- once
 pub record ComputeTheSame (one other : Circuit) : Type 0 where
   pub inputs : other.inputs ≡ one.inputs
   pub outputs : length other.outputs ≡ length one.outputs

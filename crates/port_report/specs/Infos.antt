@@ -1,5 +1,5 @@
--- The report of a circuit's functions: which inputs each output depends on, how, and which pairs of them are alike (this
--- project's own text).
+-- The report of a circuit's functions: which inputs each output depends on, how, and which pairs of them are alike
+-- (this project's own text).
 use Rattle.std.specs.Prelude.{ℕ, ◌+◌, ◌<◌, List, [], ◌∷◌, ◌++◌, length, codes, All}
 use Rattle.std.specs.Fmt.{decimal}
 use Rattle.net_file.specs.declared.named.Named.{Named}

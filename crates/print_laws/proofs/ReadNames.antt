@@ -1,4 +1,4 @@
--- A symbol's line can hold each name that a file gives a port, but for a carriage return at its end.
+-- A symbol's line can have each name that a file gives a port, but for a carriage return at its end.
 use Rattle.std.proofs.Common.{◌≡◌, ◌≢◌, ℕ, ◌+◌, ◌-◌, ◌<◌, ◌≤◌, ◌^◌, ◌==◌, Bool, true, false, cond, List, [], ◌∷◌, ◌++◌, length, get_or, set, take, drop, map, All, inl, inr, if◌then◌else◌, refl, sym, ap, subst, ◌∙◌, arith}
 use Rattle.std.specs.Fmt.{decimal}
 use Rattle.std.specs.List.{before_first, onto_first, position_or_len, slice_split}
@@ -37,7 +37,7 @@ IsNameOnLine name = (name ≢ []) × IsLine name
 abbrev IsNoFeed : ℕ → Type 0
 IsNoFeed byte = is_line_feed byte ≡ false
 
--- a symbol's line can hold such a name as it is printed
+-- a symbol's line can have such a name as it is printed
 
 last_byte : (name : List ℕ) (front : List ℕ) (byte : ℕ) → name ≡ front ++ byte ∷ [] → get_or name (length name - 1) 0 ≡ byte
 last_byte name front byte is =

@@ -1,17 +1,18 @@
--- Which netlists and names an AIGER file can hold, within the limits of the reader.
+-- Which netlists and names an AIGER file can have, within the limits of the reader.
 use Rattle.std.specs.Prelude.{◌≡◌, ◌≢◌, ◌-◌, ℕ, ◌≤◌, ◌==◌, List, [], ◌∷◌, ◌++◌, length, slice_index_or, slice_set, All, if◌then◌else◌}
 use Rattle.text_core.specs.Lines.{IsLine}
 use Rattle.circuits.specs.Netlists.{Net, IsOrdered}
 use Rattle.net_core.specs.Limits.{most_gates, most_ports}
 use Rattle.net_file.specs.declared.named.Named.{Named}
 
--- A name that a symbol's line can hold: it isn't empty, has no line feed, and no carriage return at its end.
+-- A name that a symbol's line can have: it isn't empty, has no line feed, and no carriage return at its end.
 pub record IsSymbolName (name : List ℕ) : Type 0 where
   pub filled : name ≢ []
   pub on_line : IsLine name
   pub no_return : (front : List ℕ) → name ≢ front ++ 13 ∷ []
 
--- a name as its symbol is printed: a carriage return at its end, which would be read as part of the line's end, becomes `_`
+-- a name as its symbol is printed: a carriage return at its end, which would be read as part of the line's end, becomes
+-- `_`
 abbrev pub symbol_name : List ℕ → List ℕ
 symbol_name name =
     if slice_index_or name (length name - 1) 0 == 13 then slice_set name (length name - 1) 95 else name

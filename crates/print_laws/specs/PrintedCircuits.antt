@@ -1,5 +1,5 @@
--- The netlist that a printed BLIF file is: a cover without rows for the constant, then a cover of one row for each gate and
--- for each output (Berkeley Logic Interchange Format, 1992).
+-- The netlist that a printed BLIF file is: a cover without rows for the constant, then a cover of one row for each gate
+-- and for each output (Berkeley Logic Interchange Format, 1992).
 use Rattle.std.specs.Prelude.{ℕ, ◌+◌, ◌==◌, true, List, [], ◌∷◌, ◌++◌, length, map, nat_lt, if◌then◌else◌}
 use Rattle.std.specs.List.{range_with_len}
 use Rattle.circuits.specs.declared.netlist.Lit.{Lit}

@@ -1,4 +1,4 @@
--- The clauses that are told of a claim's query are the query's, and a line whose hints are told is derived as the query has it.
+-- The clauses that are present of a claim's query are the query's, and a line whose hints are present is derived as the query has it.
 use Rattle.std.proofs.Common.{eq-eqb, eqb-true, le-ltb, lt-ltb, nat_eq, nat_lt, ◌≡◌, ◌⊎◌, ℕ, ◌+◌, ◌*◌, ◌-◌, ◌/◌, ◌<◌, ◌≤◌, ◌&&◌, ◌||◌, not, cond, Bool, true, false, List, [], ◌∷◌, ◌++◌, length, length-append, map, All, Contains, Option, Some, inl, inr, refl, sym, ap, subst, ◌∙◌, arith}
 use Rattle.std.specs.List.{list_all, list_any}
 use Rattle.std.proofs.lemmas.Bool.{and_parts, cases_lt}
@@ -29,37 +29,37 @@ use Rattle.claim_core.proofs.ClaimQueryLemmas.{claim_query_fits}
 use Rattle.claim_core.proofs.FormulaLemmas.{clause_below, count_of}
 use Rattle.cnf_core.proofs.LiteralLemmas.{variable_of-literal}
 use Rattle.query_core.specs.declared.variables.Variables.{Variables}
-use Rattle.query_core.specs.ClaimClauses.{gate_of, is_of_marked, told_clause, told_formula, tells, IsMarkedCone, IsTelling, Telling}
+use Rattle.query_core.specs.ClaimClauses.{gate_of, is_of_marked, present_clause, present_formula, is_present, IsMarkedCone, IsPartialQuery, PartialQuery}
 use Rattle.query_core.specs.Variables.{clauses_over}
 use Rattle.query_core.proofs.ConeIdLemmas.{cone_ids_are}
 use Rattle.query_core.proofs.VariableLemmas.{clauses_are, cone_clause}
 
--- ---- a told clause is the query's
+-- ---- a present clause is the query's
 
-pub told_is : (telling : Telling) (id : ℕ) → tells telling id ≡ true → told_clause telling id ≡ clause_at (query_clauses telling.graphs telling.query) id
-told_is telling id is = ap (λ b. cond b (clause_at (query_clauses telling.graphs telling.query) id) (true_literal ∷ [])) is
+pub present_is : (part : PartialQuery) (id : ℕ) → is_present part id ≡ true → present_clause part id ≡ clause_at (query_clauses part.graphs part.query) id
+present_is part id is = ap (λ b. cond b (clause_at (query_clauses part.graphs part.query) id) (true_literal ∷ [])) is
 
-pub told_count : (telling : Telling) → length (told_formula telling).clauses ≡ length (query_clauses telling.graphs telling.query)
-told_count telling = length-map-range_with_len (told_clause telling) 0 (length (query_clauses telling.graphs telling.query))
+pub present_count : (part : PartialQuery) → length (present_formula part).clauses ≡ length (query_clauses part.graphs part.query)
+present_count part = length-map-range_with_len (present_clause part) 0 (length (query_clauses part.graphs part.query))
 
-pub told_at : (telling : Telling) (id : ℕ) → id < length (query_clauses telling.graphs telling.query) → clause_at (told_formula telling).clauses id ≡ told_clause telling id
-told_at telling id below =
-    get_or-map-range_with_len (told_clause telling) 0 (length (query_clauses telling.graphs telling.query)) id id [] below (omega arith)
+pub present_at : (part : PartialQuery) (id : ℕ) → id < length (query_clauses part.graphs part.query) → clause_at (present_formula part).clauses id ≡ present_clause part id
+present_at part id below =
+    get_or-map-range_with_len (present_clause part) 0 (length (query_clauses part.graphs part.query)) id id [] below (omega arith)
 
 -- so is that of a hint, whatever lines were taken
-hint_told : (telling : Telling) (taken : List (List SatLit)) (id : ℕ) → tells telling id ≡ true → clause_at ((told_formula telling).clauses ++ taken) id ≡ clause_at (query_clauses telling.graphs telling.query ++ taken) id
-hint_told telling taken id is =
-    let whole = query_clauses telling.graphs telling.query in
-    let told = (told_formula telling).clauses in
-    let count : length told ≡ length whole = told_count telling in
+hint_present : (part : PartialQuery) (taken : List (List SatLit)) (id : ℕ) → is_present part id ≡ true → clause_at ((present_formula part).clauses ++ taken) id ≡ clause_at (query_clauses part.graphs part.query ++ taken) id
+hint_present part taken id is =
+    let whole = query_clauses part.graphs part.query in
+    let present = (present_formula part).clauses in
+    let count : length present ≡ length whole = present_count part in
     elim (cases_lt id (length whole)) [
       | inl below ↦
-          get_or_append_left told taken [] id (omega (arith, below, count)) ∙ (told_at telling id below ∙ (told_is telling id is ∙ sym (get_or_append_left whole taken [] id below)))
+          get_or_append_left present taken [] id (omega (arith, below, count)) ∙ (present_at part id below ∙ (present_is part id is ∙ sym (get_or_append_left whole taken [] id below)))
       | inr after ↦
           let k = id - length whole in
           let here : id ≡ length whole + k = omega (arith, after) in
-          let there : id ≡ length told + k = omega (arith, after, count) in
-          ap (clause_at (told ++ taken)) there ∙ (get_or-append-add told taken k [] ∙ (sym (get_or-append-add whole taken k []) ∙ sym (ap (clause_at (whole ++ taken)) here)))
+          let there : id ≡ length present + k = omega (arith, after, count) in
+          ap (clause_at (present ++ taken)) there ∙ (get_or-append-add present taken k [] ∙ (sym (get_or-append-add whole taken k []) ∙ sym (ap (clause_at (whole ++ taken)) here)))
     ]
 
 after_same : (effect : Effect) (hints : List ℕ) (one other : SatLit → Option LineFault) → ((l : SatLit) → one l ≡ other l) → fault_after effect hints one ≡ fault_after effect hints other
@@ -68,32 +68,32 @@ after_same Conflict (hint ∷ hints) one other same = refl
 after_same (Makes l) hints one other same = same l
 after_same Neither hints one other same = refl
 
-hints_same : (telling : Telling) (taken : List (List SatLit)) (hints : List ℕ) (made : List SatLit) → list_all (tells telling) hints ≡ true → hint_fault ((told_formula telling).clauses ++ taken) made hints ≡ hint_fault (query_clauses telling.graphs telling.query ++ taken) made hints
-hints_same telling taken [] made told = refl
-hints_same telling taken (hint ∷ hints) made told =
-    let parts = and_parts (tells telling hint) (list_all (tells telling) hints) told in
-    let whole = query_clauses telling.graphs telling.query ++ taken in
-    let by_telling = (told_formula telling).clauses ++ taken in
-    let count : length by_telling ≡ length whole = omega (arith, length-append (told_formula telling).clauses taken, length-append (query_clauses telling.graphs telling.query) taken, told_count telling) in
+hints_same : (part : PartialQuery) (taken : List (List SatLit)) (hints : List ℕ) (made : List SatLit) → list_all (is_present part) hints ≡ true → hint_fault ((present_formula part).clauses ++ taken) made hints ≡ hint_fault (query_clauses part.graphs part.query ++ taken) made hints
+hints_same part taken [] made present = refl
+hints_same part taken (hint ∷ hints) made present =
+    let parts = and_parts (is_present part hint) (list_all (is_present part) hints) present in
+    let whole = query_clauses part.graphs part.query ++ taken in
+    let by_part = (present_formula part).clauses ++ taken in
+    let count : length by_part ≡ length whole = omega (arith, length-append (present_formula part).clauses taken, length-append (query_clauses part.graphs part.query) taken, present_count part) in
     let none : Option LineFault = Some fault.UnknownHint in
     let go : List (List SatLit) → SatLit → Option LineFault = λ clauses l. hint_fault clauses (made ++ l ∷ []) hints in
-    ap (λ n. cond (nat_lt hint n) (fault_after (effect_of made (clause_at by_telling hint)) hints (go by_telling)) none) count
-    ∙ (ap (λ c. cond (nat_lt hint (length whole)) (fault_after (effect_of made c) hints (go by_telling)) none) (hint_told telling taken hint parts.0)
-    ∙ ap (λ f. cond (nat_lt hint (length whole)) f none) (after_same (effect_of made (clause_at whole hint)) hints (go by_telling) (go whole) (λ l. hints_same telling taken hints (made ++ l ∷ []) parts.1)))
+    ap (λ n. cond (nat_lt hint n) (fault_after (effect_of made (clause_at by_part hint)) hints (go by_part)) none) count
+    ∙ (ap (λ c. cond (nat_lt hint (length whole)) (fault_after (effect_of made c) hints (go by_part)) none) (hint_present part taken hint parts.0)
+    ∙ ap (λ f. cond (nat_lt hint (length whole)) f none) (after_same (effect_of made (clause_at whole hint)) hints (go by_part) (go whole) (λ l. hints_same part taken hints (made ++ l ∷ []) parts.1)))
 
-pub told_fault : (telling : Telling) (taken : List (List SatLit)) (line : LogLine) → list_all (tells telling) line.hints ≡ true → line_fault (told_formula telling) taken line ≡ line_fault (formula_of telling.graphs telling.query) taken line
-told_fault telling taken line told =
-    let variables = (formula_of telling.graphs telling.query).variables in
+pub present_fault : (part : PartialQuery) (taken : List (List SatLit)) (line : LogLine) → list_all (is_present part) line.hints ≡ true → line_fault (present_formula part) taken line ≡ line_fault (formula_of part.graphs part.query) taken line
+present_fault part taken line present =
+    let variables = (formula_of part.graphs part.query).variables in
     ap (λ f. cond (list_any is_empty taken) (Some fault.Closed) (cond (not (list_all (λ literal. nat_lt (variable_of literal) variables) line.clause)) (Some fault.UnknownVariable) (cond (repeats_variable line.clause) (Some fault.TwiceVariable) f)))
-    (hints_same telling taken line.hints (map opposite line.clause) told)
+    (hints_same part taken line.hints (map opposite line.clause) present)
 
--- ---- which clauses are told
+-- ---- which clauses are present
 
-pub all_told : (telling : Telling) (ids : List ℕ) → telling.whole ≡ true → list_all (tells telling) ids ≡ true
-all_told telling [] is = refl
-all_told telling (id ∷ ids) is =
-    let marked = is_of_marked (left_gates telling.graphs telling.query) telling.marked id in
-    ap (λ b. (b || marked) && list_all (tells telling) ids) is ∙ all_told telling ids is
+pub all_present : (part : PartialQuery) (ids : List ℕ) → part.whole ≡ true → list_all (is_present part) ids ≡ true
+all_present part [] is = refl
+all_present part (id ∷ ids) is =
+    let marked = is_of_marked (left_gates part.graphs part.query) part.marked id in
+    ap (λ b. (b || marked) && list_all (is_present part) ids) is ∙ all_present part ids is
 
 -- ---- the cone's gates are marked, and no others
 
@@ -178,48 +178,48 @@ marked_id graphs query gates marked id same left right there is =
         from_left : 1 + 3 * ((id - 1) / 3) ≤ id
         from_left = omega (arith, positive)
 
--- ---- and so the clauses are told by the variables
+-- ---- and so they are the clauses over the variables
 
-pub cone_fits : (graphs : Graphs) (query : Query) (left right : Variables) (gates : List ℕ) (marked : List Bool) (whole : Bool) → IsTelling graphs query left right gates marked whole → IsQuery graphs query
-cone_fits graphs query left right gates marked whole telling =
-    subst (IsQuery graphs) (sym telling.asks) (claim_query_fits graphs telling.claim telling.placed)
+pub cone_fits : (graphs : Graphs) (query : Query) (left right : Variables) (gates : List ℕ) (marked : List Bool) (whole : Bool) → IsPartialQuery graphs query left right gates marked whole → IsQuery graphs query
+cone_fits graphs query left right gates marked whole part =
+    subst (IsQuery graphs) (sym part.asks) (claim_query_fits graphs part.claim part.placed)
 
-pub telling_clause : (graphs : Graphs) (query : Query) (left right : Variables) (gates : List ℕ) (marked : List Bool) (whole : Bool) (id : ℕ) → IsOrdered (circuit_of graphs query.left) → IsOrdered (circuit_of graphs query.right) → IsTelling graphs query left right gates marked whole → id < length (query_clauses graphs query) → tells (record { graphs = graphs; query = query; marked = marked; whole = whole }) id ≡ true → clause_at (clauses_over graphs query left right) id ≡ clause_at (query_clauses graphs query) id
-telling_clause graphs query left right gates marked true id one other telling there is =
-    ap (λ cs. clause_at cs id) (clauses_are graphs query left right telling.left_is (telling.of_all refl))
-telling_clause graphs query left right gates marked false id one other telling there is =
-    let in_left : IsMarkedCone (circuit_of graphs query.left) query.left.output gates marked = subst (λ (q : Query). IsMarkedCone (circuit_of graphs q.left) q.left.output gates marked) (sym telling.asks) telling.cone in
-    let in_right : IsMarkedCone (circuit_of graphs query.right) query.right.output gates marked = subst (λ (q : Query). IsMarkedCone (circuit_of graphs q.right) q.right.output gates marked) (sym telling.asks) telling.cone in
-    let same : left_gates graphs query ≡ right_gates graphs query = subst (λ (q : Query). left_gates graphs q ≡ right_gates graphs q) (sym telling.asks) refl in
+pub partial_clause : (graphs : Graphs) (query : Query) (left right : Variables) (gates : List ℕ) (marked : List Bool) (whole : Bool) (id : ℕ) → IsOrdered (circuit_of graphs query.left) → IsOrdered (circuit_of graphs query.right) → IsPartialQuery graphs query left right gates marked whole → id < length (query_clauses graphs query) → is_present (record { graphs = graphs; query = query; marked = marked; whole = whole }) id ≡ true → clause_at (clauses_over graphs query left right) id ≡ clause_at (query_clauses graphs query) id
+partial_clause graphs query left right gates marked true id one other part there is =
+    ap (λ cs. clause_at cs id) (clauses_are graphs query left right part.left_is (part.of_all refl))
+partial_clause graphs query left right gates marked false id one other part there is =
+    let in_left : IsMarkedCone (circuit_of graphs query.left) query.left.output gates marked = subst (λ (q : Query). IsMarkedCone (circuit_of graphs q.left) q.left.output gates marked) (sym part.asks) part.cone in
+    let in_right : IsMarkedCone (circuit_of graphs query.right) query.right.output gates marked = subst (λ (q : Query). IsMarkedCone (circuit_of graphs q.right) q.right.output gates marked) (sym part.asks) part.cone in
+    let same : left_gates graphs query ≡ right_gates graphs query = subst (λ (q : Query). left_gates graphs q ≡ right_gates graphs q) (sym part.asks) refl in
     let ids = 0 ∷ (gate_ids 1 gates ++ (gate_ids (1 + 3 * left_gates graphs query) gates ++ (1 + 3 * (left_gates graphs query + right_gates graphs query)) ∷ (2 + 3 * (left_gates graphs query + right_gates graphs query)) ∷ [])) in
     cone_clause graphs query left right ids id one other (record {
-      fits = cone_fits graphs query left right gates marked false telling;
-      left_is = telling.left_is;
-      right_is = telling.of_cone refl;
-      left_fits = telling.left_fits;
-      right_fits = telling.right_fits;
+      fits = cone_fits graphs query left right gates marked false part;
+      left_is = part.left_is;
+      right_is = part.of_cone refl;
+      left_fits = part.left_fits;
+      right_fits = part.right_fits;
       are = cone_ids_are graphs query gates gates in_left.are in_right.are;
     }) (marked_id graphs query gates marked id same in_left in_right there is)
 
-pub told_value : (graphs : Graphs) (query : Query) (left right : Variables) (gates : List ℕ) (marked : List Bool) (whole : Bool) (id : ℕ) → IsOrdered (circuit_of graphs query.left) → IsOrdered (circuit_of graphs query.right) → IsTelling graphs query left right gates marked whole → id < length (query_clauses graphs query) → tells (record { graphs = graphs; query = query; marked = marked; whole = whole }) id ≡ true → clause_at (clauses_over graphs query left right) id ≡ clause_at (told_formula (record { graphs = graphs; query = query; marked = marked; whole = whole })).clauses id
-told_value graphs query left right gates marked whole id one other telling there is =
-    let t : Telling = record { graphs = graphs; query = query; marked = marked; whole = whole } in
-    telling_clause graphs query left right gates marked whole id one other telling there is ∙ sym (told_at t id there ∙ told_is t id is)
+pub present_value : (graphs : Graphs) (query : Query) (left right : Variables) (gates : List ℕ) (marked : List Bool) (whole : Bool) (id : ℕ) → IsOrdered (circuit_of graphs query.left) → IsOrdered (circuit_of graphs query.right) → IsPartialQuery graphs query left right gates marked whole → id < length (query_clauses graphs query) → is_present (record { graphs = graphs; query = query; marked = marked; whole = whole }) id ≡ true → clause_at (clauses_over graphs query left right) id ≡ clause_at (present_formula (record { graphs = graphs; query = query; marked = marked; whole = whole })).clauses id
+present_value graphs query left right gates marked whole id one other part there is =
+    let t : PartialQuery = record { graphs = graphs; query = query; marked = marked; whole = whole } in
+    partial_clause graphs query left right gates marked whole id one other part there is ∙ sym (present_at t id there ∙ present_is t id is)
 
-pub untold_value : (telling : Telling) (id : ℕ) → id < length (query_clauses telling.graphs telling.query) → tells telling id ≡ false → true_literal ∷ [] ≡ clause_at (told_formula telling).clauses id
-untold_value telling id there is =
-    sym (told_at telling id there ∙ ap (λ b. cond b (clause_at (query_clauses telling.graphs telling.query) id) (true_literal ∷ [])) is)
+pub absent_value : (part : PartialQuery) (id : ℕ) → id < length (query_clauses part.graphs part.query) → is_present part id ≡ false → true_literal ∷ [] ≡ clause_at (present_formula part).clauses id
+absent_value part id there is =
+    sym (present_at part id there ∙ ap (λ b. cond b (clause_at (query_clauses part.graphs part.query) id) (true_literal ∷ [])) is)
 
-pub told_below : (telling : Telling) (id : ℕ) → IsQuery telling.graphs telling.query → id < length (query_clauses telling.graphs telling.query) → All (λ l. variable_of l < (told_formula telling).variables) (clause_at (told_formula telling).clauses id)
-told_below telling id fits there =
-    subst (All (λ l. variable_of l < (told_formula telling).variables)) (sym (told_at telling id there)) (by_case (tells telling id))
+pub present_below : (part : PartialQuery) (id : ℕ) → IsQuery part.graphs part.query → id < length (query_clauses part.graphs part.query) → All (λ l. variable_of l < (present_formula part).variables) (clause_at (present_formula part).clauses id)
+present_below part id fits there =
+    subst (All (λ l. variable_of l < (present_formula part).variables)) (sym (present_at part id there)) (by_case (is_present part id))
   where
-    by_case : (b : Bool) → All (λ l. variable_of l < (told_formula telling).variables) (cond b (clause_at (query_clauses telling.graphs telling.query) id) (true_literal ∷ []))
-    by_case true = clause_below telling.graphs telling.query id fits
-    by_case false = All-push (λ l. variable_of l < (told_formula telling).variables) [] true_literal (λ k d within. absurd (omega (arith, within))) (omega (arith, variable_of-literal 0 true))
+    by_case : (b : Bool) → All (λ l. variable_of l < (present_formula part).variables) (cond b (clause_at (query_clauses part.graphs part.query) id) (true_literal ∷ []))
+    by_case true = clause_below part.graphs part.query id fits
+    by_case false = All-push (λ l. variable_of l < (present_formula part).variables) [] true_literal (λ k d within. absurd (omega (arith, within))) (omega (arith, variable_of-literal 0 true))
 
 -- there is a mark for each gate
-pub marks_count : (graphs : Graphs) (query : Query) (left right : Variables) (gates : List ℕ) (marked : List Bool) (whole : Bool) → IsTelling graphs query left right gates marked whole → length marked ≡ left_gates graphs query
-marks_count graphs query left right gates marked whole telling =
-    ap length telling.cone.marks
-    ∙ (length-listed (length (graph_of graphs telling.claim.side).gates) gates ∙ sym (ap (λ (q : Query). left_gates graphs q) telling.asks))
+pub marks_count : (graphs : Graphs) (query : Query) (left right : Variables) (gates : List ℕ) (marked : List Bool) (whole : Bool) → IsPartialQuery graphs query left right gates marked whole → length marked ≡ left_gates graphs query
+marks_count graphs query left right gates marked whole part =
+    ap length part.cone.marks
+    ∙ (length-listed (length (graph_of graphs part.claim.side).gates) gates ∙ sym (ap (λ (q : Query). left_gates graphs q) part.asks))

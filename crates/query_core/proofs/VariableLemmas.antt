@@ -112,7 +112,7 @@ same_output net k feed vs ws value ordered feeds agree there =
     let same = same_literal (signal_literals feed vs) (signal_literals feed ws) last (same_signal net k feed vs ws (output_signal net k) feeds agree (omega (arith, within)) (λ other fan_in. fan_in.output)) in
     ap (λ l. cond value l (opposite l)) same
 
--- a clause of the cones is told right by variables that are right for the gates of the cones
+-- a clause of the cones is given right by variables that are right for the gates of the cones
 pub cone_clause : (graphs : Graphs) (query : Query) (left right : Variables) (ids : List ℕ) (id : ℕ) → IsOrdered (circuit_of graphs query.left) → IsOrdered (circuit_of graphs query.right) → IsConing graphs query left right ids → IsConeId graphs query id → clause_at (clauses_over graphs query left right) id ≡ clause_at (query_clauses graphs query) id
 cone_clause graphs query left right ids id one_ordered ordered coning cone =
     ap (λ vs. clause_at (over (signal_literals query.left.feed vs) given) id) coning.left_is ∙ by_kind cone

@@ -1,4 +1,4 @@
--- The clauses of a claim's query, of which some are told and the others stand as the clause of variable 0.
+-- The clauses of a claim's query, of which some are present and the others stand as the clause of variable 0.
 use Rattle.std.specs.Prelude.{◌≡◌, ℕ, ◌*◌, ◌-◌, ◌/◌, ◌==◌, ◌||◌, Bool, true, false, List, [], ◌∷◌, length, map, nat_lt, slice_index_or, if◌then◌else◌}
 use Rattle.std.specs.List.{range_with_len}
 use Rattle.circuits.specs.Literals.{bit}
@@ -18,8 +18,8 @@ use Rattle.claim_core.specs.ConeClauses.{AreReached, left_gates, right_gates}
 use Rattle.query_core.specs.declared.variables.Variables.{Variables}
 use Rattle.query_core.specs.Variables.{AreFor, variable_at, variables_in}
 
--- A query both of whose cones are one output's, with a mark for each gate whose clauses are told, or all told.
-pub record Telling : Type 0 where
+-- A query both of whose cones are one output's, with a mark for each gate whose clauses are present, or all present.
+pub record PartialQuery : Type 0 where
   pub graphs : Graphs
   pub query : Query
   pub marked : List Bool
@@ -33,18 +33,18 @@ gate_of gates id = if nat_lt (id - 1) (3 * gates) then (id - 1) / 3 else (id - 1
 abbrev pub is_of_marked : ℕ → List Bool → ℕ → Bool
 is_of_marked gates marked id = (id == 0) || (nat_lt (6 * gates) id || bit marked (gate_of gates id))
 
--- the clause of a number is told
-abbrev pub tells : Telling → ℕ → Bool
-tells telling id = telling.whole || is_of_marked (left_gates telling.graphs telling.query) telling.marked id
+-- the clause of a number is present
+abbrev pub is_present : PartialQuery → ℕ → Bool
+is_present part id = part.whole || is_of_marked (left_gates part.graphs part.query) part.marked id
 
-abbrev pub told_clause : Telling → ℕ → List SatLit
-told_clause telling id = if tells telling id then clause_at (query_clauses telling.graphs telling.query) id else true_literal ∷ []
+abbrev pub present_clause : PartialQuery → ℕ → List SatLit
+present_clause part id = if is_present part id then clause_at (query_clauses part.graphs part.query) id else true_literal ∷ []
 
--- the formula as it is told
-abbrev pub told_formula : Telling → Formula
-told_formula telling = record {
-  variables = (formula_of telling.graphs telling.query).variables;
-  clauses = map (told_clause telling) (range_with_len 0 (length (query_clauses telling.graphs telling.query)));
+-- the clauses of a query as far as they are present
+abbrev pub present_formula : PartialQuery → Formula
+present_formula part = record {
+  variables = (formula_of part.graphs part.query).variables;
+  clauses = map (present_clause part) (range_with_len 0 (length (query_clauses part.graphs part.query)));
 }
 
 -- Gates that output k reaches, ascending, with a mark for each of them.
@@ -57,8 +57,8 @@ abbrev pub AreRightInCone : Graphs → Query → Variables → Type 0
 AreRightInCone graphs query right =
     (t : ℕ) → ReachesGate (circuit_of graphs query.right) query.right.output t → variable_at right t ≡ slice_index_or (right_variables graphs query) t 0
 
--- What a claim's clauses are told by: variables that are right for the gates of the cone, or for all.
-pub record IsTelling (graphs : Graphs) (query : Query) (left right : Variables) (gates : List ℕ) (marked : List Bool) (whole : Bool)
+-- What gives a claim's clauses: variables that are right for the gates of the cone, or for all.
+pub record IsPartialQuery (graphs : Graphs) (query : Query) (left right : Variables) (gates : List ℕ) (marked : List Bool) (whole : Bool)
     : Type 0 where
   pub claim : Claim
   pub placed : IsClaim graphs claim

@@ -66,7 +66,7 @@ clauses_over graphs query left right =
     (output_literal one ls query.left.output query.left_value)
     (output_literal other rs query.right.output query.right_value)
 
--- What the clauses of a query are told by.
+-- What the clauses of a query are given by.
 pub record IsAsking (graphs : Graphs) (query : Query) (left right : Variables) : Type 0 where
   pub fits : IsQuery graphs query
   pub left_is : variables_in left (left_gates graphs query) ≡ left_variables graphs query
@@ -74,7 +74,7 @@ pub record IsAsking (graphs : Graphs) (query : Query) (left right : Variables) :
   pub left_fits : AreFor (left_gates graphs query) left
   pub right_fits : AreFor (right_gates graphs query) right
 
--- What the clauses of a query's cones are told by: variables that are right for the gates of the cones.
+-- What the clauses of a query's cones are given by: variables that are right for the gates of the cones.
 pub record IsConing (graphs : Graphs) (query : Query) (left right : Variables) (ids : List ℕ) : Type 0 where
   pub fits : IsQuery graphs query
   pub left_is : variables_in left (left_gates graphs query) ≡ left_variables graphs query

@@ -1,4 +1,4 @@
-//! The clauses of a claim's query, told one by one.
+//! The clauses of a claim's query, one by one.
 
 ghost use Rattle.std.specs.Prelude.{ℕ, ◌≡◌, ◌<◌, ◌≤◌, ◌*◌, ◌^◌, true, All, IfOk, length};
 ghost use Rattle.std.specs.List.{list_all};
@@ -8,7 +8,7 @@ ghost use Rattle.net_core.specs.Cones.{ReachesGate};
 ghost use Rattle.net_core.specs.Sides.{graph_of};
 ghost use Rattle.claim_core.specs.Claims.{IsClaim};
 ghost use Rattle.claim_core.specs.ClaimQueries.{claim_query};
-ghost use Rattle.query_core.specs.ClaimClauses.{gate_of, is_of_marked, tells, IsMarkedCone, IsTelling};
+ghost use Rattle.query_core.specs.ClaimClauses.{gate_of, is_of_marked, is_present, IsMarkedCone, IsPartialQuery};
 
 use crate::clauses::{clause_over, count_of, variables_of};
 use crate::variables::{Variables, claim_variables, left_variables, right_variables};
@@ -19,7 +19,7 @@ use net_core::{Graph, Graphs};
 use std::alloc::{AllocError, Global};
 use std::marker::Model;
 
-/// The clauses of a claim's query. Those of the gates that the claim's output reaches are told, and those of other
+/// The clauses of a claim's query. Those of the gates that the claim's output reaches are present, and those of other
 /// gates only once it is made whole: till then the clause of variable 0 stands in their place. So a claim costs by its
 /// output's cone, and not by the circuit.
 pub struct ClaimBase<'a> {
@@ -29,18 +29,18 @@ pub struct ClaimBase<'a> {
     left: Variables,
     right: Variables,
     cone: MarkedCone,
-    /// Whether the clauses of all gates are told.
+    /// Whether the clauses of all gates are present.
     whole: bool,
 }
 
 impl<'a> Model for ClaimBase<'a> {
-    ghost use Rattle.query_core.specs.ClaimClauses.{IsTelling, Telling};
+    ghost use Rattle.query_core.specs.ClaimClauses.{IsPartialQuery, PartialQuery};
 
-    ghost Value = { Telling };
+    ghost Value = { PartialQuery };
 
     ghost view = { λ a. record { graphs = a.graphs.now; query = a.query; marked = a.cone.marked; whole = a.whole } };
 
-    ghost invariant = { λ a. IsTelling a.graphs.now a.query a.left a.right a.cone.gates.items a.cone.marked a.whole };
+    ghost invariant = { λ a. IsPartialQuery a.graphs.now a.query a.left a.right a.cone.gates.items a.cone.marked a.whole };
 }
 
 // By hand, so that each exit of a function has one call for it (docs/IDIOMS.md).
@@ -166,9 +166,9 @@ impl<'a> ClaimBase<'a> {
         })
     }
 
-    /// Whether the clauses of these numbers are told. Numbers that are no clause's are those of a log's lines.
-    pub fn tells(&self, ids: &[u64]) -> bool
-        ensures { result ≡ list_all (tells self.now) ids.now }
+    /// Whether the clauses of these numbers are present. Numbers that are no clause's are those of a log's lines.
+    pub fn are_present(&self, ids: &[u64]) -> bool
+        ensures { result ≡ list_all (is_present self.now) ids.now }
     {
         if self.whole {
             return true;
@@ -179,9 +179,9 @@ impl<'a> ClaimBase<'a> {
 }
 
 impl<'a> Base for ClaimBase<'a> {
-    ghost use Rattle.query_core.specs.ClaimClauses.{told_formula};
+    ghost use Rattle.query_core.specs.ClaimClauses.{present_formula};
 
-    ghost formula = { told_formula };
+    ghost formula = { present_formula };
 
     fn variables(&self) -> u64 {
         variables_of(self.graphs, &self.query)

@@ -12,7 +12,7 @@ use Rattle.std.specs.declared.alloc.Global.{Global}
 use Rattle.cnf_core.specs.declared.literal.SatLit.{SatLit}
 use Rattle.cnf_core.specs.Clauses.{variable_of, is_negated, literal_of, opposite, AreKnown}
 use Rattle.cnf_core.specs.Derivations.{is_same, is_true, is_false}
-use Rattle.refute_check.specs.Values.{IsOfMade, IsMade, bit_at, tells, is_of}
+use Rattle.refute_check.specs.Values.{IsOfMade, IsMade, bit_at, is_bit, is_of}
 use Rattle.cnf_core.proofs.LiteralLemmas.{its_opposite, itself, not_opposite, not_same, same_itself, variable_of-literal}
 
 -- where no literal has a variable, neither literal of it is among them
@@ -27,7 +27,7 @@ not_made (m ∷ made) v b none =
     ]
 
 -- a variable that has neither bit has none
-pub neither : (held : Option Bool) → tells held true ≡ false → tells held false ≡ false → held ≡ None
+pub neither : (held : Option Bool) → is_bit held true ≡ false → is_bit held false ≡ false → held ≡ None
 neither None t f = refl
 neither (Some true) t f = absurd (false≢true (sym t))
 neither (Some false) t f = absurd (false≢true (sym f))
@@ -52,29 +52,29 @@ count_less bits v below none =
     omega (arith, count_more bits v true below none, count_by-le-length (is_some {T = Bool}) (slice_set bits v (Some true)), length-set bits v (Some true))
 
 -- the bit of a literal that can be made
-pub no_bit : (bits : List (Option Bool)) (made : List SatLit) (l : SatLit) → ((v : ℕ) (b : Bool) → v < length bits → tells (bit_at bits v) b ≡ is_true made (literal_of v b)) → variable_of l < length bits → is_true made l ≡ false → is_false made l ≡ false → bit_at bits (variable_of l) ≡ None
+pub no_bit : (bits : List (Option Bool)) (made : List SatLit) (l : SatLit) → ((v : ℕ) (b : Bool) → v < length bits → is_bit (bit_at bits v) b ≡ is_true made (literal_of v b)) → variable_of l < length bits → is_true made l ≡ false → is_false made l ≡ false → bit_at bits (variable_of l) ≡ None
 no_bit bits made l told known not_true not_false =
     let v = variable_of l in
-    let plain : tells (bit_at bits v) (not (is_negated l)) ≡ false = told v (not (is_negated l)) known ∙ (ap (is_true made) (itself l) ∙ not_true) in
-    let other : tells (bit_at bits v) (is_negated l) ≡ false = told v (is_negated l) known ∙ (ap (is_true made) (its_opposite l) ∙ not_false) in
+    let plain : is_bit (bit_at bits v) (not (is_negated l)) ≡ false = told v (not (is_negated l)) known ∙ (ap (is_true made) (itself l) ∙ not_true) in
+    let other : is_bit (bit_at bits v) (is_negated l) ≡ false = told v (is_negated l) known ∙ (ap (is_true made) (its_opposite l) ∙ not_false) in
     by_sign (is_negated l) (bit_at bits v) plain other
   where
-    by_sign : (b : Bool) (held : Option Bool) → tells held (not b) ≡ false → tells held b ≡ false → held ≡ None
+    by_sign : (b : Bool) (held : Option Bool) → is_bit held (not b) ≡ false → is_bit held b ≡ false → held ≡ None
     by_sign true held f t = neither held t f
     by_sign false held t f = neither held t f
 
--- what the bits tell once a literal was made true
-pub told_more : (bits : List (Option Bool)) (made : List SatLit) (l : SatLit) → ((v : ℕ) (b : Bool) → v < length bits → tells (bit_at bits v) b ≡ is_true made (literal_of v b)) → variable_of l < length bits → is_true made l ≡ false → is_false made l ≡ false → (v : ℕ) (b : Bool) → v < length bits → tells (bit_at (slice_set bits (variable_of l) (Some (not (is_negated l)))) v) b ≡ is_true (made ++ l ∷ []) (literal_of v b)
+-- what the bits say once a literal was made true
+pub told_more : (bits : List (Option Bool)) (made : List SatLit) (l : SatLit) → ((v : ℕ) (b : Bool) → v < length bits → is_bit (bit_at bits v) b ≡ is_true made (literal_of v b)) → variable_of l < length bits → is_true made l ≡ false → is_false made l ≡ false → (v : ℕ) (b : Bool) → v < length bits → is_bit (bit_at (slice_set bits (variable_of l) (Some (not (is_negated l)))) v) b ≡ is_true (made ++ l ∷ []) (literal_of v b)
 told_more bits made l told known not_true not_false v b below =
     let w = variable_of l in
     let split = list_any-append (is_same (literal_of v b)) made (l ∷ []) in
     elim (cases_eq v w) [
       | inl e ↦
           let held : bit_at (slice_set bits w (Some (not (is_negated l)))) v ≡ Some (not (is_negated l)) = ap (bit_at (slice_set bits w (Some (not (is_negated l))))) e ∙ get_or-set_same bits w (Some (not (is_negated l))) None known in
-          ap (λ h. tells h b) held ∙ (by_bit b ∙ (ap (λ u. is_true made (literal_of u b) || (is_same (literal_of u b) l || false)) (sym e) ∙ sym split))
+          ap (λ h. is_bit h b) held ∙ (by_bit b ∙ (ap (λ u. is_true made (literal_of u b) || (is_same (literal_of u b) l || false)) (sym e) ∙ sym split))
       | inr e ↦
           let other : is_same (literal_of v b) l ≡ false = not_same (literal_of v b) l (λ same. e (sym (variable_of-literal v b) ∙ same)) in
-          ap (λ h. tells h b) (get_or-set_other bits w v (Some (not (is_negated l))) None e) ∙ (told v b below ∙ (or_false (is_true made (literal_of v b)) ∙ (ap (λ t. is_true made (literal_of v b) || (t || false)) (sym other) ∙ sym split)))
+          ap (λ h. is_bit h b) (get_or-set_other bits w v (Some (not (is_negated l))) None e) ∙ (told v b below ∙ (or_false (is_true made (literal_of v b)) ∙ (ap (λ t. is_true made (literal_of v b) || (t || false)) (sym other) ∙ sym split)))
     ]
   where
     or_false : (t : Bool) → t ≡ (t || (false || false))

@@ -33,7 +33,7 @@ ends_empty [] = false
 ends_empty (clause ∷ []) = is_empty clause
 ends_empty (clause ∷ next ∷ clauses) = ends_empty (next ∷ clauses)
 
--- the answer that tells a fault, if there is one
+-- the answer that names a fault, if there is one
 abbrev pub answer_of : Option LineFault → Result (Unit {0}) LineFault
 answer_of None = Ok tt
 answer_of (Some fault) = Err fault

@@ -16,9 +16,9 @@ abbrev pub bit_at : List (Option Bool) → ℕ → Option Bool
 bit_at bits variable = slice_index_or bits variable None
 
 -- a variable has a bit, and it is this one
-abbrev pub tells : Option Bool → Bool → Bool
-tells None b = false
-tells (Some held) b = beq held b
+abbrev pub is_bit : Option Bool → Bool → Bool
+is_bit None b = false
+is_bit (Some value) b = beq value b
 
 abbrev pub is_of : ℕ → SatLit → Bool
 is_of variable literal = variable_of literal == variable
@@ -31,7 +31,7 @@ pub record IsOfMade (bits : List (Option Bool)) (made : List SatLit) : Type 0 wh
 -- each variable has the bit that makes one of these literals true, if there is one; and there is room for all that can
 -- be made
 pub record IsMade (bits : List (Option Bool)) (made : Vec SatLit Global) : Type 0 where
-  pub told : (v : ℕ) (b : Bool) → v < length bits → tells (bit_at bits v) b ≡ is_true made.items (literal_of v b)
+  pub told : (v : ℕ) (b : Bool) → v < length bits → is_bit (bit_at bits v) b ≡ is_true made.items (literal_of v b)
   pub known : AreKnown (length bits) made.items
   pub count : count_by is_some bits ≡ length made.items
   pub room : length bits ≤ vec_capacity made

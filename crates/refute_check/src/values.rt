@@ -1,7 +1,7 @@
 ghost use Rattle.std.specs.Prelude.{◌≡◌, ◌+◌, ◌<◌, ◌≤◌, ◌++◌, ◌∷◌, [], false, None, IfOk, All, length, replicate};
 ghost use Rattle.std.specs.Prelude.{vec_len, vec_capacity};
 ghost use Rattle.cnf_core.specs.Clauses.{variable_of};
-ghost use Rattle.refute_check.specs.Values.{CanBeMade, IsOfMade, tells, bit_at};
+ghost use Rattle.refute_check.specs.Values.{CanBeMade, IsOfMade, is_bit, bit_at};
 
 use cnf_core::{Assignment, SatLit};
 use std::alloc::{AllocError, Global};
@@ -81,10 +81,10 @@ fn no_bits(alloc: Global, count: usize) -> Result<Vec<Option<bool>>, AllocError>
 // Whether a variable has this bit.
 fn has_bit(bits: &[Option<bool>], variable: u64, bit: bool) -> bool
     requires { variable < length bits.now }
-    ensures { result ≡ tells (bit_at bits.now variable) bit }
+    ensures { result ≡ is_bit (bit_at bits.now variable) bit }
 {
     match bits[variable as usize] {
-        Some(held) => held == bit,
+        Some(value) => value == bit,
         None => false,
     }
 }

@@ -7,7 +7,7 @@ use Rattle.net_file.specs.declared.named.Named.{Named}
 use Rattle.net_print.specs.Files.{aig_text}
 use Rattle.shelf_core.specs.State.{ShelfState}
 use Rattle.shelf_core.proofs.FaultLemmas.{none_before, rose_after}
-use Rattle.check_steps.specs.Asks.{wished_by}
+use Rattle.check_steps.specs.Asks.{restore_request}
 use Rattle.check_steps.specs.Checks.{JudgesFiles}
 use Rattle.check_steps.specs.Held.{HasGraph}
 use Rattle.check_steps.specs.Judged.{IsVerdict, graphs_of}
@@ -37,32 +37,32 @@ use Rattle.restore_steps.proofs.WrittenLemmas.{is_restored}
 abbrev pub check_by : RestoreWords → CheckWords
 check_by asked = record { first = asked.first; second = asked.second; account = asked.account }
 
-reads : (asked : RestoreWords) (words : List (List ℕ)) → AsksRestore words (wished_by asked) → ReadFiles words
+reads : (asked : RestoreWords) (words : List (List ℕ)) → AsksRestore words (restore_request asked) → ReadFiles words
 reads asked words asks = reads_of words (asked_restore asked) tt asks
 
 -- the files were read up to an outcome that ends the run
 pub judging_ended : (tells : Bool) (asked : RestoreWords) (old new : ShelfState) (result : Result Ending Outcome) (o : Outcome) → result ≡ Err o → JudgesFiles tells (check_by asked) old new (Err o) → Decides tells (asked_restore asked) old new result
 judging_ended tells asked old new result o is judges =
     stopped tells (asked_restore asked) old new result o tt is judges.files
-    (λ t words asks. right_of_restore old.held words (wished_by asked) o asks (λ matching e. judges.early.early.line.unmatched matching (inl e)) (judges.right t (check_words asked.first.now asked.second.now asked.account.now) (check_of_restore words (wished_by asked) asks)))
+    (λ t words asks. right_of_restore old.held words (restore_request asked) o asks (λ matching e. judges.early.early.line.unmatched matching (inl e)) (judges.right t (check_words asked.first.now asked.second.now asked.account.now) (check_of_restore words (restore_request asked) asks)))
     judges.early
     judges.last
     (λ e. judges.failed (ap Err e))
 
 -- the netlists were judged: what follows by the verdict
 module _ (tells : Bool) (asked : RestoreWords) (old now : ShelfState) (answer : Judgement) (judges : JudgesFiles tells (check_by asked) old now (Ok answer)) where
-  checked_right : (other : (matching : Matching) → answer.outcome ≢ AcceptedMatch matching) → IsTrue tells → (words : List (List ℕ)) → AsksRestore words (wished_by asked) → IsRight old.held words answer.outcome
+  checked_right : (other : (matching : Matching) → answer.outcome ≢ AcceptedMatch matching) → IsTrue tells → (words : List (List ℕ)) → AsksRestore words (restore_request asked) → IsRight old.held words answer.outcome
   checked_right other t words asks =
-      right_of_restore old.held words (wished_by asked) answer.outcome asks other
-      (judged_right tells (check_by asked) old now answer judges t (check_words asked.first.now asked.second.now asked.account.now) (check_of_restore words (wished_by asked) asks))
+      right_of_restore old.held words (restore_request asked) answer.outcome asks other
+      (judged_right tells (check_by asked) old now answer judges t (check_words asked.first.now asked.second.now asked.account.now) (check_of_restore words (restore_request asked) asks))
 
-  sound_answer : (other : (matching : Matching) → answer.outcome ≢ AcceptedMatch matching) → IsTrue tells → (words : List (List ℕ)) → AsksRestore words (wished_by asked) → IsSoundAnswer old.held words answer.outcome
+  sound_answer : (other : (matching : Matching) → answer.outcome ≢ AcceptedMatch matching) → IsTrue tells → (words : List (List ℕ)) → AsksRestore words (restore_request asked) → IsSoundAnswer old.held words answer.outcome
   sound_answer other t words asks = record {
     matches = λ matching e. absurd (other matching e);
     refuses = λ e. inr (
-      wished_by asked,
+      restore_request asked,
       asks,
-      (judged_sound tells (check_by asked) old now answer judges t (check_words asked.first.now asked.second.now asked.account.now) (check_of_restore words (wished_by asked) asks)).refuses e,
+      (judged_sound tells (check_by asked) old now answer judges t (check_words asked.first.now asked.second.now asked.account.now) (check_of_restore words (restore_request asked) asks)).refuses e,
     );
   }
 
@@ -111,11 +111,11 @@ module _ (tells : Bool) (asked : RestoreWords) (old now : ShelfState) (answer : 
   second_netlist t = record { netlist = netlist_of judges.second.circuit answer.second; holds = judges.second.held t; numbered = judges.second.numbered }
 
   -- a check by the first three names accepts the account
-  restorable : IsTrue tells → (words : List (List ℕ)) → AsksRestore words (wished_by asked) → (gates : ℕ) → gates ≡ length answer.second.graph.gates → IsRestorable old.held words gates
+  restorable : IsTrue tells → (words : List (List ℕ)) → AsksRestore words (restore_request asked) → (gates : ℕ) → gates ≡ length answer.second.graph.gates → IsRestorable old.held words gates
   restorable t words asks gates same =
       let verdict = subst (IsVerdict (graphs_of answer.first answer.second) (old.held asked.account.now)) is_match (judges.verdict t) in
       record {
-        wished = wished_by asked;
+        wished = restore_request asked;
         asks = asks;
         matching = matching;
         accepted = record {
@@ -125,7 +125,7 @@ module _ (tells : Bool) (asked : RestoreWords) (old now : ShelfState) (answer : 
             first_name = asked.first.now;
             second_name = asked.second.now;
             account_name = asked.account.now;
-            asks = check_of_restore words (wished_by asked) asks;
+            asks = check_of_restore words (restore_request asked) asks;
             first_held = first_netlist t;
             second_held = second_netlist t;
             there = verdict.1;
@@ -137,9 +137,9 @@ module _ (tells : Bool) (asked : RestoreWords) (old now : ShelfState) (answer : 
 
   -- the new file has the netlist, or the first bytes of it
 
-  left_whole : (restored : Named) (new : ShelfState) → HasFirstPorts answer.first answer.second restored → new.held asked.restored.now ≡ Some (aig_text restored) → IsTrue tells → (words : List (List ℕ)) → AsksRestore words (wished_by asked) → HasRestored old.held new.held words (length restored.graph.gates)
+  left_whole : (restored : Named) (new : ShelfState) → HasFirstPorts answer.first answer.second restored → new.held asked.restored.now ≡ Some (aig_text restored) → IsTrue tells → (words : List (List ℕ)) → AsksRestore words (restore_request asked) → HasRestored old.held new.held words (length restored.graph.gates)
   left_whole restored new ported there t words asks = record {
-    wished = wished_by asked;
+    wished = restore_request asked;
     asks = asks;
     first = netlist_of judges.first.circuit answer.first;
     second = answer.second.graph;
@@ -150,13 +150,13 @@ module _ (tells : Bool) (asked : RestoreWords) (old now : ShelfState) (answer : 
     restored = is_restored (old.held asked.first.now) (old.held asked.second.now) judges.first.circuit answer.first answer.second restored (judges.first.held t) judges.first.computes (second_netlist t) ported;
   }
 
-  cut : (new : ShelfState) (o : Outcome) → Restores tells answer.first answer.second asked.restored.now now new (Err o) → IsTrue tells → (words : List (List ℕ)) → AsksRestore words (wished_by asked) → MayBeCut old.held new.held words
+  cut : (new : ShelfState) (o : Outcome) → Restores tells answer.first answer.second asked.restored.now now new (Err o) → IsTrue tells → (words : List (List ℕ)) → AsksRestore words (restore_request asked) → MayBeCut old.held new.held words
   cut new o restores t words asks =
       let name = asked.restored.now in
       elim (restores.part t) [
         | inl same ↦ inl (λ n. everywhere old.held new.held name (λ m other. restores.others t m other ∙ judges.files m) (same ∙ judges.files name) n (bytes_eq n name) refl)
         | inr (restored, ported, first_part) ↦ inr (inr (inr (record {
-          wished = wished_by asked;
+          wished = restore_request asked;
           asks = asks;
           first = netlist_of judges.first.circuit answer.first;
           second = answer.second.graph;

@@ -14,8 +14,8 @@ use Rattle.check_steps.specs.declared.outcome.Outcome.TheVariants.{Restored, Wri
 use Rattle.run_steps.specs.Steps.{IsUnwritten}
 use Rattle.run_steps.specs.Writing.{HasFirst}
 
--- A netlist has the ports of a first one, with its names as symbols are printed, computes what it does, and has as many gates as a
--- second one.
+-- A netlist has the ports of a first one, with its names as symbols are printed, computes what it does, and has as many
+-- gates as a second one.
 pub record HasFirstPorts (first second restored : Named) : Type 0 where
   pub equal : AreEqual first.graph restored.graph
   pub sound : IsGraph restored.graph

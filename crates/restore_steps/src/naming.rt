@@ -1,4 +1,4 @@
-//! Names of ports, as symbols can hold them.
+//! Names of ports, as symbols can have them.
 
 ghost use Rattle.std.specs.Prelude.{◌≡◌, ◌-◌, ◌<◌, ◌==◌, IsTrue, IfOk, length, map, slice_index_or};
 ghost use Rattle.print_laws.specs.Printable.{symbol_name};
@@ -19,7 +19,7 @@ pub(crate) fn symbol_names(alloc: Global, names: &[Name]) -> Result<Items<Name>,
     Ok(printed)
 }
 
-// The name, with `_` for a carriage return at its end, which a symbol can't hold.
+// The name, with `_` for a carriage return at its end, which a symbol can't have.
 fn symbol_name(alloc: Global, name: &Name) -> Result<Name, AllocError>
     ensures { IfOk result (λ printed. printed ≡ symbol_name name.now) }
 {

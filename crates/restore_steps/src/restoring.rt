@@ -50,7 +50,7 @@ pub fn restore_files<S: Shelf, W: Watch>(
     }
 }
 
-/// The end of a run by a verdict that its line tells.
+/// The end of a run by a verdict that its line says.
 fn reported(alloc: Global, verdict: Outcome) -> Result<Ending, Outcome>
     ensures same { IfOk result (λ ending. ending.outcome ≡ verdict) }
     ensures line { IfOk result (λ ending. ending.report.items ≡ line_of verdict) }

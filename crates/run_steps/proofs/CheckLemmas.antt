@@ -14,13 +14,13 @@ use Rattle.account_check.specs.declared.verdict.Why.{Why}
 use Rattle.account_check.proofs.VerdictLemmas.{one_rejection, one_proved, never_both}
 use Rattle.check_steps.specs.Circuits.{IsCircuit, IsCircuitFault}
 use Rattle.query_core.specs.Ledgers.{Ledgered}
-use Rattle.check_steps.specs.Words.{AsksCheck, AsksInfo, AsksMatch, AsksRestore, AskNothing, NameThree, ReadFiles, Sought, Wished, check_words}
+use Rattle.check_steps.specs.Words.{AsksCheck, AsksInfo, AsksMatch, AsksRestore, AskNothing, NameThree, ReadFiles, MatchRequest, RestoreRequest, check_words}
 use Rattle.run_steps.specs.Match.{HasNoMatch, IsAskedToMatch, IsMatchFound, IsSought, IsSpentOnTwo}
 use Rattle.circuits.specs.Matches.{AreNpnpEqual}
 use Rattle.check_steps.specs.Check.{HasAccount, IsAccepted, IsRejected, LacksAccount}
 use Rattle.check_steps.specs.Held.{Netlist, HasNetlist, HasGraph, HasNetFault, HasTooMuch}
 use Rattle.check_steps.specs.Ends.{EndsAt, EndsEarly, IsAbsent}
-use Rattle.run_steps.specs.Outcomes.{FollowsWords, IsAskedOf, IsSpentOn, IsOfOne, IsOfMatch, IsRight, IsDecided, IsSoundAnswer, IsTold, Leaves}
+use Rattle.run_steps.specs.Outcomes.{FollowsWords, IsAskedOf, IsSpentOn, IsOfOne, IsOfMatch, IsRight, IsDecided, IsSoundAnswer, IsReported, Leaves}
 use Rattle.run_steps.specs.Restore.{AsChecked, IsRestorable}
 use Rattle.shelf_core.specs.State.{ShelfState}
 use Rattle.run_steps.specs.Report.{IsReport}
@@ -63,7 +63,7 @@ end_of file content (Absent which) decided fact = inl (ap Absent fact.0, fact.1)
 end_of file content (TooLarge which) decided fact = inr (inl (ap TooLarge fact.0, fact.1))
 end_of file content (Malformed which kind at) decided fact = inr (inr (kind, at, ap (λ w. Malformed w kind at) fact.0, fact.1))
 end_of file content ReadFault decided fact = absurd (decided.read refl)
-end_of file content Memory decided fact = absurd (decided.told.room refl)
+end_of file content Memory decided fact = absurd (decided.reported.room refl)
 end_of file content other decided fact = absurd fact
 
 -- no name holds two of them
@@ -114,7 +114,7 @@ graph_one content a b one other =
     let acyclic = circuit_acyclic bytes one.netlist.circuit one.netlist.input_names one.netlist.output_names one.holds.is in
     one_order one.netlist.circuit a b acyclic one.numbered (subst (λ circuit. IsOrderOf circuit b) (sym e) other.numbered)
 
--- what a run tells of two graphs and of what an account of them proves
+-- what a run says of two graphs and of what an account of them proves
 abbrev pub Telling : Type 0
 Telling = Graphs → Verdict → Outcome
 
@@ -164,10 +164,10 @@ SaysTwo held first second says o = SaysFile First (held first) (SaysFile Second 
 abbrev pub SaysThree : Telling → (List ℕ → Option (List ℕ)) → List ℕ → List ℕ → List ℕ → Outcome → Type 0
 SaysThree telling held first second account o = SaysTwo held first second (SaysAccount telling held first second account) o
 
-abbrev pub wished_of : List ℕ → List ℕ → List ℕ → List ℕ → Wished
+abbrev pub wished_of : List ℕ → List ℕ → List ℕ → List ℕ → RestoreRequest
 wished_of first second account restored = record { first = first; second = second; account = account; restored = restored }
 
-named_restore : (words : List (List ℕ)) (wished : Wished) → AsksRestore words wished → AsksRestore words (wished_of wished.first wished.second wished.account wished.restored)
+named_restore : (words : List (List ℕ)) (wished : RestoreRequest) → AsksRestore words wished → AsksRestore words (wished_of wished.first wished.second wished.account wished.restored)
 named_restore words wished asks = record { form = asks.form; names = asks.names }
 
 -- the words ask for a check by an account, or for a netlist to be restored by one
@@ -181,7 +181,7 @@ SaysCheck held words o =
     (telling : Telling) × (first : List ℕ) × (second : List ℕ) × (account : List ℕ) × JudgeBy words telling first second account × SaysThree telling held first second account o
 
 abbrev pub SaysMatch : (List ℕ → Option (List ℕ)) → List (List ℕ) → Outcome → Type 0
-SaysMatch held words o = (sought : Sought) × AsksMatch words sought × SaysTwo held sought.first sought.second IsOfMatch o
+SaysMatch held words o = (sought : MatchRequest) × AsksMatch words sought × SaysTwo held sought.first sought.second IsOfMatch o
 
 abbrev pub SaysInfo : (List ℕ → Option (List ℕ)) → List (List ℕ) → Outcome → Type 0
 SaysInfo held words o = (file : List ℕ) × (budget : ℕ) × AsksInfo words file budget × SaysFile First (held file) IsOfOne o
@@ -237,36 +237,36 @@ two_one held first second says a b one other =
 pub follows_files : (words : List (List ℕ)) (o : Outcome) → ReadFiles words → o ≢ Made → ((number : ℕ) (account : List ℕ) → o ≢ Tried number account) → FollowsWords words o
 follows_files words o reads no_pair no_trial = record {
   made = λ e. absurd (no_pair e);
-  pair = λ asks told. absurd (read_or_make words reads asks);
+  pair = λ asks reported. absurd (read_or_make words reads asks);
   tried = λ number account e. absurd (no_trial number account e);
-  trial = λ number asks told. absurd (read_or_trial words number reads asks);
+  trial = λ number asks reported. absurd (read_or_trial words number reads asks);
   read = λ e. reads;
 }
 
--- and of one that isn't told
-follows_untold : (words : List (List ℕ)) (o : Outcome) → EndsRun o → o ≢ ReadFault → (IsTold o → ⊥) → FollowsWords words o
-follows_untold words o is read untold = record {
+-- and of one that isn't said
+follows_unreported : (words : List (List ℕ)) (o : Outcome) → EndsRun o → o ≢ ReadFault → (IsReported o → ⊥) → FollowsWords words o
+follows_unreported words o is read unreported = record {
   made = λ e. absurd (subst EndsRun e is);
-  pair = λ asks told. absurd (untold told);
+  pair = λ asks reported. absurd (unreported reported);
   tried = λ number account e. absurd (subst EndsRun e is);
-  trial = λ number asks told. absurd (untold told);
+  trial = λ number asks reported. absurd (unreported reported);
   read = λ e. absurd (read e);
 }
 
 pub follows_memory : (words : List (List ℕ)) → FollowsWords words Memory
-follows_memory words = follows_untold words Memory tt (λ e. cc) (λ told. told.room refl)
+follows_memory words = follows_unreported words Memory tt (λ e. cc) (λ reported. reported.room refl)
 
 pub follows_unwritten : (words : List (List ℕ)) (o : Outcome) → IsUnwritten o → FollowsWords words o
 follows_unwritten words o is =
-    of_unwritten (FollowsWords words) o is (follows_untold words WriteFault tt (λ e. cc) (λ told. told.written refl)) (follows_memory words)
+    of_unwritten (FollowsWords words) o is (follows_unreported words WriteFault tt (λ e. cc) (λ reported. reported.written refl)) (follows_memory words)
 
 -- and where the words ask for nothing
 pub follows_nothing : (words : List (List ℕ)) → AskNothing words → FollowsWords words Usage
 follows_nothing words nothing = record {
   made = λ e. cc;
-  pair = λ asks told. absurd (nothing.no_make asks.0 asks.1);
+  pair = λ asks reported. absurd (nothing.no_make asks.0 asks.1);
   tried = λ number account e. cc;
-  trial = λ number asks told. absurd (nothing.no_trial number asks);
+  trial = λ number asks reported. absurd (nothing.no_trial number asks);
   read = λ e. cc;
 }
 
@@ -297,7 +297,7 @@ judged_or_nothing words k f g t judge nothing =
       | inr (r, asks, is) ↦ nothing.no_restore (wished_of f g t r) asks
     ]
 
-judged_or_match : (words : List (List ℕ)) (k : Telling) (f g t : List ℕ) (sought : Sought) → JudgeBy words k f g t → AsksMatch words sought → ⊥
+judged_or_match : (words : List (List ℕ)) (k : Telling) (f g t : List ℕ) (sought : MatchRequest) → JudgeBy words k f g t → AsksMatch words sought → ⊥
 judged_or_match words k f g t sought judge asked =
     elim judge [
       | inl (asks, is) ↦ check_or_match words f g t sought asks asked
@@ -361,7 +361,7 @@ says_one held words a b one other =
 
 -- what is right is said so
 
-abbrev pub named : List ℕ → List ℕ → List ℕ → ℕ → ℕ → Sought
+abbrev pub named : List ℕ → List ℕ → List ℕ → ℕ → ℕ → MatchRequest
 named first second account budget seed = record { first = first; second = second; account = account; budget = budget; seed = seed }
 
 says_early : (held : List ℕ → Option (List ℕ)) (words : List (List ℕ)) (o : Outcome) → IsDecided o → EndsEarly held words o → Says held words o
@@ -420,7 +420,7 @@ three_too held f g t o other says =
     ]
 
 -- what the words of a check say, words that ask for a netlist to be restored say too
-says_restore : (held : List ℕ → Option (List ℕ)) (words : List (List ℕ)) (wished : Wished) (o : Outcome) → AsksRestore words wished → ((matching : Matching) → o ≢ AcceptedMatch matching) → Says held (check_words wished.first wished.second wished.account) o → Says held words o
+says_restore : (held : List ℕ → Option (List ℕ)) (words : List (List ℕ)) (wished : RestoreRequest) (o : Outcome) → AsksRestore words wished → ((matching : Matching) → o ≢ AcceptedMatch matching) → Says held (check_words wished.first wished.second wished.account) o → Says held words o
 says_restore held words wished o asks other says =
     let checked = check_words wished.first wished.second wished.account in
     let check = check_of_restore words wished asks in
@@ -498,8 +498,8 @@ says held words (TooLarge which) reads decided right =
 says held words (Malformed which kind at) reads decided right =
     says_checked held words (Malformed which kind at) (λ checked. EndsEarly held checked (Malformed which kind at)) (λ checked is. says_early held checked (Malformed which kind at) decided is) (λ matching e. cc) right
 says held words ReadFault reads decided right = absurd (decided.read refl)
-says held words WriteFault reads decided right = absurd (decided.told.written refl)
-says held words Memory reads decided right = absurd (decided.told.room refl)
+says held words WriteFault reads decided right = absurd (decided.reported.written refl)
+says held words Memory reads decided right = absurd (decided.reported.room refl)
 
 -- what one file, or a check, makes right
 
@@ -516,7 +516,7 @@ right_of_check held words Memory is = tt
 right_of_check held words other is = absurd is
 
 -- and so is, for words that ask for a netlist to be restored, what a check by the first three names says, but that there is a match
-pub right_of_restore : (held : List ℕ → Option (List ℕ)) (words : List (List ℕ)) (wished : Wished) (o : Outcome) → AsksRestore words wished → ((matching : Matching) → o ≢ AcceptedMatch matching) → IsOfCheck held (check_words wished.first wished.second wished.account) o → IsRight held words o
+pub right_of_restore : (held : List ℕ → Option (List ℕ)) (words : List (List ℕ)) (wished : RestoreRequest) (o : Outcome) → AsksRestore words wished → ((matching : Matching) → o ≢ AcceptedMatch matching) → IsOfCheck held (check_words wished.first wished.second wished.account) o → IsRight held words o
 right_of_restore held words wished (AcceptedMatch matching) asks other is = absurd (other matching refl)
 right_of_restore held words wished AcceptedRefusal asks other is = inr (wished, asks, is)
 right_of_restore held words wished (Rejected line why) asks other is = inr (wished, asks, is)
@@ -599,10 +599,10 @@ exact_reads held words other exact right = absurd exact
 sought_reads : (held : List ℕ → Option (List ℕ)) (words : List (List ℕ)) (first second : Netlist) → IsSought held words first second → ReadFiles words
 sought_reads held words first second is = inl (is.sought.first, is.sought.second, is.sought.account, inr (is.sought.budget, is.sought.seed, is.asks))
 
--- The outcome of a run that was asked to tell a right one is exactly what the words and the files say.
-module _ (held : List ℕ → Option (List ℕ)) (words : List (List ℕ)) (asked answer : Outcome) (right : IsRight held words asked) (same : IsTold answer → answer ≡ asked) (decided : IsDecided answer) where
+-- The outcome of a run that was asked to say a right one is exactly what the words and the files say.
+module _ (held : List ℕ → Option (List ℕ)) (words : List (List ℕ)) (asked answer : Outcome) (right : IsRight held words asked) (same : IsReported answer → answer ≡ asked) (decided : IsDecided answer) where
   stays_right : IsRight held words answer
-  stays_right = subst (IsRight held words) (sym (same decided.told)) right
+  stays_right = subst (IsRight held words) (sym (same decided.reported)) right
 
   stays_said : ReadFiles words → Says held words answer
   stays_said reads = says held words answer reads decided stays_right
@@ -658,10 +658,10 @@ pub reached : (o : Outcome) → IsReached o → IsDecided o
 reached ReadFault is = absurd is
 reached WriteFault is = absurd is
 reached Memory is = absurd is
-reached other is = record { read = λ e. cc; told = record { written = λ e. cc; room = λ e. cc } }
+reached other is = record { read = λ e. cc; reported = record { written = λ e. cc; room = λ e. cc } }
 
-pub told_read : IsTold ReadFault
-told_read = record { written = λ e. cc; room = λ e. cc }
+pub reported_read : IsReported ReadFault
+reported_read = record { written = λ e. cc; room = λ e. cc }
 
 -- where no file changes, each outcome that is neither of a match nor a pair nor a netlist that is restored leaves what it says
 pub leaves : (before after : List ℕ → Option (List ℕ)) (words : List (List ℕ)) (o : Outcome) → ((matching : Matching) → o ≢ Matched matching) → o ≢ NoMatching → o ≢ Made → ((gates : ℕ) → o ≢ Restored gates) → ((n : List ℕ) → after n ≡ before n) → Leaves before after words o
@@ -693,8 +693,8 @@ stopped tells command old new result o reader same files right reading last fail
       unwritten = λ e. absurd (reading.unwritten (cc e));
     })
 
-pub report_of_same : (tells : Bool) (held : List ℕ → Option (List ℕ)) (words : List (List ℕ)) (told asked : Outcome) (text : List ℕ) → told ≡ asked → IsReport tells held words asked text → IsReport tells held words told text
-report_of_same tells held words told asked text same report = subst (λ o. IsReport tells held words o text) (sym same) report
+pub report_of_same : (tells : Bool) (held : List ℕ → Option (List ℕ)) (words : List (List ℕ)) (reported asked : Outcome) (text : List ℕ) → reported ≡ asked → IsReport tells held words asked text → IsReport tells held words reported text
+report_of_same tells held words reported asked text same report = subst (λ o. IsReport tells held words o text) (sym same) report
 
 -- what is sound of a check is sound
 pub sound_answer : (held : List ℕ → Option (List ℕ)) (words : List (List ℕ)) (o : Outcome) → IsSound held words o → IsSoundAnswer held words o

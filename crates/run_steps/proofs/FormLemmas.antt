@@ -1,7 +1,7 @@
 -- Words have one form, and one reading in it.
 use Rattle.std.proofs.Common.{◌≡◌, ℕ, ◌⊎◌, inl, inr, List, [], length, get_or, refl, sym, ◌∙◌, ap, arith}
-use Rattle.check_steps.specs.Words.{AskForPair, AsksCheck, AsksInfo, AsksMatch, AsksRestore, AsksTrial, AskNothing, ReadFiles, Sought, Wished, check_words}
-use Rattle.check_steps.specs.Asks.{Ask, sought_by, wanted_by, wished_by}
+use Rattle.check_steps.specs.Words.{AskForPair, AsksCheck, AsksInfo, AsksMatch, AsksRestore, AsksTrial, AskNothing, ReadFiles, MatchRequest, RestoreRequest, check_words}
+use Rattle.check_steps.specs.Asks.{Ask, match_request, make_request, restore_request}
 use Rattle.run_steps.specs.Commands.{IsReadingCommand, IsTrialCommand}
 use Rattle.check_steps.specs.declared.words.Command.{Command}
 use Rattle.check_steps.specs.declared.words.Command.TheVariants.{Check, Restore, Match, Info, Make, Trial}
@@ -18,10 +18,10 @@ file_named words file budget asks =
     ]
 
 -- a match is sought of the netlists of the second and the third word
-pub sought_named : (words : List (List ℕ)) (sought : Sought) → AsksMatch words sought → (get_or words 1 [] ≡ sought.first) × (get_or words 2 [] ≡ sought.second)
+pub sought_named : (words : List (List ℕ)) (sought : MatchRequest) → AsksMatch words sought → (get_or words 1 [] ≡ sought.first) × (get_or words 2 [] ≡ sought.second)
 sought_named words sought asks = (ap (λ (words : List (List ℕ)). get_or words 1 []) asks.form, ap (λ (words : List (List ℕ)). get_or words 2 []) asks.form)
 
-pub sought_one : (words : List (List ℕ)) (a b : Sought) → AsksMatch words a → AsksMatch words b → (b.first ≡ a.first) × (b.second ≡ a.second)
+pub sought_one : (words : List (List ℕ)) (a b : MatchRequest) → AsksMatch words a → AsksMatch words b → (b.first ≡ a.first) × (b.second ≡ a.second)
 sought_one words a b one other =
     let e = sought_named words a one in
     let e' = sought_named words b other in
@@ -35,30 +35,30 @@ check_or_info words f g t file budget check info =
       | inr (word, form, is) ↦ omega (arith, ap length check.form, ap length form)
     ]
 
-pub match_or_info : (words : List (List ℕ)) (sought : Sought) (file : List ℕ) (budget : ℕ) → AsksMatch words sought → AsksInfo words file budget → ⊥
+pub match_or_info : (words : List (List ℕ)) (sought : MatchRequest) (file : List ℕ) (budget : ℕ) → AsksMatch words sought → AsksInfo words file budget → ⊥
 match_or_info words sought file budget asks info =
     elim info.form [
       | inl (form, is) ↦ omega (arith, ap length asks.form, ap length form)
       | inr (word, form, is) ↦ omega (arith, ap length asks.form, ap length form)
     ]
 
-pub check_or_match : (words : List (List ℕ)) (f g t : List ℕ) (sought : Sought) → AsksCheck words f g t → AsksMatch words sought → ⊥
+pub check_or_match : (words : List (List ℕ)) (f g t : List ℕ) (sought : MatchRequest) → AsksCheck words f g t → AsksMatch words sought → ⊥
 check_or_match words f g t sought check asks =
     let letter = λ (words : List (List ℕ)). get_or (get_or words 0 []) 0 0 in
     let is : 99 ≡ 109 = sym (ap letter check.form) ∙ ap letter asks.form in
     omega (arith, is)
 
-pub restore_or_check : (words : List (List ℕ)) (wished : Wished) (f g t : List ℕ) → AsksRestore words wished → AsksCheck words f g t → ⊥
+pub restore_or_check : (words : List (List ℕ)) (wished : RestoreRequest) (f g t : List ℕ) → AsksRestore words wished → AsksCheck words f g t → ⊥
 restore_or_check words wished f g t restore check = omega (arith, ap length restore.form, ap length check.form)
 
-pub restore_or_info : (words : List (List ℕ)) (wished : Wished) (file : List ℕ) (budget : ℕ) → AsksRestore words wished → AsksInfo words file budget → ⊥
+pub restore_or_info : (words : List (List ℕ)) (wished : RestoreRequest) (file : List ℕ) (budget : ℕ) → AsksRestore words wished → AsksInfo words file budget → ⊥
 restore_or_info words wished file budget restore info =
     elim info.form [
       | inl (form, is) ↦ omega (arith, ap length restore.form, ap length form)
       | inr (word, form, is) ↦ omega (arith, ap length restore.form, ap length form)
     ]
 
-pub restore_or_match : (words : List (List ℕ)) (wished : Wished) (sought : Sought) → AsksRestore words wished → AsksMatch words sought → ⊥
+pub restore_or_match : (words : List (List ℕ)) (wished : RestoreRequest) (sought : MatchRequest) → AsksRestore words wished → AsksMatch words sought → ⊥
 restore_or_match words wished sought restore asks =
     let letter = λ (words : List (List ℕ)). get_or (get_or words 0 []) 0 0 in
     let is : 114 ≡ 109 = sym (ap letter restore.form) ∙ ap letter asks.form in
@@ -111,7 +111,7 @@ pub reads_of : (words : List (List ℕ)) (command : Command) → IsReadingComman
 reads_of words (Check check) is asks = inl (check.first.now, check.second.now, check.account.now, inl asks)
 reads_of words (Match sought) is asks = inl (sought.first.now, sought.second.now, sought.account.now, inr (sought.budget, sought.seed, asks))
 reads_of words (Info info) is asks = inr (inl (info.file.now, info.budget, asks))
-reads_of words (Restore asked) is asks = inr (inr (wished_by asked, asks))
+reads_of words (Restore asked) is asks = inr (inr (restore_request asked, asks))
 reads_of words (Make asked) is asks = absurd is
 reads_of words (Trial trial) is asks = absurd is
 
@@ -121,20 +121,20 @@ trial_command words (Check check) number asks trial = absurd (read_or_trial word
 trial_command words (Match sought) number asks trial = absurd (read_or_trial words number (reads_of words (Match sought) tt asks) trial)
 trial_command words (Restore asked) number asks trial = absurd (read_or_trial words number (reads_of words (Restore asked) tt asks) trial)
 trial_command words (Info info) number asks trial = absurd (read_or_trial words number (reads_of words (Info info) tt asks) trial)
-trial_command words (Make asked) number asks trial = absurd (make_or_trial words number (wanted_by asked, asks) trial)
+trial_command words (Make asked) number asks trial = absurd (make_or_trial words number (make_request asked, asks) trial)
 trial_command words (Trial tried) number asks trial = tt
 
 -- words that ask for a command are of a known form
 pub known_form : (words : List (List ℕ)) (command : Command) → Ask words command → AskNothing words → ⊥
 known_form words (Check check) asks nothing = nothing.no_check check.first.now check.second.now check.account.now asks
-known_form words (Restore asked) asks nothing = nothing.no_restore (wished_by asked) asks
-known_form words (Match sought) asks nothing = nothing.no_match (sought_by sought) asks
+known_form words (Restore asked) asks nothing = nothing.no_restore (restore_request asked) asks
+known_form words (Match sought) asks nothing = nothing.no_match (match_request sought) asks
 known_form words (Info info) asks nothing = nothing.no_info info.file.now info.budget asks
-known_form words (Make asked) asks nothing = nothing.no_make (wanted_by asked) asks
+known_form words (Make asked) asks nothing = nothing.no_make (make_request asked) asks
 known_form words (Trial trial) asks nothing = nothing.no_trial trial.number asks
 
 -- the words of the check of what a match named
-pub check_of : (words : List (List ℕ)) (sought : Sought) → AsksMatch words sought → AsksCheck (check_words sought.first sought.second sought.account) sought.first sought.second sought.account
+pub check_of : (words : List (List ℕ)) (sought : MatchRequest) → AsksMatch words sought → AsksCheck (check_words sought.first sought.second sought.account) sought.first sought.second sought.account
 check_of words sought asks = record {
   form = refl;
   first_named = asks.names.first_named;
@@ -143,7 +143,7 @@ check_of words sought asks = record {
 }
 
 -- and of what names a netlist to be restored
-pub check_of_restore : (words : List (List ℕ)) (wished : Wished) → AsksRestore words wished → AsksCheck (check_words wished.first wished.second wished.account) wished.first wished.second wished.account
+pub check_of_restore : (words : List (List ℕ)) (wished : RestoreRequest) → AsksRestore words wished → AsksCheck (check_words wished.first wished.second wished.account) wished.first wished.second wished.account
 check_of_restore words wished asks = record {
   form = refl;
   first_named = asks.names.first_named;

@@ -12,7 +12,7 @@ use Rattle.run_steps.specs.Outcomes.{FollowsWords, IsRight, IsSoundAnswer, Leave
 use Rattle.check_steps.specs.Lines.{IsOneLine, line_of}
 use Rattle.run_steps.specs.Steps.{Decides, IsEnding, IsUnwritten, WritesPair, WritesText}
 use Rattle.run_steps.specs.Commands.{asked_make}
-use Rattle.check_steps.specs.Asks.{wanted_by}
+use Rattle.check_steps.specs.Asks.{make_request}
 use Rattle.run_steps.specs.Stops.{unwritten}
 use Rattle.check_steps.specs.Words.{AsksMake}
 use Rattle.check_steps.specs.declared.words.Make.{Make as MakeWords}
@@ -90,23 +90,23 @@ second_after tells a b first second old between new (Err o) one other = record {
 
 -- what an outcome of a pair says by the words alone
 
-follows_made : (words : List (List ℕ)) (asked : MakeWords) → AsksMake words (wanted_by asked) → FollowsWords words Made
+follows_made : (words : List (List ℕ)) (asked : MakeWords) → AsksMake words (make_request asked) → FollowsWords words Made
 follows_made words asked asks = record {
-  made = λ e. (wanted_by asked, asks);
-  pair = λ all told. refl;
+  made = λ e. (make_request asked, asks);
+  pair = λ all reported. refl;
   tried = λ number account e. cc;
-  trial = λ number trial told. absurd (make_or_trial words number (wanted_by asked, asks) trial);
+  trial = λ number trial reported. absurd (make_or_trial words number (make_request asked, asks) trial);
   read = λ e. cc;
 }
 
 -- a pair was made for the words, and both files written or not
 module _ (tells : Bool) (asked : MakeWords) (pair : GenPair) (drawn : IsDrawn asked.number pair) (old new : ShelfState) where
-  holds : (words : List (List ℕ)) → AsksMake words (wanted_by asked) → new.held asked.first.now ≡ Some (aig_text pair.first) → new.held asked.second.now ≡ Some (blif_text pair.second.graph) → HasMadePair new.held words
+  holds : (words : List (List ℕ)) → AsksMake words (make_request asked) → new.held asked.first.now ≡ Some (aig_text pair.first) → new.held asked.second.now ≡ Some (blif_text pair.second.graph) → HasMadePair new.held words
   holds words asks first_there second_there =
       let first = first_read asked.number pair drawn (new.held asked.first.now) first_there in
       let second = second_read asked.number pair drawn (new.held asked.second.now) second_there in
       record {
-        wanted = wanted_by asked;
+        wanted = make_request asked;
         asks = asks;
         pair = pair;
         drawn = drawn;
@@ -119,16 +119,16 @@ module _ (tells : Bool) (asked : MakeWords) (pair : GenPair) (drawn : IsDrawn as
         matches = match_from_functions first.0.circuit second.0.circuit pair.first.graph pair.second.graph pair.hidden.inputs pair.hidden.outputs first.1.computes second.1.computes drawn.drawn.matches;
       }
 
-  cut : (words : List (List ℕ)) → AsksMake words (wanted_by asked) → (o : Outcome) → WritesPair tells asked.first.now asked.second.now (aig_text pair.first) (blif_text pair.second.graph) old new (Err o) → IsTrue tells → HasPartOfPair old.held new.held words
+  cut : (words : List (List ℕ)) → AsksMake words (make_request asked) → (o : Outcome) → WritesPair tells asked.first.now asked.second.now (aig_text pair.first) (blif_text pair.second.graph) old new (Err o) → IsTrue tells → HasPartOfPair old.held new.held words
   cut words asks o writes t = record {
-    wanted = wanted_by asked;
+    wanted = make_request asked;
     asks = asks;
     pair = pair;
     drawn = drawn;
     part = writes.part t asks.names.apart;
   }
 
-  left_unwritten : (words : List (List ℕ)) → AsksMake words (wanted_by asked) → (o : Outcome) → WritesPair tells asked.first.now asked.second.now (aig_text pair.first) (blif_text pair.second.graph) old new (Err o) → IsTrue tells → Leaves old.held new.held words o
+  left_unwritten : (words : List (List ℕ)) → AsksMake words (make_request asked) → (o : Outcome) → WritesPair tells asked.first.now asked.second.now (aig_text pair.first) (blif_text pair.second.graph) old new (Err o) → IsTrue tells → Leaves old.held new.held words o
   left_unwritten words asks o writes t =
       let part : MayBeCut old.held new.held words = inr (inr (inl (cut words asks o writes t))) in
       of_unwritten (Leaves old.held new.held words) o writes.stopped part part
@@ -137,7 +137,7 @@ module _ (tells : Bool) (asked : MakeWords) (pair : GenPair) (drawn : IsDrawn as
   pair_made ending is report writes = record {
     files = λ t n other. writes.others t n other.0 other.1;
     left = λ t words asks. subst (Leaves old.held new.held words) (sym is) (holds words asks (writes.whole t asks.names.apart).0 (writes.whole t asks.names.apart).1);
-    right = λ t words asks. subst (IsRight old.held words) (sym is) (wanted_by asked, asks);
+    right = λ t words asks. subst (IsRight old.held words) (sym is) (make_request asked, asks);
     by_words = λ words asks. subst (FollowsWords words) (sym is) (follows_made words asked asks);
     sound = λ t words asks. subst (IsSoundAnswer old.held words) (sym is) (record { matches = λ matching e. cc; refuses = λ e. cc });
     report = λ words asks. inl (

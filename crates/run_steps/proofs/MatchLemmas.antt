@@ -16,7 +16,7 @@ use Rattle.run_steps.specs.Match.{HasPart, IsProved, IsSought, NamesAccount}
 use Rattle.run_steps.specs.Make.{HasMadePair, HasPartOfPair, NamesPair, WriteFiles}
 use Rattle.run_steps.specs.Restore.{HasPartOfRestored, HasRestored, NamesRestored}
 use Rattle.run_steps.specs.Outcomes.{FollowsWords, IsRight, IsSoundAnswer, Leaves, LeavesFiles, MayBeCut}
-use Rattle.check_steps.specs.Asks.{Ask, sought_by, wanted_by, wished_by}
+use Rattle.check_steps.specs.Asks.{Ask, match_request, make_request, restore_request}
 use Rattle.run_steps.specs.Commands.{IsWritingCommand, IsNotWritten, asked_match}
 use Rattle.run_steps.specs.Steps.{Decides, Finds, IsAnswered, IsCutOf, IsEnding, IsStopOfMatch, IsStopWithin}
 use Rattle.check_steps.specs.Reading.{IsEarly, IsReadFrom, netlist_of}
@@ -97,21 +97,21 @@ kept before after words (Matched matching) none left = absurd (none.unmatched ma
 kept before after words NoMatching none left = absurd (none.no_refusal refl)
 kept before after words Made none left = absurd (none.no_pair refl)
 kept before after words (Restored gates) none left = absurd (none.no_netlist gates refl)
-kept before after words WriteFault none left = absurd (none.told.written refl)
-kept before after words Memory none left = absurd (none.told.room refl)
+kept before after words WriteFault none left = absurd (none.reported.written refl)
+kept before after words Memory none left = absurd (none.reported.room refl)
 kept before after words other none left = left
 
 -- a name that is neither the account of a match nor a file of a pair nor a netlist's that is restored isn't written
 pub not_written : (words : List (List ℕ)) (command : Command) (name : List ℕ) → Ask words command → (NamesAccount words name → ⊥) → (NamesPair words name → ⊥) → (NamesRestored words name → ⊥) → IsNotWritten command name
-not_written words (Match asked) name asks other apart unrestored = λ same. other (sought_by asked, asks, same)
-not_written words (Make asked) name asks other apart unrestored = (λ same. apart (wanted_by asked, asks, inl same), λ same. apart (wanted_by asked, asks, inr same))
-not_written words (Restore asked) name asks other apart unrestored = λ same. unrestored (wished_by asked, asks, same)
+not_written words (Match asked) name asks other apart unrestored = λ same. other (match_request asked, asks, same)
+not_written words (Make asked) name asks other apart unrestored = (λ same. apart (make_request asked, asks, inl same), λ same. apart (make_request asked, asks, inr same))
+not_written words (Restore asked) name asks other apart unrestored = λ same. unrestored (restore_request asked, asks, same)
 not_written words other name asks apart apart_pair unrestored = tt
 
 pub writes_of : (words : List (List ℕ)) (command : Command) → Ask words command → IsWritingCommand command → WriteFiles words
-writes_of words (Match asked) asks is = inl (sought_by asked, asks)
-writes_of words (Make asked) asks is = inr (inl (wanted_by asked, asks))
-writes_of words (Restore asked) asks is = inr (inr (wished_by asked, asks))
+writes_of words (Match asked) asks is = inl (match_request asked, asks)
+writes_of words (Make asked) asks is = inr (inl (make_request asked, asks))
+writes_of words (Restore asked) asks is = inr (inr (restore_request asked, asks))
 writes_of words other asks is = absurd is
 
 -- where one name holds what it held, and so do all others, nothing changed
@@ -121,9 +121,9 @@ everywhere before after name others here n false is = others n (λ e. false≢tr
 
 -- What an outcome of a match says: of the words, of the files that are held before and afterwards, and of itself.
 record Settles (tells : Bool) (asked : MatchWords) (before after : List ℕ → Option (List ℕ)) (o : Outcome) : Type 0 where
-  left : IsTrue tells → (words : List (List ℕ)) → AsksMatch words (sought_by asked) → Leaves before after words o
-  right : IsTrue tells → (words : List (List ℕ)) → AsksMatch words (sought_by asked) → IsRight before words o
-  by_words : (words : List (List ℕ)) → AsksMatch words (sought_by asked) → FollowsWords words o
+  left : IsTrue tells → (words : List (List ℕ)) → AsksMatch words (match_request asked) → Leaves before after words o
+  right : IsTrue tells → (words : List (List ℕ)) → AsksMatch words (match_request asked) → IsRight before words o
+  by_words : (words : List (List ℕ)) → AsksMatch words (match_request asked) → FollowsWords words o
 
 -- What was found for two netlists that were read, where the account was written under its name.
 module _ (tells : Bool) (asked : MatchWords) (old new : ShelfState) (first second : Named)
@@ -136,18 +136,18 @@ module _ (tells : Bool) (asked : MatchWords) (old new : ShelfState) (first secon
   second_graph t = record { netlist = netlist_of second_read.circuit second; holds = second_read.held t; numbered = second_read.numbered }
 
   -- the netlists' files stay
-  first_after : IsTrue tells → (words : List (List ℕ)) → AsksMatch words (sought_by asked) → HasGraph (new.held asked.first.now) first.graph
+  first_after : IsTrue tells → (words : List (List ℕ)) → AsksMatch words (match_request asked) → HasGraph (new.held asked.first.now) first.graph
   first_after t words asks = subst (λ content. HasGraph content first.graph) (sym (others t asked.first.now (λ same. asks.names.not_first (sym same)))) (first_graph t)
 
-  second_after : IsTrue tells → (words : List (List ℕ)) → AsksMatch words (sought_by asked) → HasGraph (new.held asked.second.now) second.graph
+  second_after : IsTrue tells → (words : List (List ℕ)) → AsksMatch words (match_request asked) → HasGraph (new.held asked.second.now) second.graph
   second_after t words asks = subst (λ content. HasGraph content second.graph) (sym (others t asked.second.now (λ same. asks.names.not_second (sym same)))) (second_graph t)
 
-  files : IsTrue tells → (words : List (List ℕ)) → AsksMatch words (sought_by asked) → IsSought old.held words (netlist_of first_read.circuit first) (netlist_of second_read.circuit second)
-  files t words asks = record { sought = (sought_by asked); asks = asks; first_held = first_read.held t; second_held = second_read.held t }
+  files : IsTrue tells → (words : List (List ℕ)) → AsksMatch words (match_request asked) → IsSought old.held words (netlist_of first_read.circuit first) (netlist_of second_read.circuit second)
+  files t words asks = record { sought = (match_request asked); asks = asks; first_held = first_read.held t; second_held = second_read.held t }
 
-  proved_by : IsTrue tells → (words : List (List ℕ)) → AsksMatch words (sought_by asked) → (account : List ℕ) (proved : Verdict) → Proves (graphs_of first second) account proved → new.held asked.account.now ≡ Some account → IsProved new.held words proved
+  proved_by : IsTrue tells → (words : List (List ℕ)) → AsksMatch words (match_request asked) → (account : List ℕ) (proved : Verdict) → Proves (graphs_of first second) account proved → new.held asked.account.now ≡ Some account → IsProved new.held words proved
   proved_by t words asks account proved proves there = record {
-    sought = (sought_by asked);
+    sought = (match_request asked);
     asks = asks;
     accepted = record {
       graphs = (graphs_of first second);
@@ -156,7 +156,7 @@ module _ (tells : Bool) (asked : MatchWords) (old new : ShelfState) (first secon
         first_name = asked.first.now;
         second_name = asked.second.now;
         account_name = asked.account.now;
-        asks = check_of words (sought_by asked) asks;
+        asks = check_of words (match_request asked) asks;
         first_held = first_after t words asks;
         second_held = second_after t words asks;
         there = there;
@@ -165,7 +165,7 @@ module _ (tells : Bool) (asked : MatchWords) (old new : ShelfState) (first secon
     };
   }
 
-  reads : (words : List (List ℕ)) → AsksMatch words (sought_by asked) → ReadFiles words
+  reads : (words : List (List ℕ)) → AsksMatch words (match_request asked) → ReadFiles words
   reads words asks = reads_of words (asked_match asked) tt asks
 
   -- an answer is right, and its account is left
@@ -199,11 +199,11 @@ module _ (tells : Bool) (asked : MatchWords) (old new : ShelfState) (first secon
 
   -- a budget that was spent, or running out of memory, is right
 
-  stop_right : (o : Outcome) → IsStopWithin (graphs_of first second) asked.budget o → IsTrue tells → (words : List (List ℕ)) → AsksMatch words (sought_by asked) → IsRight old.held words o
+  stop_right : (o : Outcome) → IsStopWithin (graphs_of first second) asked.budget o → IsTrue tells → (words : List (List ℕ)) → AsksMatch words (match_request asked) → IsRight old.held words o
   stop_right o stop t words asks =
       of_stop (IsRight old.held words) (graphs_of first second) asked.budget o stop
       (λ ledger spent. inr (inl (record {
-        sought = (sought_by asked);
+        sought = (match_request asked);
         asks = asks;
         graphs = (graphs_of first second);
         first_held = first_graph t;
@@ -214,12 +214,12 @@ module _ (tells : Bool) (asked : MatchWords) (old new : ShelfState) (first secon
 
   -- and a write that was refused leaves a first part
 
-  cut : IsTrue tells → (words : List (List ℕ)) → AsksMatch words (sought_by asked) → IsCutOf (graphs_of first second) (old.held asked.account.now) (new.held asked.account.now) → MayBeCut old.held new.held words
+  cut : IsTrue tells → (words : List (List ℕ)) → AsksMatch words (match_request asked) → IsCutOf (graphs_of first second) (old.held asked.account.now) (new.held asked.account.now) → MayBeCut old.held new.held words
   cut t words asks is =
       elim is [
         | inl same ↦ inl (unchanged t same)
         | inr (account, proved, proves, first_part) ↦ inr (inl (record {
-          sought = (sought_by asked);
+          sought = (match_request asked);
           asks = asks;
           graphs = (graphs_of first second);
           first_held = first_after t words asks;

@@ -59,12 +59,12 @@ ends_as graphs budget o result is stop = subst (λ r. IfErr r (IsStopWithin grap
 
 -- and a check can't say otherwise
 
-pub no_refusal_told : (graphs : Graphs) (account : List ℕ) (result : Result Verdict CheckStop) → IsProvedMatch graphs account → ((told : Verdict) → result ≢ Err check.Memory → (result ≡ Ok told) ↔ Proves graphs account told) → result ≡ Ok verdict.None → ⊥
-no_refusal_told graphs account result proved accepted is =
+pub no_refusal_answered : (graphs : Graphs) (account : List ℕ) (result : Result Verdict CheckStop) → IsProvedMatch graphs account → ((reported : Verdict) → result ≢ Err check.Memory → (result ≡ Ok reported) ↔ Proves graphs account reported) → result ≡ Ok verdict.None → ⊥
+no_refusal_answered graphs account result proved accepted is =
     let same = one_proved graphs account (verdict.Match proved.matching) verdict.None proved.accepted ((accepted verdict.None (λ e. cc)).0 is) in cc
 
-pub no_rejection_told : (graphs : Graphs) (account : List ℕ) (line : ℕ) (why : Why) (result : Result Verdict CheckStop) → IsProvedMatch graphs account → ((l : ℕ) (w : Why) → result ≢ Err check.Memory → (result ≡ Err (check.Rejected l w)) ↔ IsBadAt graphs account l w) → result ≡ Err (check.Rejected line why) → ⊥
-no_rejection_told graphs account line why result proved rejected is = never_both graphs account (verdict.Match proved.matching) line why proved.accepted ((rejected line why (λ e. cc)).0 is)
+pub no_rejection_answered : (graphs : Graphs) (account : List ℕ) (line : ℕ) (why : Why) (result : Result Verdict CheckStop) → IsProvedMatch graphs account → ((l : ℕ) (w : Why) → result ≢ Err check.Memory → (result ≡ Err (check.Rejected l w)) ↔ IsBadAt graphs account l w) → result ≡ Err (check.Rejected line why) → ⊥
+no_rejection_answered graphs account line why result proved rejected is = never_both graphs account (verdict.Match proved.matching) line why proved.accepted ((rejected line why (λ e. cc)).0 is)
 
 -- what ends a trial of a pair early
 pub stopped : (number : ℕ) (graphs : Graphs) (hidden : Matching) (o : Outcome) (result : Result Ending Outcome) → result ≡ Err o → IsPairOf number graphs.first graphs.second hidden → IsStopWithin graphs default_budget o → Tries number result
@@ -99,18 +99,18 @@ one_number words one other asks also =
 follows_tried : (held : List ℕ → Option (List ℕ)) (words : List (List ℕ)) (number : ℕ) (account : List ℕ) → AsksTrial words number → IsTrialOf number account → FollowsWords words (Tried number account)
 follows_tried held words number account asks trial = record {
   made = λ e. absurd (cc e);
-  pair = λ wanted told. absurd (make_or_trial words number wanted asks);
+  pair = λ wanted reported. absurd (make_or_trial words number wanted asks);
   tried = λ n a e. subst (IsRight held words) e (record { asks = asks; trial = trial });
-  trial = λ n also told. inl (account, ap (λ k. Tried k account) (one_number words number n asks also));
+  trial = λ n also reported. inl (account, ap (λ k. Tried k account) (one_number words number n asks also));
   read = λ e. absurd (cc e);
 }
 
 follows_spent : (words : List (List ℕ)) (number : ℕ) (ledger : Ledgered) → AsksTrial words number → IsSpentOnPairOf number ledger → FollowsWords words (Spent ledger)
 follows_spent words number ledger asks spent = record {
   made = λ e. absurd (cc e);
-  pair = λ wanted told. absurd (make_or_trial words number wanted asks);
+  pair = λ wanted reported. absurd (make_or_trial words number wanted asks);
   tried = λ n a e. absurd (cc e);
-  trial = λ n also told. inr (ledger, refl, subst (λ k. IsSpentOnPairOf k ledger) (one_number words number n asks also) spent);
+  trial = λ n also reported. inr (ledger, refl, subst (λ k. IsSpentOnPairOf k ledger) (one_number words number n asks also) spent);
   read = λ e. absurd (cc e);
 }
 

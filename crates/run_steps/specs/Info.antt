@@ -12,8 +12,8 @@ use Rattle.claim_core.specs.declared.info.OutputInfo.{OutputInfo}
 use Rattle.port_report.specs.Infos.{info_text}
 use Rattle.claim_core.specs.Rows.{AreRowsOf}
 
--- The text says of each output of the circuit what is true of what it computes, with the numbers of its ports and of the
--- gates of its graph, and these names of its ports.
+-- The text says of each output of the circuit what is true of what it computes, with the numbers of its ports and of
+-- the gates of its graph, and these names of its ports.
 pub record IsInfoText (circuit : Circuit) (named : Named) (text : List ℕ) : Type 0 where
   pub numbered : IsOrderOf circuit named.graph
   pub rows : List OutputInfo
@@ -24,8 +24,8 @@ pub record IsInfoText (circuit : Circuit) (named : Named) (text : List ℕ) : Ty
 abbrev pub with_itself : Net → Graphs
 with_itself graph = record { first = graph; second = graph }
 
--- The budget was spent on claims and matches of two graphs: as many lines were learned, and one more, which stands there too,
--- was refused. It wasn't enough for all that can be asked of them.
+-- The budget was spent on claims and matches of two graphs: as many lines were learned, and one more, which stands
+-- there too, was refused. It wasn't enough for all that can be asked of them.
 pub record IsSpentOf (graphs : Graphs) (budget : ℕ) (ledger : Ledgered) : Type 0 where
   pub budget_is : ledger.budget ≡ budget
   pub learned : learned_in ledger ≡ budget

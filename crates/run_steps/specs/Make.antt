@@ -10,7 +10,7 @@ use Rattle.gen_pair.specs.Pairs.{ArePairOf, HasSizes}
 use Rattle.net_print.specs.BlifLines.{blif_text}
 use Rattle.net_print.specs.Files.{aig_text}
 use Rattle.check_steps.specs.Held.{Netlist, HasNetlist}
-use Rattle.check_steps.specs.Words.{AsksMake, AsksMatch, AsksRestore, Sought, Wanted, Wished}
+use Rattle.check_steps.specs.Words.{AsksMake, AsksMatch, AsksRestore, MatchRequest, MakeRequest, RestoreRequest}
 
 -- The pair of a number: two graphs of 64 inputs, 32 outputs and 2,000 gates, and a match of them.
 pub record IsPairOf (number : ℕ) (first second : Net) (matching : Matching) : Type 0 where
@@ -32,10 +32,10 @@ pub record HasComputed (content : Option (List ℕ)) (graph : Net) (netlist : Ne
   pub holds : HasNetlist content netlist
   pub computes : Computes graph netlist.circuit
 
--- The words ask for a pair, and the two files have it, the first netlist in the binary form of AIGER and the second as BLIF: netlists that its graphs compute,
--- and of which its matching is a match.
+-- The words ask for a pair, and the two files have it, the first netlist in the binary form of AIGER and the second as
+-- BLIF: netlists that its graphs compute, and of which its matching is a match.
 pub record HasMadePair (held : List ℕ → Option (List ℕ)) (words : List (List ℕ)) : Type 0 where
-  pub wanted : Wanted
+  pub wanted : MakeRequest
   pub asks : AsksMake words wanted
   pub pair : GenPair
   pub drawn : IsDrawn wanted.number pair
@@ -51,9 +51,10 @@ pub record HasMadePair (held : List ℕ → Option (List ℕ)) (words : List (Li
 abbrev pub IsCutFrom : List ℕ → Option (List ℕ) → Option (List ℕ) → Type 0
 IsCutFrom text before after = (after ≡ before) ⊎ ((count : ℕ) × (after ≡ Some (take count text)))
 
--- The words ask for a pair, and the writing was cut off: in the first file, before the second was touched, or in the second.
+-- The words ask for a pair, and the writing was cut off: in the first file, before the second was touched, or in the
+-- second.
 pub record HasPartOfPair (before after : List ℕ → Option (List ℕ)) (words : List (List ℕ)) : Type 0 where
-  pub wanted : Wanted
+  pub wanted : MakeRequest
   pub asks : AsksMake words wanted
   pub pair : GenPair
   pub drawn : IsDrawn wanted.number pair
@@ -65,10 +66,10 @@ pub record HasPartOfPair (before after : List ℕ → Option (List ℕ)) (words 
 -- the words ask for a match, for a pair or for a netlist to be restored, which are written
 abbrev pub WriteFiles : List (List ℕ) → Type 0
 WriteFiles words =
-    ((sought : Sought) × AsksMatch words sought)
-    ⊎ ((wanted : Wanted) × AsksMake words wanted)
-    ⊎ ((wished : Wished) × AsksRestore words wished)
+    ((sought : MatchRequest) × AsksMatch words sought)
+    ⊎ ((wanted : MakeRequest) × AsksMake words wanted)
+    ⊎ ((wished : RestoreRequest) × AsksRestore words wished)
 
 -- the words ask for a pair, of which one file has this name
 abbrev pub NamesPair : List (List ℕ) → List ℕ → Type 0
-NamesPair words name = (wanted : Wanted) × AsksMake words wanted × ((name ≡ wanted.first) ⊎ (name ≡ wanted.second))
+NamesPair words name = (wanted : MakeRequest) × AsksMake words wanted × ((name ≡ wanted.first) ⊎ (name ≡ wanted.second))

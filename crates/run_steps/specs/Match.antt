@@ -10,11 +10,11 @@ use Rattle.query_core.specs.Ledgers.{Ledgered}
 use Rattle.check_steps.specs.Check.{IsAccepted}
 use Rattle.check_steps.specs.Held.{Netlist, HasNetlist, HasGraph}
 use Rattle.run_steps.specs.Info.{IsSpentOf}
-use Rattle.check_steps.specs.Words.{AsksMatch, Sought, check_words}
+use Rattle.check_steps.specs.Words.{AsksMatch, MatchRequest, check_words}
 
 -- The words ask for a match of two files that are these netlists.
 pub record IsSought (held : List ℕ → Option (List ℕ)) (words : List (List ℕ)) (first second : Netlist) : Type 0 where
-  pub sought : Sought
+  pub sought : MatchRequest
   pub asks : AsksMatch words sought
   pub first_held : HasNetlist (held sought.first) first
   pub second_held : HasNetlist (held sought.second) second
@@ -41,7 +41,7 @@ pub record HasNoMatch (held : List ℕ → Option (List ℕ)) (words : List (Lis
 
 -- The words ask for a match of two files, within a budget that was spent on the graphs by which accounts number them.
 pub record IsSpentOnTwo (held : List ℕ → Option (List ℕ)) (words : List (List ℕ)) (ledger : Ledgered) : Type 0 where
-  pub sought : Sought
+  pub sought : MatchRequest
   pub asks : AsksMatch words sought
   pub graphs : Graphs
   pub first_held : HasGraph (held sought.first) graphs.first
@@ -50,13 +50,14 @@ pub record IsSpentOnTwo (held : List ℕ → Option (List ℕ)) (words : List (L
 
 -- The words ask for a match, and a check by the same three names accepts the account: it proves this.
 pub record IsProved (held : List ℕ → Option (List ℕ)) (words : List (List ℕ)) (proved : Verdict) : Type 0 where
-  pub sought : Sought
+  pub sought : MatchRequest
   pub asks : AsksMatch words sought
   pub accepted : IsAccepted held (check_words sought.first sought.second sought.account) proved
 
--- The words ask for a match, and under the account's name stand the first bytes of an account of the two files that is accepted.
+-- The words ask for a match, and under the account's name stand the first bytes of an account of the two files that is
+-- accepted.
 pub record HasPart (held : List ℕ → Option (List ℕ)) (words : List (List ℕ)) : Type 0 where
-  pub sought : Sought
+  pub sought : MatchRequest
   pub asks : AsksMatch words sought
   pub graphs : Graphs
   pub first_held : HasGraph (held sought.first) graphs.first
@@ -71,4 +72,4 @@ pub record HasPart (held : List ℕ → Option (List ℕ)) (words : List (List �
 
 -- the words ask for a match whose account has this name
 abbrev pub NamesAccount : List (List ℕ) → List ℕ → Type 0
-NamesAccount words name = (sought : Sought) × AsksMatch words sought × (name ≡ sought.account)
+NamesAccount words name = (sought : MatchRequest) × AsksMatch words sought × (name ≡ sought.account)

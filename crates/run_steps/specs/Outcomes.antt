@@ -69,21 +69,21 @@ IsRight held words (TooLarge which) = AsChecked (λ checked. EndsEarly held chec
 IsRight held words (Malformed which kind at) = AsChecked (λ checked. EndsEarly held checked (Malformed which kind at)) words
 IsRight held words other = Unit {0}
 
--- Whoever wrote the account, a matching that is accepted is a match of the files' netlists, and where a refusal is accepted, by
--- a check or before a netlist is restored, they have no match.
+-- Whoever wrote the account, a matching that is accepted is a match of the files' netlists, and where a refusal is
+-- accepted, by a check or before a netlist is restored, they have no match.
 pub record IsSoundAnswer (held : List ℕ → Option (List ℕ)) (words : List (List ℕ)) (outcome : Outcome) : Type 0 where
   pub matches : (matching : Matching) → outcome ≡ AcceptedMatch matching → IsMatchOfFiles held words matching
   pub refuses : outcome ≡ AcceptedRefusal → AsChecked (LacksMatch held) words
 
 -- the report was put whole
-pub record IsTold (outcome : Outcome) : Type 0 where
+pub record IsReported (outcome : Outcome) : Type 0 where
   pub written : outcome ≢ WriteFault
   pub room : outcome ≢ Memory
 
 -- no fault came between and memory did not run out
 pub record IsDecided (outcome : Outcome) : Type 0 where
   pub read : outcome ≢ ReadFault
-  pub told : IsTold outcome
+  pub reported : IsReported outcome
 
 -- no fault came between, memory did not run out and no budget was spent
 pub record IsSettled (outcome : Outcome) : Type 0 where
@@ -96,18 +96,18 @@ pub record LeavesFiles (outcome : Outcome) : Type 0 where
   pub no_refusal : outcome ≢ NoMatching
   pub no_pair : outcome ≢ Made
   pub no_netlist : (gates : ℕ) → outcome ≢ Restored gates
-  pub told : IsTold outcome
+  pub reported : IsReported outcome
 
 -- What the words alone say of an outcome, whatever the files have.
 pub record FollowsWords (words : List (List ℕ)) (outcome : Outcome) : Type 0 where
   pub made : outcome ≡ Made → AskForPair words
-  pub pair : AskForPair words → IsTold outcome → outcome ≡ Made
+  pub pair : AskForPair words → IsReported outcome → outcome ≡ Made
   pub tried : (number : ℕ) (account : List ℕ) → outcome ≡ Tried number account → IsTried words number account
-  pub trial : (number : ℕ) → AsksTrial words number → IsTold outcome → IsOfTrial number outcome
+  pub trial : (number : ℕ) → AsksTrial words number → IsReported outcome → IsOfTrial number outcome
   pub read : outcome ≡ ReadFault → ReadFiles words
 
--- a fault came or memory ran out, which leaves no file changed, or a first part of the account, of a pair or of a netlist that is
--- restored
+-- a fault came or memory ran out, which leaves no file changed, or a first part of the account, of a pair or of a
+-- netlist that is restored
 abbrev pub MayBeCut : (List ℕ → Option (List ℕ)) → (List ℕ → Option (List ℕ)) → List (List ℕ) → Type 0
 MayBeCut before after words =
     ((name : List ℕ) → after name ≡ before name)

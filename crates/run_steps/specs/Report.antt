@@ -37,8 +37,8 @@ pub record IsInfoReport (tells : Bool) (held : List ℕ → Option (List ℕ)) (
       (record { circuit = circuit; input_names = named.input_names; output_names = named.output_names })
   pub is : IsInfoText circuit named text
 
--- The text is the report of an outcome: the line of one that has no more, a report with the names of two files, or what is
--- known of one file.
+-- The text is the report of an outcome: the line of one that has no more, a report with the names of two files, or what
+-- is known of one file.
 abbrev pub IsReport : Bool → (List ℕ → Option (List ℕ)) → List (List ℕ) → Outcome → List ℕ → Type 0
 IsReport tells held words outcome text =
     (IsOneLine outcome × (text ≡ line_of outcome))

@@ -10,24 +10,25 @@ use Rattle.account_check.specs.declared.verdict.Verdict.TheVariants as verdict
 use Rattle.port_moves.specs.Restored.{ComputeTheSame}
 use Rattle.check_steps.specs.Check.{IsAccepted}
 use Rattle.check_steps.specs.Held.{Netlist, HasNetlist, HasGraph}
-use Rattle.check_steps.specs.Words.{AsksRestore, Wished, check_words}
+use Rattle.check_steps.specs.Words.{AsksRestore, RestoreRequest, check_words}
 
 -- this is so of the words, or they ask for a netlist to be restored and it is so of a check by the first three names
 abbrev pub AsChecked : (List (List ℕ) → Type 0) → List (List ℕ) → Type 0
 AsChecked P words =
-    P words ⊎ ((wished : Wished) × AsksRestore words wished × P (check_words wished.first wished.second wished.account))
+    P words ⊎ ((wished : RestoreRequest) × AsksRestore words wished × P (check_words wished.first wished.second wished.account))
 
--- The words ask for a netlist to be restored, and a check by the first three names accepts the account: it proves that a matching is a match. The second
--- netlist's graph has so many gates.
+-- The words ask for a netlist to be restored, and a check by the first three names accepts the account: it proves that
+-- a matching is a match. The second netlist's graph has so many gates.
 pub record IsRestorable (held : List ℕ → Option (List ℕ)) (words : List (List ℕ)) (gates : ℕ) : Type 0 where
-  pub wished : Wished
+  pub wished : RestoreRequest
   pub asks : AsksRestore words wished
   pub matching : Matching
   pub accepted : IsAccepted held (check_words wished.first wished.second wished.account) (verdict.Match matching)
   pub gates_are : gates ≡ length accepted.graphs.second.gates
 
--- The bytes are a file of the binary form of AIGER: a netlist that has the ports of a first one, in their order and with their names, and computes what it does
--- on every vector. It has so many gates, no more than a second netlist's graph.
+-- The bytes are a file of the binary form of AIGER: a netlist that has the ports of a first one, in their order and
+-- with their names, and computes what it does on every vector. It has so many gates, no more than a second netlist's
+-- graph.
 pub record IsRestored (first : Netlist) (second : Net) (gates : ℕ) (bytes : List ℕ) : Type 0 where
   pub circuit : Circuit
   pub binary : take 4 bytes ≡ keyword true
@@ -38,7 +39,7 @@ pub record IsRestored (first : Netlist) (second : Net) (gates : ℕ) (bytes : Li
 
 -- The words ask for a netlist to be restored, and the new file has it.
 pub record HasRestored (before after : List ℕ → Option (List ℕ)) (words : List (List ℕ)) (gates : ℕ) : Type 0 where
-  pub wished : Wished
+  pub wished : RestoreRequest
   pub asks : AsksRestore words wished
   pub first : Netlist
   pub second : Net
@@ -50,7 +51,7 @@ pub record HasRestored (before after : List ℕ → Option (List ℕ)) (words : 
 
 -- The words ask for a netlist to be restored, and the new file has the first bytes of it.
 pub record HasPartOfRestored (before after : List ℕ → Option (List ℕ)) (words : List (List ℕ)) : Type 0 where
-  pub wished : Wished
+  pub wished : RestoreRequest
   pub asks : AsksRestore words wished
   pub first : Netlist
   pub second : Net
@@ -64,4 +65,4 @@ pub record HasPartOfRestored (before after : List ℕ → Option (List ℕ)) (wo
 
 -- the words ask for a netlist to be restored in a file of this name
 abbrev pub NamesRestored : List (List ℕ) → List ℕ → Type 0
-NamesRestored words name = (wished : Wished) × AsksRestore words wished × (name ≡ wished.restored)
+NamesRestored words name = (wished : RestoreRequest) × AsksRestore words wished × (name ≡ wished.restored)

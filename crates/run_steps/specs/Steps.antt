@@ -18,7 +18,7 @@ use Rattle.run_steps.specs.Writing.{HasFirst}
 use Rattle.run_steps.specs.Info.{IsInfoText, IsSpentOf, with_itself}
 use Rattle.run_steps.specs.Make.{IsCutFrom}
 use Rattle.run_steps.specs.Trial.{IsSpentOnPairOf, IsTrialOf}
-use Rattle.run_steps.specs.Outcomes.{FollowsWords, IsRight, IsSoundAnswer, IsTold, Leaves}
+use Rattle.run_steps.specs.Outcomes.{FollowsWords, IsRight, IsSoundAnswer, IsReported, Leaves}
 use Rattle.check_steps.specs.Lines.{line_of, report_on}
 use Rattle.run_steps.specs.Report.{IsReport}
 use Rattle.check_steps.specs.Checks.{ended}
@@ -85,8 +85,8 @@ abbrev pub IsCutOf : Graphs → Option (List ℕ) → Option (List ℕ) → Type
 IsCutOf graphs before after =
     (after ≡ before) ⊎ ((account : List ℕ) × (proved : Verdict) × Proves graphs account proved × HasFirst account after)
 
--- what ends a search for a match without an answer, by what stands under the account's name before and afterwards: the budget is spent and nothing was written,
--- or a write was refused
+-- what ends a search for a match without an answer, by what stands under the account's name before and afterwards: the
+-- budget is spent and nothing was written, or a write was refused
 abbrev pub IsStopOfMatch : Bool → Graphs → ℕ → Option (List ℕ) → Option (List ℕ) → Outcome → Type 0
 IsStopOfMatch tells graphs budget before after outcome =
     (IsStopWithin graphs budget outcome × (IsTrue tells → after ≡ before))
@@ -180,9 +180,9 @@ pub record Decides (tells : Bool) (command : Command) (old new : ShelfState) (re
   pub failed : result ≡ Err ReadFault → Rose old.faults new.faults
   pub unwritten : result ≡ Err WriteFault → IsWritingCommand command × Rose old.faults new.faults
 
--- the ending tells an outcome by its line, or there was no memory for the line
-abbrev pub TellsLine : Outcome → Ending → Type 0
-TellsLine outcome ending = ((ending.outcome ≡ outcome) × (ending.report.items ≡ line_of outcome)) ⊎ (ending.outcome ≡ Memory)
+-- the ending says an outcome by its line, or there was no memory for the line
+abbrev pub SaysLine : Outcome → Ending → Type 0
+SaysLine outcome ending = ((ending.outcome ≡ outcome) × (ending.report.items ≡ line_of outcome)) ⊎ (ending.outcome ≡ Memory)
 
 -- the first bytes of a text were written
 abbrev pub WritesPart : SinkState → SinkState → List ℕ → Type 0
@@ -190,8 +190,8 @@ WritesPart old new text = (count : ℕ) × (new.written ≡ old.written ++ take 
 
 -- Putting a text for an outcome: the run ends with the outcome, or the sink refused it.
 pub record PutsText (tells : Bool) (text : List ℕ) (asked : Outcome) (old new : SinkState) (result : Outcome) : Type 0 where
-  pub whole : IsTrue tells → IsTold result → new.written ≡ old.written ++ text
+  pub whole : IsTrue tells → IsReported result → new.written ≡ old.written ++ text
   pub part : IsTrue tells → WritesPart old new text
-  pub same : IsTold result → result ≡ asked
+  pub same : IsReported result → result ≡ asked
   pub last : NoPutFollows old new
   pub failed : result ≡ WriteFault → Rose old.faults new.faults

@@ -21,7 +21,8 @@ pub record WritesFile (tells : Bool) (name text : List ℕ) (old new : ShelfStat
   pub last : NoCallFollows old new
   pub failed : result ≡ Err Failed → Rose old.faults new.faults
 
--- Writing to the open file the next bytes of what is still to be written of a text: `pending` before, and `left` afterwards.
+-- Writing to the open file the next bytes of what is still to be written of a text: `pending` before, and `left`
+-- afterwards.
 pub record WritesOn (tells : Bool) (pending left : List ℕ) (old new : ShelfState)
     (result : Result (Unit {0}) ShelfStop) : Type 0 where
   -- no other file changes, and the same file stays open for writing

@@ -1,4 +1,4 @@
-//! What a run tells its sink that it is at.
+//! What a run reports to its sink that it is at.
 
 ghost use Rattle.std.specs.Prelude.{true};
 
@@ -10,7 +10,7 @@ use std::cell::Cell;
 use std::test::Fail;
 use watch_core::{Stage, Watch};
 
-/// How often a sink was told of three stages, and whether they came one after the other.
+/// How often three stages were reported to a sink, and whether they came one after the other.
 #[derive(Clone, Copy, Debug, PartialEq, Eq)]
 struct StageCounts {
     reading: u32,
@@ -43,7 +43,7 @@ impl StageCounts {
     }
 }
 
-/// A sink in memory that counts what it is told.
+/// A sink in memory that counts what is reported to it.
 #[derive(Drop)]
 struct Counting {
     sink: SafeSink,
@@ -80,7 +80,7 @@ impl Sink for Counting {
     }
 }
 
-/// Seeks the match of two netlists, and counts what is told.
+/// Seeks the match of two netlists, and counts what is reported.
 fn match_counted(alloc: Global, netlists: [&[u8]; 2]) -> Result<(Ended, StageCounts), AllocError> {
     let mut shelf = SafeShelf::new(alloc, files_of(alloc, netlists, None)?, 65_536)?;
     let mut sink = Counting::new(alloc);

@@ -22,15 +22,16 @@ fn ban(alloc: Global, pairs: &[Pair]) -> Result<Ban, AllocError> {
     })
 }
 
-fn hold(alloc: Global, pairs: &[Pair], book: &mut BanBook) -> Result<u64, AllocError> {
+fn keep_ban(alloc: Global, pairs: &[Pair], book: &mut BanBook) -> Result<u64, AllocError> {
     book.hold(ban(alloc, pairs)?)
 }
 
 // Two bans: of two pairs, and of one.
 fn two_bans(alloc: Global) -> Result<BanBook, AllocError> {
     let mut book = BanBook::new(alloc);
-    let _ = hold(alloc, &[CROSSED, BACK], &mut book)?;
-    let _ = hold(alloc, &[OWN], &mut book)?;
+    // their numbers are 0 and 1
+    let _ = keep_ban(alloc, &[CROSSED, BACK], &mut book)?;
+    let _ = keep_ban(alloc, &[OWN], &mut book)?;
     Ok(book)
 }
 

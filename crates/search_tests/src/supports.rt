@@ -56,7 +56,7 @@ fn is_support(rows: &[OutputInfo], support: &[(u32, Unate)]) -> bool {
     }
 }
 
-/// How many claims were decided of a circuit where its one output has this support; None where it is told otherwise.
+/// How many claims were decided of a circuit where its one output has this support; None where the answer is otherwise.
 fn claims_of(
     alloc: Global,
     graphs: &Graphs<'_>,

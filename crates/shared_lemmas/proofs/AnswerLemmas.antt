@@ -28,6 +28,6 @@ paid_alone graphs query lines old new (Ok answer) is paid = all_after graphs gra
 paid_alone graphs query lines old new (Err stop) is paid = tt
 
 -- lines that were paid for under the feeds of one query
-pub paid_one : (graphs : Graphs) (query : Query) (held : List Query) (lines : List LogLine) (asked : List Asked) → held ≡ query ∷ [] → All (IsPaid graphs query asked) lines → ArePaidIn (record { graphs = graphs; held = held; lines = lines }) asked
-paid_one graphs query held lines asked is paid =
+pub paid_one : (graphs : Graphs) (query : Query) (last_query : List Query) (lines : List LogLine) (asked : List Asked) → last_query ≡ query ∷ [] → All (IsPaid graphs query asked) lines → ArePaidIn (record { graphs = graphs; last_query = last_query; lines = lines }) asked
+paid_one graphs query last_query lines asked is paid =
     subst (All (λ q. All (IsPaid graphs q asked) lines)) (sym is) (All-push (λ q. All (IsPaid graphs q asked) lines) [] query (λ k d within. absurd (omega (arith, within))) paid)

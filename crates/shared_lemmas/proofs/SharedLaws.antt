@@ -15,9 +15,9 @@ use Rattle.shared_lemmas.proofs.FormulaLemmas.{feeds_common}
 pub own_feeds : (query : Query) → HaveSameFeeds query query
 own_feeds query = record { left_side = refl; left_feed = refl; right_side = refl; right_feed = refl }
 
--- what holds under the feeds of the query that is held holds under those of one with the same feeds
-pub turned : (graphs : Graphs) (query : Query) (held : List Query) (lines : List LogLine) → AreShared graphs held lines → IsUnder query held → HoldUnder graphs query lines
-turned graphs query held lines shared under other same =
+-- what holds under the feeds of the last query holds under those of one with the same feeds
+pub turned : (graphs : Graphs) (query : Query) (last_query : List Query) (lines : List LogLine) → AreShared graphs last_query lines → IsUnder query last_query → HoldUnder graphs query lines
+turned graphs query last_query lines shared under other same =
     let own = subst (λ q. HoldUnder graphs q lines) under.is (shared 0 under.own under.some) in
     own other (record {
       left_side = same.left_side ∙ under.same.left_side;
@@ -27,8 +27,8 @@ turned graphs query held lines shared under other same =
     })
 
 -- lines that hold under the feeds of one query
-pub of_one : (graphs : Graphs) (query : Query) (held : List Query) (lines : List LogLine) → held ≡ query ∷ [] → HoldUnder graphs query lines → AreShared graphs held lines
-of_one graphs query held lines is hold =
+pub of_one : (graphs : Graphs) (query : Query) (last_query : List Query) (lines : List LogLine) → last_query ≡ query ∷ [] → HoldUnder graphs query lines → AreShared graphs last_query lines
+of_one graphs query last_query lines is hold =
     subst (λ qs. AreShared graphs qs lines) (sym is) (All-push (λ q. HoldUnder graphs q lines) [] query (λ k d within. absurd (omega (arith, within))) hold)
 
 -- lines that don't rest on the outputs are added

@@ -27,13 +27,13 @@ HoldUnder graphs query lines = (other : Query) → HaveSameFeeds query other →
 
 -- lines hold under the feeds of each of these queries
 abbrev pub AreShared : Graphs → List Query → List LogLine → Type 0
-AreShared graphs held lines = All (λ query. HoldUnder graphs query lines) held
+AreShared graphs last_query lines = All (λ query. HoldUnder graphs query lines) last_query
 
 -- A query has the feeds of the first of these.
-pub record IsUnder (query : Query) (held : List Query) : Type 0 where
+pub record IsUnder (query : Query) (last_query : List Query) : Type 0 where
   pub own : Query
-  pub some : 0 < length held
-  pub is : slice_index_or held 0 own ≡ own
+  pub some : 0 < length last_query
+  pub is : slice_index_or last_query 0 own ≡ own
   pub same : HaveSameFeeds own query
 
 -- The clause of a line that was learned for an entry under the feeds of a query, and charged.
@@ -55,12 +55,12 @@ PaysFor graphs query some others = (asked : List Asked)
 -- What questions about two circuits share: lines that hold under the feeds of the first of these queries.
 pub record Sharing : Type 0 where
   pub graphs : Graphs
-  pub held : List Query
+  pub last_query : List Query
   pub lines : List LogLine
 
 -- what is shared was paid for in these entries
 abbrev pub ArePaidIn : Sharing → List Asked → Type 0
-ArePaidIn sharing asked = All (λ query. All (IsPaid sharing.graphs query asked) sharing.lines) sharing.held
+ArePaidIn sharing asked = All (λ query. All (IsPaid sharing.graphs query asked) sharing.lines) sharing.last_query
 
 -- the lines of an answer's log were paid for
 abbrev pub AreLogPaid : Graphs → Query → List Asked → Answer → Type 0

@@ -17,7 +17,7 @@ pub(crate) struct QuestionPairs<'a, W: Watch> {
     pub(crate) reporter: Reporter<'a, W>,
 }
 
-/// What a watcher is told of a question.
+/// What is reported of a question to a watcher.
 #[derive(Drop)]
 pub(crate) struct Reporter<'a, W: Watch> {
     watch: &'a W,
@@ -26,12 +26,12 @@ pub(crate) struct Reporter<'a, W: Watch> {
     learned: u64,
     /// How many of the question's lines were learned before it.
     lemmas: u64,
-    /// From how many of them on it is told again.
+    /// From how many of them on they are reported again.
     next: u64,
 }
 
 impl<'a, W: Watch> Reporter<'a, W> {
-    /// Tells of a question that has this many lemmas.
+    /// Reports a question that has this many lemmas.
     pub(crate) fn new(ledger: &Ledger, lemmas: u64, watch: &'a W) -> Reporter<'a, W> {
         Reporter {
             watch,

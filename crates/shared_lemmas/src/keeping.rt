@@ -24,7 +24,7 @@ pub(crate) fn keep(
 ) -> Result<(), AllocError>
     requires derived { AreDerived (formula_of cones.now.graphs cones.now.query) lines.now }
     requires hold { HoldUnder cones.now.graphs cones.now.query stock.old.lines.items }
-    ensures held { stock.new.held ≡ stock.old.held }
+    ensures last_query { stock.new.last_query ≡ stock.old.last_query }
     ensures hold { HoldUnder cones.now.graphs cones.now.query stock.new.lines.items }
     ensures written { OnOk result (AreWritten (length (query_clauses cones.now.graphs cones.now.query))
         lines.now stock.old.lines.items stock.new.lines.items) }

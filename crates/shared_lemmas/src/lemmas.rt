@@ -85,7 +85,7 @@ fn note_twins(
     }
 }
 
-// Lists that a line of a stock, told by its place, stands among the lemmas under a number, if that lemma has its
+// Lists that a line of a stock, given by its place, stands among the lemmas under a number, if that lemma has its
 // clause.
 fn note_twin(
     count: u64,

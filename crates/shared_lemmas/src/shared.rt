@@ -54,17 +54,17 @@ impl<'a> Model for SharedLemmas<'a> {
 
     ghost view = { λ a. record {
       graphs = a.graphs.now;
-      held = a.stock.held.items;
+      last_query = a.stock.last_query.items;
       lines = a.stock.lines.items;
     } };
 
-    ghost invariant = { λ a. AreKept a.graphs.now a.stock.held.items a.stock.lines.items };
+    ghost invariant = { λ a. AreKept a.graphs.now a.stock.last_query.items a.stock.lines.items };
 }
 
 impl<'a> SharedLemmas<'a> {
     /// Nothing was learned.
     pub fn new(alloc: Global, graphs: &'a Graphs<'a>) -> SharedLemmas<'a>
-        ensures { result ≡ record { graphs = graphs.now; held = []; lines = [] } }
+        ensures { result ≡ record { graphs = graphs.now; last_query = []; lines = [] } }
     {
         SharedLemmas {
             graphs,
@@ -107,22 +107,22 @@ fn ask_sharing<W: Watch>(
     watch: &W,
 ) -> Result<Answer, Stop>
     requires fits { IsQuery graphs.now query.now }
-    requires shared { AreShared graphs.now stock.old.held.items stock.old.lines.items }
+    requires shared { AreShared graphs.now stock.old.last_query.items stock.old.lines.items }
     requires not_spent { ledger.old.spent ≡ false }
-    ensures shared { AreShared graphs.now stock.new.held.items stock.new.lines.items }
+    ensures shared { AreShared graphs.now stock.new.last_query.items stock.new.lines.items }
     ensures asks { Asks (IsAskedBy (ArePaidIn (record {
       graphs = graphs.now;
-      held = stock.old.held.items;
+      last_query = stock.old.last_query.items;
       lines = stock.old.lines.items;
     }))) graphs.now query.now ledger.old ledger.new result }
     ensures paid { ArePaidIn (record {
       graphs = graphs.now;
-      held = stock.old.held.items;
+      last_query = stock.old.last_query.items;
       lines = stock.old.lines.items;
     }) ledger.old.asked
         → OnOk result (ArePaidIn (record {
           graphs = graphs.now;
-          held = stock.new.held.items;
+          last_query = stock.new.last_query.items;
           lines = stock.new.lines.items;
         }) ledger.new.asked) }
 {
@@ -156,7 +156,7 @@ fn ask_cones<W: Watch>(
     requires question { IsQuestion question.now }
     requires hold { HoldUnder question.now.graphs.now question.now.query.now stock.old.lines.items }
     requires not_spent { ledger.old.spent ≡ false }
-    ensures held { stock.new.held ≡ stock.old.held }
+    ensures last_query { stock.new.last_query ≡ stock.old.last_query }
     ensures hold { HoldUnder question.now.graphs.now question.now.query.now stock.new.lines.items }
     ensures asks { Asks (IsAskedBy (λ asked.
         All (IsPaid question.now.graphs.now question.now.query.now asked) stock.old.lines.items))
@@ -182,7 +182,7 @@ fn ask_by_stock<W: Watch>(
     requires question { IsQuestion question.now }
     requires hold { HoldUnder question.now.graphs.now question.now.query.now stock.old.lines.items }
     requires not_spent { ledger.old.spent ≡ false }
-    ensures held { stock.new.held ≡ stock.old.held }
+    ensures last_query { stock.new.last_query ≡ stock.old.last_query }
     ensures hold { HoldUnder question.now.graphs.now question.now.query.now stock.new.lines.items }
     ensures asks { Asks (IsAskedBy (λ asked.
         All (IsPaid question.now.graphs.now question.now.query.now asked) stock.old.lines.items))
@@ -216,7 +216,7 @@ fn ask_by<G: QuestionGuide>(
     requires lemmas { MayGoOn (formula_of question.now.graphs.now question.now.query.now) lemmas.now.lines.items }
     requires hold { HoldUnder question.now.graphs.now question.now.query.now stock.old.lines.items }
     requires not_spent { ledger.old.spent ≡ false }
-    ensures held { stock.new.held ≡ stock.old.held }
+    ensures last_query { stock.new.last_query ≡ stock.old.last_query }
     ensures hold { HoldUnder question.now.graphs.now question.now.query.now stock.new.lines.items }
     ensures asks { Asks (IsAskedWith lemmas.now.lines.items) question.now.graphs.now question.now.query.now
         ledger.old ledger.new result }
@@ -240,7 +240,7 @@ fn finish(
 ) -> Result<Answer, AllocError>
     requires answer { IsAnswer cones.now.graphs cones.now.query answer }
     requires hold { HoldUnder cones.now.graphs cones.now.query stock.old.lines.items }
-    ensures held { stock.new.held ≡ stock.old.held }
+    ensures last_query { stock.new.last_query ≡ stock.old.last_query }
     ensures hold { HoldUnder cones.now.graphs cones.now.query stock.new.lines.items }
     ensures answer { IfOk result (IsAnswer cones.now.graphs cones.now.query) }
     ensures paid { (asked : List Asked)
@@ -265,25 +265,25 @@ fn turn_to(
     query: &Query,
     stock: &mut Stock,
 ) -> Result<(), AllocError>
-    requires shared { AreShared graphs.now stock.old.held.items stock.old.lines.items }
-    ensures shared { AreShared graphs.now stock.new.held.items stock.new.lines.items }
-    ensures own { OnOk result (stock.new.held.items ≡ query.now ∷ []) }
+    requires shared { AreShared graphs.now stock.old.last_query.items stock.old.lines.items }
+    ensures shared { AreShared graphs.now stock.new.last_query.items stock.new.lines.items }
+    ensures own { OnOk result (stock.new.last_query.items ≡ query.now ∷ []) }
     ensures hold { OnOk result (HoldUnder graphs.now query.now stock.new.lines.items) }
     ensures paid { (asked : List Asked)
         → ArePaidIn (record {
           graphs = graphs.now;
-          held = stock.old.held.items;
+          last_query = stock.old.last_query.items;
           lines = stock.old.lines.items;
         }) asked
         → OnOk result (All (IsPaid graphs.now query.now asked) stock.new.lines.items) }
 {
     let own = only(alloc, query)?;
-    if is_under(query, &stock.held) {
-        stock.held = own;
+    if is_under(query, &stock.last_query) {
+        stock.last_query = own;
         return Ok(());
     }
     *stock = Stock::new(alloc, stock.given);
-    stock.held = own;
+    stock.last_query = own;
     Ok(())
 }
 

@@ -7,7 +7,7 @@ use cnf_core::{LogLine, SatLit};
 use indexmap::IndexMap;
 use std::alloc::{AllocError, Global};
 
-/// The places of lines of two literals. They are found by these: the lemmas by which two gates are one come anew with
+/// The places of lines of two literals. They are found by these: the lemmas by which two gates are one come again with
 /// each question.
 #[derive(Drop)]
 pub(crate) struct Twins {
@@ -51,7 +51,7 @@ impl Twins {
 #[derive(Drop)]
 pub(crate) struct Stock {
     /// The query that was asked last, if one was: under its feeds the lines hold.
-    pub(crate) held: Vec<Query>,
+    pub(crate) last_query: Vec<Query>,
     pub(crate) lines: Vec<LogLine>,
     pub(crate) twins: Twins,
     /// How many lines questions got as lemmas, also of feeds that were left.
@@ -61,11 +61,11 @@ pub(crate) struct Stock {
 impl Stock {
     /// No lines, where questions got this many before.
     pub(crate) fn new(alloc: Global, given: u64) -> Stock
-        ensures held { result.held.items ≡ [] }
+        ensures last_query { result.last_query.items ≡ [] }
         ensures lines { result.lines.items ≡ [] }
     {
         Stock {
-            held: Vec::new(alloc),
+            last_query: Vec::new(alloc),
             lines: Vec::new(alloc),
             twins: Twins::new(alloc),
             given,

@@ -1,5 +1,5 @@
--- What each call of a shelf does: sequential files by name, as in the C library (fopen, fread, fwrite, fclose), one open at a
--- time. Facts on contents are so where the shelf `tells` its files.
+-- What each call of a shelf does: sequential files by name, as in the C library (fopen, fread, fwrite, fclose), one
+-- open at a time. Facts on contents are so where the shelf `tells` its files.
 use Rattle.std.specs.Prelude.{◌≡◌, ◌≢◌, ℕ, ◌+◌, ◌<◌, ◌≤◌, ◌⊎◌, Bool, IsTrue, List, [], ◌++◌, length, take, drop, Option, None, Some, Result, Err, IfOk, OnOk}
 use Rattle.std.specs.Prelude.{OnErr, IfSome, IfNone}
 use Rattle.shelf_core.specs.declared.outside.ShelfStop.{ShelfStop}
@@ -50,7 +50,7 @@ pub record Reads (tells : Bool) (old new : ShelfState) (before after : List ℕ)
   pub no_memory : result ≡ Err Memory → new.faults ≡ old.faults
   pub failed : result ≡ Err Failed → Rose old.faults new.faults
 
--- Making the file `name` anew, empty, and opening it for writing.
+-- Making the file `name`, empty, and opening it for writing.
 pub record Creates (tells : Bool) (name : List ℕ) (old new : ShelfState) (result : Result (Unit {0}) ShelfStop) : Type 0 where
   -- no other file changes
   pub others : (n : List ℕ) → n ≢ name → new.held n ≡ old.held n

@@ -1,4 +1,4 @@
--- Calls that are told to fail, by their numbers from 0.
+-- Calls that are made to fail, by their numbers from 0.
 use Rattle.std.specs.Prelude.{◌≡◌, ℕ, ◌+◌, List, Contains}
 use Rattle.shelf_core.specs.CallCount.{one_more}
 

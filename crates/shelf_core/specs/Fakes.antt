@@ -1,11 +1,11 @@
--- What shelves and sinks in memory mean some of whose calls are told to fail.
+-- What shelves and sinks in memory mean some of whose calls are made to fail.
 use Rattle.std.specs.Prelude.{ℕ}
 use Rattle.shelf_core.specs.State.{ShelfState}
 use Rattle.shelf_core.specs.Failing.{Failing}
 use Rattle.shelf_core.specs.declared.mem_shelf.MemShelf.{MemShelf}
 use Rattle.shelf_core.specs.declared.mem_sink.MemSink.{MemSink}
 
--- a shelf without failures, with those that were told
+-- a shelf without failures, with those that were made
 abbrev pub with_faults : ShelfState → Failing → ShelfState
 with_faults state failing = record state { faults = failing.faults; latest = failing.latest }
 

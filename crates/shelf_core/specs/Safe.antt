@@ -33,7 +33,8 @@ abbrev pub grow_first : List File → List ℕ → List File
 grow_first [] piece = []
 grow_first (file ∷ files) piece = (file.0, file.1 ++ piece) ∷ files
 
--- How a shelf in memory stands open: a file is read at its place, from a byte on; the file that is written is the first.
+-- How a shelf in memory stands open: a file is read at its place, from a byte on; the file that is written is the
+-- first.
 abbrev pub open_mode : Opened → Mode
 open_mode opened.No = Closed
 open_mode (opened.Reading place at) = Reading

@@ -23,7 +23,7 @@ const LONG_STREAM_BOUND: usize = 1 << 30;
 /// pipe or a device, is read to its end when it is opened, since its length isn't known before. One that goes on past
 /// 67,108,864 bytes, or where more are expected past 1 GiB, opens with a length of one byte more than that, and fails
 /// at its first read. A directory opens, and fails at its first read. A regular file that was read or made isn't made
-/// anew, nor is the file that standard output goes to, whatever names lead to them: to create one is a fault, and
+/// again, nor is the file that standard output goes to, whatever names lead to them: to create one is a fault, and
 /// leaves it as it is. A file that would grow past the limit that the system sets to the size of a file is a fault. A
 /// file that was written is closed once it is on its device. Each error of the machine is a fault, but that a path to
 /// be read leads to nothing.

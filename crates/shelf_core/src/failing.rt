@@ -1,4 +1,4 @@
-//! Calls that are told to fail.
+//! Calls that are made to fail.
 
 ghost use Rattle.std.specs.Prelude.{◌≡◌, ◌↔◌, IsTrue, Err, IfErr, OnErr, OnOk, Contains};
 ghost use Rattle.shelf_core.specs.Fault.{Rose};

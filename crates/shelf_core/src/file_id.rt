@@ -11,7 +11,7 @@ pub(crate) const OUTPUT: &str = "/dev/stdout";
 /// Linux's number of the null device, major 1 and minor 3.
 const NULL_DEVICE: u64 = 0x103;
 
-/// What a file is told by, whatever names lead to it: the device that it is on, and its number there.
+/// What a file is recognized by, whatever names lead to it: the device that it is on, and its number there.
 #[derive(Clone, Copy, Debug, PartialEq, Eq)]
 pub(crate) struct FileId {
     device: u64,
@@ -28,7 +28,8 @@ impl FileId {
 }
 
 /// The file that standard output goes to, where bytes of another writer would mix with those of the report; `None`
-/// where standard output is closed, the system doesn't tell its file, or it is the null device, which keeps nothing.
+/// where standard output is closed, the system doesn't say which file it is, or it is the null device, which keeps
+/// nothing.
 pub(crate) fn output_file<R: Files>(rt: &R) -> Option<FileId> {
     match fs::metadata(rt, OUTPUT) {
         Ok(metadata) if !is_null_device(&metadata) => Some(FileId::of(&metadata)),

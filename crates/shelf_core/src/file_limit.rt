@@ -11,7 +11,7 @@ const LIMITS: &str = "/proc/self/limits";
 const FILE_SIZE: &str = "Max file size";
 
 /// How many bytes a file may have that this process writes, by the soft limit (`ulimit -f`, RLIMIT_FSIZE); `u64::MAX`
-/// where there is none, or the system doesn't tell it. A write past it ends the process by a signal.
+/// where there is none, or the system doesn't say it. A write past it ends the process by a signal.
 pub(crate) fn file_size_limit<R: Files + Alloc>(rt: &R) -> u64 {
     match fs::read_to_string(rt, LIMITS) {
         Ok(limits) => size_in(limits.as_str()).unwrap_or(u64::MAX),

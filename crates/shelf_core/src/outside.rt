@@ -44,7 +44,7 @@ pub trait Shelf {
         requires { (state self.old).mode ≡ Reading }
         ensures { Reads tells (state self.old) (state self.new) buf.old buf.new result };
 
-    /// Makes a file anew, empty, and opens it for writing. After a refusal none is open, and the file is as it was or
+    /// Makes a file, empty, and opens it for writing. After a refusal none is open, and the file is as it was or
     /// empty.
     fn create(&mut self, name: &str) -> Result<(), ShelfStop>
         requires { (state self.old).mode ≡ Closed }
@@ -62,7 +62,7 @@ pub trait Shelf {
         ensures { Closes tells (state self.old) (state self.new) result };
 }
 
-/// A stream of bytes that goes out of the program, as its standard output. It is told what the run is at, too; that
+/// A stream of bytes that goes out of the program, as its standard output. It gets what the run is at, too; that
 /// changes nothing of what it is to contracts.
 pub trait Sink: Watch {
     /// Whether the sink tells the bytes that it took. Where it doesn't, `written` of its state means nothing.

@@ -202,7 +202,7 @@ fn bytes_at(files: &[StoredFile], place: usize) -> &[u8]
     files[place].bytes()
 }
 
-/// Makes the file of a name anew: it is empty then, and the first. Where there is no memory, all files stay.
+/// Makes the file of a name: it is empty then, and the first. Where there is no memory, all files stay.
 fn renew(alloc: Global, files: &mut Vec<StoredFile>, name: &str) -> Result<(), AllocError>
     ensures first { OnOk result (IsPlace files.new.items name.now 0) }
     ensures empty { OnOk result (look_up files.new.items name.now ≡ Some []) }

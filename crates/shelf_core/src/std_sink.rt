@@ -32,7 +32,7 @@ impl<R: Runtime> StdSink<R> {
 }
 
 impl<R: Runtime, W: Watch> StdSink<R, W> {
-    /// The standard output of the runtime, and a watcher that is told what the run is at.
+    /// The standard output of the runtime, and a watcher that gets what the run is at.
     pub fn watched(rt: R, watch: W) -> StdSink<R, W>
         ensures { (⟦<StdSink<R, W> as Sink>⟧.state result).faults ≡ 0 }
     {

@@ -36,6 +36,6 @@ pub record IsVectorOf (table : Table) (vector : List Bool) : Type 0 where
 
 -- A pair of an output that is assigned, and a vector of the first circuit's inputs.
 pub record IsSuspect (graphs : Graphs) (pairs : List Pair) (suspect : Suspect) : Type 0 where
-  pub held : Contains pairs suspect.pair
+  pub assigned : Contains pairs suspect.pair
   pub of_output : suspect.pair.kind ≡ Output
   pub places : length suspect.vector ≡ graphs.first.inputs

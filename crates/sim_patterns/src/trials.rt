@@ -86,18 +86,18 @@ impl Trials {
         &self,
         alloc: Global,
         graphs: &PairableGraphs<'_>,
-        held: &[Pair],
+        assigned: &[Pair],
     ) -> Result<Option<Suspect>, AllocError>
         requires trials { AreTrials graphs.now.first self.now }
-        requires known { All (IsKnown graphs.now) held.now }
-        ensures suspect { IfOk result (λ found. IfSome found (IsSuspect graphs.now held.now)) }
+        requires known { All (IsKnown graphs.now) assigned.now }
+        ensures suspect { IfOk result (λ found. IfSome found (IsSuspect graphs.now assigned.now)) }
         ensures vector { IfOk result (λ found. IfSome found (λ suspect. IsVectorOf self.now.inputs suspect.vector)) }
     {
-        if !have_output(held) {
+        if !have_output(assigned) {
             return Ok(None);
         }
         for block in 0..self.inputs.words() / BLOCK {
-            if let Some(found) = self.suspect_in(alloc, graphs, held, BLOCK * block)? {
+            if let Some(found) = self.suspect_in(alloc, graphs, assigned, BLOCK * block)? {
                 return Ok(Some(found));
             }
         }
@@ -109,21 +109,21 @@ impl Trials {
         &self,
         alloc: Global,
         graphs: &PairableGraphs<'_>,
-        held: &[Pair],
+        assigned: &[Pair],
         word: usize,
     ) -> Result<Option<Suspect>, AllocError>
         requires trials { AreTrials graphs.now.first self.now }
-        requires known { All (IsKnown graphs.now) held.now }
+        requires known { All (IsKnown graphs.now) assigned.now }
         requires word { word + 8 ≤ self.now.inputs.words }
-        ensures suspect { IfOk result (λ found. IfSome found (IsSuspect graphs.now held.now)) }
+        ensures suspect { IfOk result (λ found. IfSome found (IsSuspect graphs.now assigned.now)) }
         ensures vector { IfOk result (λ found. IfSome found (λ suspect. IsVectorOf self.now.inputs suspect.vector)) }
     {
         // the words are counted by a number of the machine's
         let _words = self.inputs.words();
         let mut sent = vec![in alloc; Rails::unknown(); graphs.second().inputs() as usize]?;
-        send_all(held, &self.inputs, word, &mut sent);
+        send_all(assigned, &self.inputs, word, &mut sent);
         let partners = rails_eval(alloc, graphs.second(), &sent)?;
-        for pair in held.iter() {
+        for pair in assigned.iter() {
             if let Some((at, lane)) = wrong_vector(*pair, &self.outputs, word, &partners) {
                 let vector = self.vector(alloc, word + at, lane)?;
                 return Ok(Some(Suspect {
@@ -178,13 +178,13 @@ fn unlike(signal: Rails, bits: u64x8) -> u64x8 {
 }
 
 // Gives the inputs that are paired what their partners have on the vectors of eight words.
-fn send_all(held: &[Pair], inputs: &Words, word: usize, sent: &mut [Rails])
-    requires from { All (λ pair. pair.kind ≡ Input → pair.from < length inputs.now.columns) held.now }
-    requires to { All (λ pair. pair.kind ≡ Input → pair.to < length sent.old) held.now }
+fn send_all(assigned: &[Pair], inputs: &Words, word: usize, sent: &mut [Rails])
+    requires from { All (λ pair. pair.kind ≡ Input → pair.from < length inputs.now.columns) assigned.now }
+    requires to { All (λ pair. pair.kind ≡ Input → pair.to < length sent.old) assigned.now }
     requires word { word + 8 ≤ inputs.now.words }
     ensures { length sent.new ≡ length sent.old }
 {
-    for pair in held.iter() {
+    for pair in assigned.iter() {
         send(*pair, inputs, word, sent);
     }
 }

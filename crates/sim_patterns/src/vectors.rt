@@ -78,7 +78,7 @@ fn bits_for(input: u32, word: usize, whole: bool, draws: &mut Draws) -> u64 {
 }
 
 // A drawn word. Of eight words, a block, two are even, and the others mostly 0 or mostly 1: an output that is nearly
-// always 1 on even vectors, as whether a graph has an edge between two of the inputs that are 1, tells the graph only
+// always 1 on even vectors, as whether a graph has an edge between two of the inputs that are 1, shows the graph only
 // where few inputs are. How few depends on the graph, so that a quarter of them are, an eighth and a sixteenth. These
 // shares weren't tuned.
 fn drawn(word: usize, draws: &mut Draws) -> u64 {

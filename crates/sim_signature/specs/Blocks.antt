@@ -25,7 +25,8 @@ bit_of_literal bits literal = differ (bits (signal_of literal)) (is_negated lite
 abbrev pub bit_of_gate : (ℕ → Bool) → Gate → Bool
 bit_of_gate bits gate = bit_of_literal bits gate.a && bit_of_literal bits gate.b
 
--- A gate has the AND of what its literals have after a change; or both of its operands have what they had before, and it too.
+-- A gate has the AND of what its literals have after a change; or both of its operands have what they had before, and
+-- it too.
 abbrev pub IsRunOrKept : Gate → ℕ → List (List ℕ) → List (List ℕ) → List (List ℕ) → List Bool → List Bool → Type 0
 IsRunOrKept gate place before old_after after old_marks marks =
     ((w v : ℕ) → w < 8 → v < 64 → block_bit w v (block_after before after marks place)

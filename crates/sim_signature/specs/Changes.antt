@@ -28,8 +28,8 @@ ends_of (Up i) = (Inverted i, Nothing)
 ends_of (Down i) = (Inverted i, Nothing)
 ends_of (Swap i j a b) = (Inverted i, Inverted j)
 
--- Two changes that lead from any vector to two that differ at a shape's inputs alone: where one of these has the shape's
--- values, the other one has the opposite ones.
+-- Two changes that lead from any vector to two that differ at a shape's inputs alone: where one of these has the
+-- shape's values, the other one has the opposite ones.
 pub record AreEnds (n : ℕ) (shape : Shape) (from to : Change) : Type 0 where
   pub from_there : IsChange n from
   pub to_there : IsChange n to

@@ -23,7 +23,8 @@ IsSighted shape sightings = Any (λ sighting. sighting.shape ≡ shape) sighting
 abbrev pub AreLeft : List Shape → List Sighting → List Shape → Type 0
 AreLeft claims sightings left = (shape : Shape) → Contains claims shape → Contains left shape ⊎ IsSighted shape sightings
 
--- Elements are added to a list: good ones, and the list still has those shapes that it had, and has all that are wanted.
+-- Elements are added to a list: good ones, and the list still has those shapes that it had, and has all that are
+-- wanted.
 pub record Adds {X : Type 0} (Good : X → Type 0) (Has : List X → Shape → Type 0) (Wanted : Shape → Type 0) (old new : List X) : Type 0 where
   pub good : All Good old → All Good new
   pub kept : (shape : Shape) → Has old shape → Has new shape

@@ -1,5 +1,5 @@
--- What outputs are on 512 vectors, and on these with one input inverted (signatures, as in papers on simulation in logic
--- synthesis).
+-- What outputs are on 512 vectors, and on these with one input inverted (signatures, as in papers on simulation in
+-- logic synthesis).
 use Rattle.std.specs.Prelude.{◌≡◌, ℕ, ◌+◌, ◌<◌, ◌≤◌, ◌⊎◌, Bool, true, List, length, slice_index_or}
 use Rattle.circuits.specs.Literals.{EachAt}
 use Rattle.circuits.specs.Netlists.{Net}
@@ -29,7 +29,8 @@ abbrev pub HasAllVectors : Signed → Type 0
 HasAllVectors s = (x : List Bool) → length x ≡ s.net.inputs
     → (w : ℕ) × (v : ℕ) × (w < 8) × (v < 64) × (x ≡ pattern s.blocks w v)
 
--- a vector is tried for a shape: one of the 512 with one of the shape's inputs inverted, or for a shape of one input as it is
+-- a vector is tried for a shape: one of the 512 with one of the shape's inputs inverted, or for a shape of one input as
+-- it is
 abbrev pub IsTried : Signed → Shape → List Bool → Type 0
 IsTried s shape x = (w : ℕ) × (v : ℕ) × (w < 8) × (v < 64)
     × ((x ≡ changed (ends_of shape).0 (pattern s.blocks w v)) ⊎ (x ≡ changed (ends_of shape).1 (pattern s.blocks w v)))

@@ -119,7 +119,7 @@ fn sight_all(
     Ok(left)
 }
 
-/// Notes a vector that breaks the claim, if the signatures of an output show one, and tells whether they do.
+/// Notes a vector that breaks the claim, if the signatures of an output show one, and says whether they do.
 fn sight(
     alloc: Global,
     signatures: &Signatures<'_>,

@@ -12,7 +12,7 @@ use std::alloc::{AllocError, Global};
 use std::simd::prelude::*;
 use word_sim::alternating;
 
-/// How many inputs a circuit has at most whose vectors are all tried: a word holds as many.
+/// How many inputs a circuit has at most whose vectors are all tried: a word has a bit for each.
 pub(crate) const FEW: u32 = 6;
 
 /// 512 vectors, a block of eight words for each input: all vectors of at most six inputs, else some that a generator

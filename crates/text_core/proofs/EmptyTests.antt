@@ -1,4 +1,4 @@
--- What a test for an empty list tells.
+-- What a test for an empty list says.
 use Rattle.std.proofs.Common.{◌≡◌, ◌==◌, ◌<◌, Bool, true, false, cond, List, length, Some, None, refl, arith}
 use Rattle.std.proofs.lemmas.Bool.Decides.{nat_tests}
 

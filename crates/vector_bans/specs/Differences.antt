@@ -1,4 +1,5 @@
--- Vectors on which an output differs from its partner, as values of a ban (three values: Eichelberger, IBM J. Res. Dev. 1965).
+-- Vectors on which an output differs from its partner, as values of a ban (three values: Eichelberger, IBM J. Res. Dev.
+-- 1965).
 use Rattle.std.specs.Prelude.{◌≡◌, ◌≢◌, ◌<◌, ℕ, Bool, List, length, map, remove, All, Contains, slice_index_or}
 use Rattle.std.specs.List.{range_with_len}
 use Rattle.circuits.specs.Bijections.{place_of, sign_of}
@@ -37,7 +38,8 @@ pub record MayTry (graphs : Graphs) (pair : Pair) (values : List Tri) (first : T
   pub places : length values ≡ graphs.first.inputs
   pub first_is : first ≡ first_value graphs values pair.from
 
--- Some of the pairs, in order, among them one of outputs, on which values show that the output differs from its partner.
+-- Some of the pairs, in order, among them one of outputs, on which values show that the output differs from its
+-- partner.
 pub record IsShown (graphs : Graphs) (whole : List Pair) (pair : Pair) (values : List Tri) (pairs : List Pair) : Type 0 where
   pub among : All (Contains whole) pairs
   pub ordered : AreOrdered pairs

@@ -1,4 +1,4 @@
-//! What a run is at, told to whoever watches it.
+//! What a run is at, reported to whoever watches it.
 #![tactic(auto)]
 
 mod stage;

@@ -119,7 +119,7 @@ fn is_out(trail: &Trail, literal: SatLit, other: SatLit) -> bool
 fn is_false(trail: &Trail, literal: SatLit) -> bool
     ensures { result ≡ is_false (literals trail.now.entries) literal }
 {
-    // tells that no literal is both true and false
+    // says that no literal is both true and false
     let _level = trail.level();
     match trail.value(literal) {
         Some(value) => !value,

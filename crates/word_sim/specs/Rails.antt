@@ -1,5 +1,5 @@
--- Three values as two bits, one where the value is 1 and one where it is 0 (dual-rail encoding, as in textbooks of digital
--- testing), on many vectors at once.
+-- Three values as two bits, one where the value is 1 and one where it is 0 (dual-rail encoding, as in textbooks of
+-- digital testing), on many vectors at once.
 use Rattle.std.specs.Prelude.{ℕ, Bool, true, false, List, [], ◌&&◌, ◌||◌, map, if◌then◌else◌, bit_and, bit_or}
 use Rattle.net_core.specs.Values.{Operations, each_lane}
 use Rattle.word_sim.specs.declared.rails.Rails.{Rails}

@@ -1,4 +1,4 @@
--- Claims of two circuits are told by five digits.
+-- Claims of two circuits are given by five digits.
 use Rattle.std.proofs.Common.{◌≡◌, ℕ, ◌*◌, ◌^◌, ◌<◌, cond, Bool, true, false, List, [], ◌∷◌, slice_index_or, refl, sym, ap, subst, ◌∙◌, arith}
 use Rattle.std.proofs.Math.Nat.{mul_assoc}
 use Rattle.net_core.specs.declared.graphs.Side.{Side}

@@ -1,4 +1,4 @@
--- Queries of matchings are told by digits: the first output and its value, the second one with its sign, and where each input
+-- Queries of matchings are given by digits: the first output and its value, the second one with its sign, and where each input
 -- goes, with its sign.
 use Rattle.std.proofs.Common.{◌≡◌, ℕ, ◌+◌, ◌*◌, ◌^◌, ◌<◌, not, Bool, List, [], ◌∷◌, length, map, replicate, slice_index_or, drop, All, refl, sym, ap, subst, ◌∙◌, arith}
 use Rattle.std.proofs.Math.Nat.{mul_assoc, mul_left_comm}
@@ -77,7 +77,7 @@ matches_counted n m =
 pub match_number_below : (n m : ℕ) (matching : Matching) (k : ℕ) (value : Bool) → IsSent n m matching k → match_number n m matching k value < matches_of n m
 match_number_below n m matching k value is = subst (λ most. match_number n m matching k value < most) (matches_counted n m) (number_below (match_radices n m) (match_digits matching k value) (are_digits n m matching k value is))
 
--- a query by what its digits tell
+-- a query by what its digits say
 abbrev query_by : ℕ → ℕ → Bool → ℕ → Bool → List (ℕ × Bool) → Query
 query_by n k value place sign inputs = record {
   left = record { side = First; output = k; feed = straight n };
@@ -86,7 +86,7 @@ query_by n k value place sign inputs = record {
   right_value = differ (not value) sign;
 }
 
--- the digits of a query tell the query
+-- the digits of a query give the query
 pub same_match : (n m : ℕ) (one other : Matching) (j k : ℕ) (value also : Bool) → IsSent n m one j → IsSent n m other k → match_number n m one j value ≡ match_number n m other k also → match_query n one j value ≡ match_query n other k also
 same_match n m one other j k value also is is_too same =
     let digits = same_digits (match_radices n m) (match_digits one j value) (match_digits other k also) (are_digits n m one j value is) (are_digits n m other k also is_too) same in

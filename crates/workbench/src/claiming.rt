@@ -32,7 +32,7 @@ impl Outcome {
 }
 
 /// Asks for n rounds, of each output and each input that it reaches through gates, whether the output never falls where
-/// the input goes up, each time anew, and prints how many of these claims hold. Nothing is simulated.
+/// the input goes up, each time again, and prints how many of these claims hold. Nothing is simulated.
 pub(crate) fn run<R: Print + AllocGlobal>(rt: &R, graph: &Graph, rounds: u32) -> Result<()> {
     let supports = Supports::new(rt.alloc(), graph)?;
     let graphs = Graphs::new(graph, graph);

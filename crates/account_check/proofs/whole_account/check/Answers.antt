@@ -1,4 +1,4 @@
--- Since an account has one verdict at most, it is told exactly; and a refusal that is accepted is right.
+-- Since an account has one verdict at most, it is answered exactly; and a refusal that is accepted is right.
 use Rattle.account_check.specs.declared.verdict.Verdict.TheVariants as verdict
 use Rattle.account_check.proofs.RefusalLemmas.{right_refusal}
 use Rattle.account_check.proofs.VerdictLemmas.{accepted_exactly, accepted_told, rejected_exactly, rejected_told}

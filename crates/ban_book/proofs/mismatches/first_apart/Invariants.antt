@@ -1,4 +1,4 @@
--- The rows tell none of the pairs so far apart.
+-- None of the pairs so far is apart by the rows.
 use Rattle.std.proofs.Common.{◌≡◌, All, take}
 use Rattle.circuits.specs.declared.port.Pair.{Pair}
 use Rattle.circuits.specs.declared.port.PortKind.TheVariants.{Input}

@@ -1,4 +1,4 @@
--- Both operands are told, and so is the gate.
+-- Both operands are known, and so is the gate.
 use Rattle.std.proofs.Common.{subst}
 use Rattle.std.proofs.lemmas.Result.{IfOk-weaker}
 use Rattle.std.specs.Prelude.{IfSome}

@@ -1,4 +1,4 @@
--- The leaf tells the literal.
+-- The leaf gives the literal.
 use Rattle.std.proofs.Common.{refl, subst, ap, ◌∙◌}
 use Rattle.std.specs.Prelude.{IfSome}
 use Rattle.net_core.specs.Values.{signed_word}

@@ -1,4 +1,4 @@
--- What is listed of the signal tells the literal.
+-- What is listed of the signal gives the literal.
 use Rattle.std.proofs.Common.{subst, ap, ◌∙◌}
 use Rattle.circuits.specs.Literals.{signal_of}
 use Rattle.net_core.specs.Values.{signed_word}

@@ -1,8 +1,8 @@
 -- The places are still those of the numbers.
 use Rattle.std.proofs.Common.{◌≡◌, length, slice_index_or, slice_set, sym, subst, ap, ◌∙◌, arith}
 use Rattle.std.proofs.lemmas.List.{get_or_read}
-use Rattle.learn_solver.specs.Heaps.{AreInverse, are_held}
-use Rattle.learn_solver.proofs.HeapLemmas.{held_exchanged, inverse_exchanged, written}
+use Rattle.learn_solver.specs.Heaps.{AreInverse, are_queued}
+use Rattle.learn_solver.proofs.HeapLemmas.{queued_exchanged, inverse_exchanged, written}
 use Rattle.learn_solver.proofs.heap.exchange.Goals as goal
 
 pub returns-clause-places : goal.returns-clause-places
@@ -24,4 +24,4 @@ returns-clause-inverse c count is =
     subst (AreInverse count now) (sym (returns-clause-places c)) (inverse_exchanged count numbers c.args.places.now.items now c.args.one c.args.other is (omega (arith, c.requires.one, is.as_many)) (omega (arith, c.requires.other, is.as_many)) c.swap.ensures.by_index size)
 
 pub returns-clause-kept : goal.returns-clause-kept
-returns-clause-kept c held same = ap (are_held held) (returns-clause-places c) ∙ held_exchanged held c.args.places.now.items c.args.one c.args.other same
+returns-clause-kept c queued same = ap (are_queued queued) (returns-clause-places c) ∙ queued_exchanged queued c.args.places.now.items c.args.one c.args.other same

@@ -11,5 +11,5 @@ loop-place-preserved c =
       inverse = c.exchange.ensures.inverse (length c.args.keys.now) is.inverse;
       low = omega (arith, is.low, less);
       known = is.known;
-      held = λ held late. c.exchange.ensures.kept held (lt-ltb _ held (omega (arith, is.low, late)) ∙ sym (lt-ltb _ held (omega (arith, is.low, late, less)))) ∙ is.held held late;
+      queued = λ queued late. c.exchange.ensures.kept queued (lt-ltb _ queued (omega (arith, is.low, late)) ∙ sym (lt-ltb _ queued (omega (arith, is.low, late, less)))) ∙ is.queued queued late;
     }

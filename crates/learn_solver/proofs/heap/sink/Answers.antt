@@ -9,5 +9,5 @@ loop-place-preserved c =
     let below = c.first_below-below.ensures in
     record {
       inverse = c.exchange.ensures.inverse (length c.args.keys.now) is.inverse;
-      held_are = c.exchange.ensures.kept c.args.held (lt-ltb _ c.args.held (omega (arith, below.later, below.there)) ∙ sym (lt-ltb _ c.args.held below.there)) ∙ is.held_are;
+      queued_are = c.exchange.ensures.kept c.args.queued (lt-ltb _ c.args.queued (omega (arith, below.later, below.there)) ∙ sym (lt-ltb _ c.args.queued below.there)) ∙ is.queued_are;
     }

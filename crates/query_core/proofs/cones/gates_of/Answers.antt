@@ -1,4 +1,4 @@
--- The gates that the graph of the cone's side tells.
+-- The gates that the graph of the cone's side gives.
 use Rattle.std.proofs.Common.{subst}
 use Rattle.circuits.specs.Netlists.{Net}
 use Rattle.claim_core.specs.ConeClauses.{AreReached}

@@ -1,4 +1,4 @@
--- The netlists were judged, and the second one restored, or the verdict told.
+-- The netlists were judged, and the second one restored, or the verdict reported.
 use Rattle.std.proofs.lemmas.Result.{err_from_is_err_and}
 use Rattle.restore_steps.proofs.RestoreLemmas.{judging_ended, restores_decides, verdict_matches, verdict_told}
 use Rattle.restore_steps.proofs.restoring.restore_files.Goals as goal

@@ -1,4 +1,4 @@
--- The query is the one that is held.
+-- The query is the last one.
 use Rattle.std.proofs.Common.{ap, ◌∙◌}
 use Rattle.std.proofs.lemmas.Result.{on_ok_weaker}
 use Rattle.ask_core.proofs.BoundLemmas.{asks_weaker}
@@ -7,14 +7,14 @@ use Rattle.shared_lemmas.proofs.SharedLaws.{of_one}
 use Rattle.shared_lemmas.proofs.shared.ask_sharing.Goals as goal
 
 pub returns-clause-shared : goal.returns-clause-shared
-returns-clause-shared g c = of_one _ _ _ _ (ap (λ held. held.items) c.ask_cones.ensures.held ∙ c.in_ok-turn_to.ensures.own) c.ask_cones.ensures.hold
+returns-clause-shared g c = of_one _ _ _ _ (ap (λ last_query. last_query.items) c.ask_cones.ensures.last_query ∙ c.in_ok-turn_to.ensures.own) c.ask_cones.ensures.hold
 
 pub returns-clause-asks : goal.returns-clause-asks
 returns-clause-asks g c = asks_weaker _ _ _ _ c.ask_cones.result (by_known _ _ _ _ _ _ (λ asked known. c.in_ok-turn_to.ensures.paid asked known)) c.ask_cones.ensures.asks
 
 pub returns-clause-paid : goal.returns-clause-paid
 returns-clause-paid g c known =
-    on_ok_weaker c.ask_cones.result (λ paid. paid_one _ _ _ _ _ (ap (λ held. held.items) c.ask_cones.ensures.held ∙ c.in_ok-turn_to.ensures.own) paid) (c.ask_cones.ensures.paid (c.in_ok-turn_to.ensures.paid _ known))
+    on_ok_weaker c.ask_cones.result (λ paid. paid_one _ _ _ _ _ (ap (λ last_query. last_query.items) c.ask_cones.ensures.last_query ∙ c.in_ok-turn_to.ensures.own) paid) (c.ask_cones.ensures.paid (c.in_ok-turn_to.ensures.paid _ known))
 
 pub returns-then-are_small-stock-clause-asks : goal.returns-then-are_small-stock-clause-asks
 returns-then-are_small-stock-clause-asks g c = asks_weaker _ _ _ _ c.ask_watched.result (by_own _ _ _ _ _) c.ask_watched.ensures.asks

@@ -1,4 +1,4 @@
--- What is held holds under the query's feeds too.
+-- The lines of the last query hold under the query's feeds too.
 use Rattle.std.proofs.Common.{subst}
 use Rattle.shared_lemmas.specs.Shared.{IsUnder}
 use Rattle.shared_lemmas.proofs.PaidLemmas.{paid_turned}

@@ -31,7 +31,7 @@ is_wrong-requires c =
 pub leave_out-requires-clause-shown : goal.leave_out-requires-clause-shown
 leave_out-requires-clause-shown c =
     let wrong = subst (λ (l : List Pair). IsWrong c.args.graphs.now l c.args.suspect.now.pair c.deref-2.result.now) c.deref-3.ensures.value (c.in_ok-is_wrong.ensures.0 c.if-not-branch.false) in
-    shown_assigned c.args.graphs.now c.args.assigned.now c.in_ok-pairs.pairs.items c.args.suspect.now.pair c.args.suspect.now.vector c.deref-4.result.now c.requires.assigned c.first-first.ensures.sound c.in_ok-pairs.ensures.part c.requires.suspect.held c.in_ok-pairs.ensures.output c.requires.suspect.places (c.deref-4.ensures.value ∙ c.in_ok-values.ensures) (subst (λ (v : List Tri). IsWrong c.args.graphs.now c.in_ok-pairs.pairs.items c.args.suspect.now.pair v) (c.deref-2.ensures.value ∙ sym c.deref-4.ensures.value) wrong)
+    shown_assigned c.args.graphs.now c.args.assigned.now c.in_ok-pairs.pairs.items c.args.suspect.now.pair c.args.suspect.now.vector c.deref-4.result.now c.requires.assigned c.first-first.ensures.sound c.in_ok-pairs.ensures.part c.requires.suspect.assigned c.in_ok-pairs.ensures.output c.requires.suspect.places (c.deref-4.ensures.value ∙ c.in_ok-values.ensures) (subst (λ (v : List Tri). IsWrong c.args.graphs.now c.in_ok-pairs.pairs.items c.args.suspect.now.pair v) (c.deref-2.ensures.value ∙ sym c.deref-4.ensures.value) wrong)
 
 pub returns : goal.returns
 returns c =

@@ -1,4 +1,4 @@
--- What is wrong with a line, as the open match's logs tell it.
+-- What is wrong with a line, as the open match's logs say.
 use Rattle.std.proofs.Common.{◌≡◌, None, Some, OnOk, sym, ap, subst, ◌∙◌, rules}
 use Rattle.account_check.specs.Logs.{line_reject, match_reject}
 use Rattle.account_check.specs.Accounts.{Account}

@@ -1,4 +1,4 @@
--- Since a record has one fault at most, it is told exactly.
+-- Since a record has one fault at most, it is named exactly.
 use Rattle.account_check.proofs.FaultLemmas.{refused_exactly, taken_exactly, taken_told}
 use Rattle.account_check.proofs.checker.Checker.record.Goals as goal
 

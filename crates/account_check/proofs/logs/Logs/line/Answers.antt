@@ -1,4 +1,4 @@
--- A line of the open log: what its answer tells, and what is kept.
+-- A line of the open log: what its answer says, and what is kept.
 use Rattle.std.proofs.Common.{◌≡◌, ◌+◌, Ok, Some, None, sym, ap, subst, rules}
 use Rattle.net_core.specs.Sides.{Graphs}
 use Rattle.claim_core.specs.Formulas.{IsRefuted}

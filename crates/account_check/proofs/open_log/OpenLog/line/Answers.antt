@@ -1,4 +1,4 @@
--- One line more is derived, and what its answer tells.
+-- One line more is derived, and what its answer says.
 use Rattle.std.proofs.Common.{◌≡◌, [], ◌∷◌, ◌++◌, Bool, true, Result, Ok, sym, ap, subst, ◌∙◌}
 use Rattle.std.specs.List.{list_any}
 use Rattle.cnf_core.specs.Derivations.{is_empty}

@@ -1,10 +1,10 @@
--- None is held.
+-- None is queued.
 use Rattle.std.proofs.Common.{List, ℕ, length, refl, sym, subst, ap, ◌∙◌, arith}
 use Rattle.std.specs.List.{range_with_len}
 use Rattle.std.proofs.lemmas.List.{length-replicate}
 use Rattle.std.proofs.lemmas.List.FromFn.{length-range_with_len}
 use Rattle.learn_solver.specs.Heaps.{AreInverse}
-use Rattle.learn_solver.proofs.HeapLemmas.{inverse_start, none_held}
+use Rattle.learn_solver.proofs.HeapLemmas.{inverse_start, none_queued}
 use Rattle.learn_solver.proofs.heap.Heap.new.Goals as goal
 
 pub invariant_of-result : goal.invariant_of-result
@@ -17,4 +17,4 @@ invariant_of-result c =
     }
 
 pub returns : goal.returns
-returns c = none_held 0 c.in_ok-places.places.items c.args.count refl (ap length c.in_ok-places.ensures ∙ length-range_with_len 0 c.args.count)
+returns c = none_queued 0 c.in_ok-places.places.items c.args.count refl (ap length c.in_ok-places.ensures ∙ length-range_with_len 0 c.args.count)

@@ -1,4 +1,4 @@
--- The search goes on from candidate to candidate, for each of which it begins anew.
+-- The search goes on from candidate to candidate, for each of which it begins again.
 use Rattle.learn_solver.proofs.PursuitLemmas.{can_go, gone_none, gone_on, gone_turned, gone_with, stopped_on}
 use Rattle.learn_solver.proofs.RunLemmas.{can_turn}
 use Rattle.learn_solver.proofs.solver.Solver.follow.Goals as goal

@@ -21,14 +21,14 @@ right_variables-requires c =
 pub invariant_of-result : goal.invariant_of-result
 invariant_of-result c =
     let graphs = c.self.inside.graphs.now in
-    let told = c.self.invariant in
+    let known = c.self.invariant in
     let cone = c.in_ok-cone.cone in
     let of_side = subst (λ (n : Net). IsMarkedCone n c.self.inside.query.left.output cone.gates.items cone.marked) c.side.ensures c.in_ok-cone.ensures in
     record {
-      claim = told.claim;
-      placed = told.placed;
-      asks = c.in_ok-query.ensures ∙ told.asks;
-      cone = subst (λ (q : Query). IsMarkedCone (circuit_of graphs q.left) q.left.output cone.gates.items cone.marked) told.asks of_side;
+      claim = known.claim;
+      placed = known.placed;
+      asks = c.in_ok-query.ensures ∙ known.asks;
+      cone = subst (λ (q : Query). IsMarkedCone (circuit_of graphs q.left) q.left.output cone.gates.items cone.marked) known.asks of_side;
       left_is = c.left_variables-left.ensures.value;
       left_fits = c.left_variables-left.ensures.fits;
       right_fits = c.in_ok-right.ensures.fits;

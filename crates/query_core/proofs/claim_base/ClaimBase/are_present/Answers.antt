@@ -1,13 +1,13 @@
--- All are told, or those of marked gates.
+-- All are present, or those of marked gates.
 use Rattle.std.proofs.Common.{length, sym, ap, ◌∙◌}
 use Rattle.circuits.specs.Netlists.{Net}
-use Rattle.query_core.specs.ClaimClauses.{Telling}
-use Rattle.query_core.proofs.ClaimClauseLemmas.{all_told, marks_count}
-use Rattle.query_core.proofs.claim_base.ClaimBase.tells.Goals as goal
+use Rattle.query_core.specs.ClaimClauses.{PartialQuery}
+use Rattle.query_core.proofs.ClaimClauseLemmas.{all_present, marks_count}
+use Rattle.query_core.proofs.claim_base.ClaimBase.are_present.Goals as goal
 
 pub returns-then-self : goal.returns-then-self
 returns-then-self c =
-    sym (all_told c.args.self.now c.args.ids.now (ap (λ (t : Telling). t.whole) (sym c.self.view_is) ∙ c.if-self.true))
+    sym (all_present c.args.self.now c.args.ids.now (ap (λ (t : PartialQuery). t.whole) (sym c.self.view_is) ∙ c.if-self.true))
 
 pub are_of_marked-requires-clause-marks : goal.are_of_marked-requires-clause-marks
 are_of_marked-requires-clause-marks c =
