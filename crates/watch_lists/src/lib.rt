@@ -4,8 +4,9 @@
 
 mod arena;
 pub mod laws;
+mod lists;
 mod looking;
-mod threads;
+mod watch_list;
 mod watches;
 
 pub use watches::Watches;
