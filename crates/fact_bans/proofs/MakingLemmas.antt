@@ -1,5 +1,5 @@
 -- Calls that have claims decided and make bans, one after the other.
-use Rattle.std.proofs.Common.{◌≡◌, Bool, true, false, List, [], ◌∷◌, ◌++◌, map, Result, Ok, Err, sym, ap, subst, ◌∙◌, append_assoc, append-nil}
+use Rattle.std.proofs.Common.{◌≡◌, Bool, true, false, List, [], ◌∷◌, ◌++◌, map, Result, Ok, Err, refl, sym, ap, subst, ◌∙◌, append_assoc, append-nil}
 use Rattle.std.specs.Prelude.{IsErrAnd}
 use Rattle.std.proofs.lemmas.List.Elements.{All-push}
 use Rattle.cnf_core.specs.declared.stop.Stop.{Stop}
@@ -141,6 +141,11 @@ made_kept graphs old new a b bans more valid served same = record {
   valid = subst (AreValid graphs new) (sym same) (valid_grows old new graphs bans served.grows valid);
   adds = subst (OnlyAdds bans) (sym same) (adds_none bans);
 }
+
+-- after calls that made bans come calls that have claims decided
+pub made_asked : {X : Type 0} (graphs : Graphs) (old mid new : Known) (a b c : Ledgered) (bans more : List Ban) {x : X} → MayMakeBans graphs old a bans → HasMadeBans graphs old mid a b bans more → Serves mid new b c (Ok x) → HasMadeBans graphs old new a c bans more
+made_asked graphs old mid new a b c bans more may made serves =
+    made_then graphs old mid new a b c bans more more made (made_kept graphs mid new b c more more (may_later graphs old mid a b bans more may made).valid (served_one mid new b c _ serves) refl)
 
 -- memory ran out after calls that were answered
 pub makes_stop : {Y : Type 0} (graphs : Graphs) (old new : Known) (a b : Ledgered) (bans more : List Ban) (result : Result Y Stop) → IsErrAnd result (λ e. e ≡ Memory) → HasMadeBans graphs old new a b bans more → MakesBans graphs old new a b bans more result

@@ -1,8 +1,9 @@
-use crate::sampling::{Flips, sampled};
+use crate::sampling::{Flips, Sample, sampled};
 use crate::swaps::{Swaps, blocks_for_swaps, swaps_seen};
 use account_core::{PairableGraphs, Tallied};
 use claim_core::{Claim, Shape};
 use net_core::Side;
+use port_cells::port_at;
 use std::alloc::{AllocError, Global};
 
 /// No number was noted.
@@ -36,6 +37,15 @@ impl Drop for BrokenClaims {
             outputs: _outputs,
         } = self;
     }
+}
+
+/// A claim of one input: it goes up from false, and down from true.
+#[derive(Clone, Copy, Debug, Drop)]
+pub(crate) struct OneInput {
+    pub(crate) side: Side,
+    pub(crate) output: u32,
+    pub(crate) input: u32,
+    pub(crate) value: bool,
 }
 
 /// What vectors showed of claims of two inputs.
@@ -90,6 +100,20 @@ impl BrokenClaims {
             self.swaps = Some(two_swaps(alloc, graphs, self.seed)?);
         }
         Ok(())
+    }
+
+    /// Looks at a vector of a circuit, a bit for each input, and at others near it.
+    pub(crate) fn look_near(
+        &mut self,
+        side: Side,
+        sample: &mut Sample<'_>,
+        vector: Vec<bool>,
+    ) -> Result<(), AllocError> {
+        let rows = match side {
+            Side::First => &mut self.first,
+            Side::Second => &mut self.second,
+        };
+        sample.look_near(vector, rows)
     }
 
     /// What vectors show of each input at an output of a circuit.
@@ -159,6 +183,37 @@ impl BrokenClaims {
             return None;
         }
         Some(number as u64)
+    }
+
+    /// How many claims of one input there are, of both circuits.
+    pub(crate) fn claims(&self) -> usize {
+        self.numbers.len()
+    }
+
+    /// The claim of one input that stands at a place, if it isn't decided, and neither vectors break it nor the paths
+    /// from the input to the output show that it holds.
+    pub(crate) fn open_claim(&self, place: usize) -> Option<OneInput> {
+        if *self.numbers.get(place)? != NOT_NOTED {
+            return None;
+        }
+        let value = place % 2 == 1;
+        let input = port_at(place / 2 % self.inputs.max(1));
+        let row = place / 2 / self.inputs.max(1);
+        let (side, output) = if row < self.outputs {
+            (Side::First, port_at(row))
+        } else {
+            (Side::Second, port_at(row.saturating_sub(self.outputs)))
+        };
+        let flips = self.row(side, output).get(input as usize)?;
+        if !flips.is_open_at(value) {
+            return None;
+        }
+        Some(OneInput {
+            side,
+            output,
+            input,
+            value,
+        })
     }
 
     // The place of a claim of one input among the numbers.

@@ -5,9 +5,11 @@ use account_core::Tallied;
 use net_core::Side;
 use std::alloc::{AllocError, Global};
 
-/// The most ways, plain ones, of which bans are made: a tally of wide circuits takes kilobytes, and each ban is looked
-/// up among those before it.
-const MOST_WAYS: usize = 4_096;
+/// How many bytes the bans of all ways may take, about: a tally has the numbers of up to two facts for each input.
+const MOST_BYTES: usize = 200_000_000;
+
+/// What a ban takes without the numbers of facts.
+const BAN: usize = 270;
 
 /// How many inputs an output depends on, and in how many it is binate, as far as is seen.
 #[derive(Clone, Copy, Debug, Drop, PartialEq)]
@@ -34,17 +36,18 @@ impl Drop for Classes {
 }
 
 impl Classes {
-    /// Those outputs of two circuits with n outputs that have one key, and those that don't, where the other circuit
+    /// Those outputs of two circuits that have one key, and those that don't, where the other circuit
     /// has fewer of the key: of all such keys the one with the fewest ways. None where each key is as frequent in both
     /// circuits.
     pub(crate) fn new(
         alloc: Global,
         outputs: u32,
+        inputs: u32,
         broken: &BrokenClaims,
     ) -> Result<Option<Classes>, AllocError> {
         let first = keys(alloc, Side::First, outputs, broken)?;
         let second = keys(alloc, Side::Second, outputs, broken)?;
-        let Some(key) = rarest(&first, &second) else {
+        let Some(key) = rarest(&first, &second, most_ways(inputs)) else {
             return Ok(None);
         };
         let is_first = frequency(&first, key) > frequency(&second, key);
@@ -71,12 +74,18 @@ fn keys(
     Ok(keys)
 }
 
+// The most ways, plain ones, of which bans are made of circuits with n inputs: each has two tallies.
+fn most_ways(inputs: u32) -> usize {
+    let tally = (inputs as usize).saturating_mul(16).saturating_add(BAN);
+    MOST_BYTES / tally.saturating_mul(2).max(1)
+}
+
 // Of the keys that one circuit has more often than the other, the one with the fewest ways to pair its outputs with
 // those of other keys. It counts again for each output, which is cheap enough: it is done once a try, and tries are
 // few.
-fn rarest(first: &[Key], second: &[Key]) -> Option<Key> {
+fn rarest(first: &[Key], second: &[Key], most: usize) -> Option<Key> {
     let mut found = None;
-    let mut fewest = MOST_WAYS + 1;
+    let mut fewest = most.saturating_add(1);
     for key in first.iter().chain(second.iter()) {
         let ways = ways_of(first, second, *key);
         if ways < fewest {

@@ -9,10 +9,13 @@ mod exchanges;
 mod lists;
 mod mismatched;
 mod mismatches;
+mod mutants;
+mod paths;
 mod plan;
 mod refusal;
 mod rows;
 mod sampling;
+mod settling;
 mod swaps;
 mod tallies;
 

@@ -64,9 +64,10 @@ fn more_on(pair: Pair, kind: Tallied, broken: &BrokenClaims) -> Option<Side> {
     }
 }
 
-// Plans the tally of one kind: inputs in the support, or binate ones. Of the output that has more of the kind all
-// inputs are asked that vectors show to be of it, by the claims that they break. Of the other output one input more is
-// asked, not to be of the kind, than the first one has of these: so the two lists are longer than there are inputs.
+// Plans the tally of one kind: inputs in the support, or binate ones. Of the output that has more of the kind inputs are
+// asked that vectors show to be of it, by the claims that they break; of the other output inputs that aren't known to
+// be of the kind, not to be it: one more in all than there are inputs. Where vectors show inputs of the one rarely, a
+// question for each, they are left out, as many as the other one has inputs more that can't be of the kind by paths.
 fn by_kind(
     alloc: Global,
     pair: Pair,
@@ -76,13 +77,16 @@ fn by_kind(
     broken: &BrokenClaims,
 ) -> Result<Plan, AllocError> {
     let other = other_side(side);
-    let mut have = Vec::new(alloc);
-    for flips in broken.row(side, port_on(side, pair)).iter() {
-        have.push(broken_value(*flips, kind))?;
-    }
-    let having = broken.count(side, port_on(side, pair), kind);
-    let wanted = inputs.saturating_sub(having).saturating_add(1);
-    let lack = without(alloc, broken.row(other, port_on(other, pair)), kind, wanted)?;
+    let having = broken.row(side, port_on(side, pair));
+    let lacking = broken.row(other, port_on(other, pair));
+    let never = count_never(lacking, kind);
+    let common = count_common(having, kind);
+    let all = broken.count(side, port_on(side, pair), kind);
+    let needed = inputs.saturating_add(1).saturating_sub(never);
+    let asked = needed.max(common).min(all);
+    let have = with(alloc, having, kind, asked)?;
+    let wanted = inputs.saturating_add(1).saturating_sub(asked);
+    let lack = without(alloc, lacking, kind, wanted)?;
     match kind {
         Tallied::Support => Ok(Plan {
             side,
@@ -99,17 +103,51 @@ fn by_kind(
     }
 }
 
-// The value of a claim that a vector breaks, of an input of a kind.
-fn broken_value(flips: Flips, kind: Tallied) -> Option<bool> {
-    if flips.is_of(kind) {
-        Some(!flips.is_broken(false))
-    } else {
-        None
+// In how many inputs an output can't be of a kind by paths.
+fn count_never(row: &[Flips], kind: Tallied) -> u32 {
+    let mut count = 0u32;
+    for flips in row.iter() {
+        if flips.is_never(kind) {
+            count = count.saturating_add(1);
+        }
     }
+    count
+}
+
+// In how many inputs vectors commonly show that an output is of a kind.
+fn count_common(row: &[Flips], kind: Tallied) -> u32 {
+    let mut count = 0u32;
+    for flips in row.iter() {
+        if flips.is_commonly(kind) {
+            count = count.saturating_add(1);
+        }
+    }
+    count
+}
+
+// For that many inputs that are of a kind the value of a claim that fails: first for those of which vectors commonly
+// show it.
+fn with(
+    alloc: Global,
+    row: &[Flips],
+    kind: Tallied,
+    wanted: u32,
+) -> Result<Vec<Option<bool>>, AllocError> {
+    let mut values = vec![in alloc; None; row.len()]?;
+    let mut left = wanted;
+    for is_common in [true, false] {
+        for (flips, value) in row.iter().zip(values.iter_mut()) {
+            if (left > 0) & (flips.is_commonly(kind) == is_common) & flips.is_of(kind) {
+                *value = Some(flips.failing_value());
+                left = left.saturating_sub(1);
+            }
+        }
+    }
+    Ok(values)
 }
 
 // For that many inputs that aren't known to be of a kind the value of a claim that no vector breaks: first for those
-// that don't reach the output, whose claims hold by structure; then for others, whose claims are asked.
+// that can't be of it by paths, whose claims hold by structure or nearly so; then for others.
 fn without(
     alloc: Global,
     row: &[Flips],
@@ -117,26 +155,14 @@ fn without(
     wanted: u32,
 ) -> Result<Vec<Option<bool>>, AllocError> {
     let mut values = vec![in alloc; None; row.len()]?;
-    let left = mark_some(row, &mut values, kind, false, wanted);
-    mark_some(row, &mut values, kind, true, left);
-    Ok(values)
-}
-
-// Chooses such claims of inputs that reach the output, or of those that don't, until none is wanted. Answers how many
-// are still wanted.
-fn mark_some(
-    row: &[Flips],
-    values: &mut [Option<bool>],
-    kind: Tallied,
-    reaching: bool,
-    wanted: u32,
-) -> u32 {
     let mut left = wanted;
-    for (flips, value) in row.iter().zip(values.iter_mut()) {
-        if (left > 0) & (flips.reaches() == reaching) & !flips.is_of(kind) {
-            *value = Some(flips.is_broken(false));
-            left -= 1;
+    for is_never in [true, false] {
+        for (flips, value) in row.iter().zip(values.iter_mut()) {
+            if (left > 0) & (flips.is_never(kind) == is_never) & !flips.is_of(kind) {
+                *value = Some(flips.holding_value());
+                left = left.saturating_sub(1);
+            }
         }
     }
-    left
+    Ok(values)
 }

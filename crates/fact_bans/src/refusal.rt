@@ -7,11 +7,13 @@ ghost use Rattle.account_core.specs.Ports.{ports_in};
 ghost use Rattle.ban_book.specs.Covering.{Covers};
 ghost use Rattle.fact_bans.specs.Carrying.{IsPairOf};
 ghost use Rattle.fact_bans.specs.Referred.{AreReferred};
-ghost use Rattle.fact_bans.specs.Asking.{AreSame, MakesBy, MayMakeBy, loans};
+ghost use Rattle.fact_bans.specs.Asking.{AreSame, MakesBy, MayAskBy, MayMakeBy, ServesBy, loans};
 ghost use Rattle.ban_book.specs.Ways.{IsBlock, ways_in};
 
 use crate::asker::Asker;
+use crate::broken_claims::BrokenClaims;
 use crate::classes::Classes;
+use crate::settling::settle;
 use crate::tallies::tally;
 use account_core::PairableGraphs;
 use ban_book::BanBook;
@@ -31,7 +33,7 @@ use std::alloc::{AllocError, Global};
 /// would have to go to one with other counts. Each of these ways has a tally, and one cover refers to them.
 ///
 /// It is tried n times at most. A try fails only where a claim is decided otherwise than vectors let expect, which is
-/// noted, so that the next one goes by other counts.
+/// noted, so that the next one goes by other counts. Where the first one fails, claims that are open are decided.
 ///
 /// # Errors
 ///
@@ -47,9 +49,8 @@ pub fn refuse<O: Oracle>(
     ensures makes { MakesBy graphs.now (loans O.known asker.old) (loans O.known asker.new) book.old book.new result }
     ensures empty { IfOk result (λ found. IfSome found (IsEmptyBan book.new)) }
 {
-    for _try in 0..tries {
-        let outputs = graphs.ports(PortKind::Output);
-        let Some(classes) = Classes::new(asker.alloc, outputs, asker.broken)? else {
+    for tried in 0..tries {
+        let Some(classes) = next_classes(graphs, asker, tried)? else {
             return Ok(None);
         };
         if let Some(number) = refuse_by(graphs, asker, &classes, book)? {
@@ -57,6 +58,35 @@ pub fn refuse<O: Oracle>(
         }
     }
     Ok(None)
+}
+
+// The classes of outputs that are tried next, where this often none was refused. None where there are none.
+fn next_classes<O: Oracle>(
+    graphs: &PairableGraphs<'_>,
+    asker: &mut Asker<'_, O>,
+    tried: u32,
+) -> Result<Option<Classes>, Stop>
+    requires may { MayAskBy graphs.now (loans O.known asker.old) }
+    ensures same { AreSame (loans O.known asker.old) (loans O.known asker.new) }
+    ensures serves { ServesBy (loans O.known asker.old) (loans O.known asker.new) result }
+{
+    // the facts of an oracle are of its circuits
+    let _facts = asker.oracle.facts();
+    if tried != 1 {
+        return Ok(classes_of(asker.alloc, graphs, asker.broken)?);
+    }
+    settle(graphs, asker)?;
+    Ok(classes_of(asker.alloc, graphs, asker.broken)?)
+}
+
+fn classes_of(
+    alloc: Global,
+    graphs: &PairableGraphs<'_>,
+    broken: &BrokenClaims,
+) -> Result<Option<Classes>, AllocError> {
+    let outputs = graphs.ports(PortKind::Output);
+    let inputs = graphs.ports(PortKind::Input);
+    Classes::new(alloc, outputs, inputs, broken)
 }
 
 // Makes the ban that classes of outputs are for.

@@ -1,12 +1,14 @@
 //! Claims of one input that vectors break.
 
+use crate::mutants::Mutants;
+use crate::paths::{Paths, paths_to_outputs};
 use account_core::Tallied;
 use net_core::Graph;
-use port_cells::{Counter, Counts, Draws, FlipSim, Influence, Lanes, all_lanes, blocks_of_all};
+use port_cells::{Draws, FlipSim, Lanes, all_lanes, blocks_of_all, ones_in, replicated};
 use std::alloc::{AllocError, Global};
 
-/// How many words of gates may be computed of a circuit: about a tenth of a second. On half and on twice as many five
-/// near misses are refused by as many bans of each kind.
+/// How many words of gates may be computed of a circuit on drawn vectors: about a tenth of a second. On half and on
+/// twice as many five near misses are refused by as many bans of each kind.
 const MOST_WORDS: u64 = 1 << 25;
 
 /// The most blocks of 256 vectors. On 16,384 vectors an input that matters on one of a thousand is nearly always seen.
@@ -15,19 +17,47 @@ const MOST_BLOCKS: u64 = 64;
 /// The fewest: an input of a wide gate isn't seen on fewer.
 const LEAST_BLOCKS: u64 = 4;
 
-/// What is known of an input of an output: whether it reaches the output through gates, and whether a vector breaks the
-/// claim that the output never falls where the input goes up, or down.
+/// How many of the first blocks tell what vectors commonly show: as many vectors as claims are tried on before they are
+/// asked (`fact_tests`).
+const COMMON_BLOCKS: u64 = 2;
+
+/// How many words of gates may be computed on vectors near those that showed something new.
+const MOST_NEAR_WORDS: u64 = 1 << 27;
+
+/// How many blocks these are at most.
+const MOST_NEAR_BLOCKS: u32 = 4_096;
+
+/// How many of them may show nothing new one after the other.
+const MOST_QUIET: u32 = 4;
+
+/// How many blocks are looked at near a vector that a question gave.
+const BLOCKS_OF_ANSWER: u32 = 2;
+
+/// What is known of an input of an output: by which paths it reaches the output, and whether a vector breaks the claim
+/// that the output never falls where the input goes up, or down.
 #[derive(Clone, Copy, Debug, Drop)]
 pub(crate) struct Flips {
-    reaches: bool,
+    paths: Paths,
     breaks_up: bool,
     breaks_down: bool,
+    /// Which of the two claims vectors commonly break, as `broken` has them.
+    common: u8,
 }
 
 impl Flips {
+    // Nothing is known but the paths.
+    fn unseen(paths: Paths) -> Flips {
+        Flips {
+            paths,
+            breaks_up: false,
+            breaks_down: false,
+            common: 0,
+        }
+    }
+
     /// Whether the input reaches the output through gates.
     pub(crate) fn reaches(self) -> bool {
-        self.reaches
+        self.paths.even | self.paths.odd
     }
 
     /// Whether a vector breaks the claim of the input that has this value at first: it goes up from false, and down
@@ -48,11 +78,60 @@ impl Flips {
         up | down
     }
 
+    /// Whether the claim of the input with a value is broken by no vector, though it doesn't hold by paths.
+    pub(crate) fn is_open_at(self, value: bool) -> bool {
+        let may_fall = if value {
+            self.paths.even
+        } else {
+            self.paths.odd
+        };
+        may_fall & !self.is_broken(value)
+    }
+
+    fn is_open(self) -> bool {
+        self.is_open_at(false) | self.is_open_at(true)
+    }
+
     /// Whether the output is known to depend on the input, or to be binate in it.
     pub(crate) fn is_of(self, kind: Tallied) -> bool {
         match kind {
             Tallied::Support => self.breaks_up | self.breaks_down,
             Tallied::Binate => self.breaks_up & self.breaks_down,
+        }
+    }
+
+    /// Whether the output can't be of a kind in the input, by the paths from the input to it.
+    pub(crate) fn is_never(self, kind: Tallied) -> bool {
+        match kind {
+            Tallied::Support => !self.reaches(),
+            Tallied::Binate => !(self.paths.even & self.paths.odd),
+        }
+    }
+
+    /// Whether vectors commonly show that the output depends on the input, or is binate in it.
+    pub(crate) fn is_commonly(self, kind: Tallied) -> bool {
+        match kind {
+            Tallied::Support => self.common > 0,
+            Tallied::Binate => self.common == 3,
+        }
+    }
+
+    /// The value of a claim of the input that fails, if one does: one that vectors commonly break where there is one.
+    pub(crate) fn failing_value(self) -> bool {
+        if self.common > 0 {
+            self.common == 2
+        } else {
+            !self.breaks_up
+        }
+    }
+
+    /// The value of a claim of the input that may hold, of which one isn't broken: one that holds by paths where there
+    /// is one.
+    pub(crate) fn holding_value(self) -> bool {
+        if self.breaks_up {
+            true
+        } else {
+            self.paths.odd & !self.paths.even & !self.breaks_down
         }
     }
 
@@ -64,79 +143,222 @@ impl Flips {
             self.breaks_up = true;
         }
     }
+
+    // Notes that all that is known so far is commonly shown.
+    fn mark_common(&mut self) {
+        self.common = self.broken();
+    }
+
+    // Notes that these vectors break the claim of the input with a value. Answers one of them where none did before.
+    fn note(&mut self, vectors: Lanes, value: bool) -> Lanes {
+        if self.is_broken(value) | (ones_in(vectors) == 0) {
+            return replicated(false);
+        }
+        self.break_claim(value);
+        first_of(vectors)
+    }
 }
 
-/// For each output of a circuit, what vectors show of each input.
+// The first of some vectors alone.
+fn first_of(vectors: Lanes) -> Lanes {
+    let [a, b, c, d] = vectors.to_array();
+    if a != 0 {
+        Lanes::from_array([lowest(a), 0, 0, 0])
+    } else if b != 0 {
+        Lanes::from_array([0, lowest(b), 0, 0])
+    } else if c != 0 {
+        Lanes::from_array([0, 0, lowest(c), 0])
+    } else {
+        Lanes::from_array([0, 0, 0, lowest(d)])
+    }
+}
+
+// The lowest bit of a word.
+fn lowest(word: u64) -> u64 {
+    word & !word.wrapping_sub(1)
+}
+
+/// For each output of a circuit, what vectors show of each input: all of few inputs, else drawn ones, and then vectors
+/// near those that showed what none did before, as long as these show more, in turn with drawn ones.
 pub(crate) fn sampled(
     alloc: Global,
     graph: &Graph,
     seed: u64,
 ) -> Result<Vec<Vec<Flips>>, AllocError> {
-    let mut simulator = FlipSim::new(alloc, graph)?;
     let mut rows = unseen(alloc, graph)?;
-    mark_reached(&simulator, &mut rows);
-    let counts = counted(alloc, &mut simulator, seed)?;
-    for (output, influences) in counts.of_outputs.iter().enumerate() {
-        if output < rows.len() {
-            mark_broken(&mut rows[output], influences);
-        }
+    let mut sample = Sample::new(alloc, graph, seed)?;
+    if !sample.draw(&mut rows)? {
+        sample.look_on(&mut rows)?;
     }
     Ok(rows)
 }
 
-// Nothing is known yet of any input of an output.
+// Nothing is known yet of any input of an output but by which paths it reaches it.
 fn unseen(alloc: Global, graph: &Graph) -> Result<Vec<Vec<Flips>>, AllocError> {
     let mut rows = Vec::new(alloc);
-    for _ in 0..graph.outputs().len() {
-        rows.push(unseen_row(alloc, graph.inputs())?)?;
+    for paths in paths_to_outputs(alloc, graph)?.iter() {
+        rows.push(unseen_row(alloc, paths)?)?;
     }
     Ok(rows)
 }
 
-fn unseen_row(alloc: Global, inputs: u32) -> Result<Vec<Flips>, AllocError> {
-    let none = Flips {
-        reaches: false,
-        breaks_up: false,
-        breaks_down: false,
-    };
-    let row = vec![in alloc; none; inputs as usize]?;
+fn unseen_row(alloc: Global, paths: &[Paths]) -> Result<Vec<Flips>, AllocError> {
+    let mut row = Vec::with_capacity(alloc, paths.len())?;
+    for paths in paths.iter() {
+        row.push(Flips::unseen(*paths))?;
+    }
     Ok(row)
 }
 
-fn mark_reached(simulator: &FlipSim<'_>, rows: &mut [Vec<Flips>]) {
-    for input in 0..simulator.graph().inputs() {
-        mark_outputs(rows, simulator.reached(input), input);
+/// A circuit on vectors that are drawn, or are near those that showed something.
+pub(crate) struct Sample<'a> {
+    simulator: FlipSim<'a>,
+    mutants: Mutants,
+}
+
+// By hand, so that each exit of a function has one call for it (docs/IDIOMS.md).
+impl Drop for Sample<'_> {
+    fn drop(self) {
+        let Sample {
+            simulator: _simulator,
+            mutants: _mutants,
+        } = self;
     }
 }
 
-// Marks that an input reaches these outputs.
-fn mark_outputs(rows: &mut [Vec<Flips>], outputs: &[u32], input: u32) {
-    for output in outputs.iter() {
-        if (*output as usize) < rows.len() {
-            mark_input(&mut rows[*output as usize], input);
+impl<'a> Sample<'a> {
+    /// Nothing is drawn yet.
+    pub(crate) fn new(
+        alloc: Global,
+        graph: &'a Graph,
+        seed: u64,
+    ) -> Result<Sample<'a>, AllocError> {
+        Ok(Sample {
+            simulator: FlipSim::new(alloc, graph)?,
+            mutants: Mutants::new(alloc, seed),
+        })
+    }
+
+    // Looks at all vectors where these are few, else at drawn ones. Answers whether it was all.
+    fn draw(&mut self, rows: &mut [Vec<Flips>]) -> Result<bool, AllocError> {
+        let all = blocks_of_all(self.simulator.graph().inputs());
+        let words = self.simulator.words_of_flips().max(1);
+        let blocks = all.min((MOST_WORDS / words).clamp(LEAST_BLOCKS, MOST_BLOCKS));
+        for block in 0..blocks {
+            if block == COMMON_BLOCKS {
+                mark_common(rows);
+            }
+            let is_all = blocks == all;
+            put_block(&mut self.simulator, block, is_all, &mut self.mutants.draws);
+            self.look(rows)?;
+        }
+        Ok(blocks == all)
+    }
+
+    // Looks at vectors near those that showed something new, and at drawn ones, while they show more.
+    fn look_on(&mut self, rows: &mut [Vec<Flips>]) -> Result<(), AllocError> {
+        let most = self.simulator.words().saturating_add(MOST_NEAR_WORDS);
+        let mut quiet = 0u32;
+        for turn in 0..MOST_NEAR_BLOCKS {
+            if (quiet >= MOST_QUIET) | (self.simulator.words() >= most) {
+                return Ok(());
+            }
+            if (turn % 2 == 0) & !self.mutants.is_empty() {
+                self.mutants.put(&mut self.simulator);
+            } else {
+                put_block(&mut self.simulator, 0, false, &mut self.mutants.draws);
+            }
+            let is_new = self.look(rows)?;
+            quiet = if is_new { 0 } else { quiet.saturating_add(1) };
+        }
+        Ok(())
+    }
+
+    /// Looks at a vector, a bit for each input, and at others near it.
+    pub(crate) fn look_near(
+        &mut self,
+        vector: Vec<bool>,
+        rows: &mut [Vec<Flips>],
+    ) -> Result<(), AllocError> {
+        self.mutants.clear();
+        self.mutants.keep(vector)?;
+        for _ in 0..BLOCKS_OF_ANSWER {
+            self.mutants.put(&mut self.simulator);
+            self.look(rows)?;
+        }
+        Ok(())
+    }
+
+    // Looks at a block of vectors, and keeps those that show what none did before. Answers whether there are any.
+    fn look(&mut self, rows: &mut [Vec<Flips>]) -> Result<bool, AllocError> {
+        self.simulator.run();
+        let mut shown = replicated(false);
+        for input in 0..self.simulator.graph().inputs() {
+            if is_any_open(rows, self.simulator.reached(input), input) {
+                self.simulator.flip(input);
+                shown = shown | note_flipped(rows, &self.simulator, input);
+                self.simulator.unflip(input);
+            }
+        }
+        self.mutants.keep_marked(&self.simulator, shown)?;
+        Ok(ones_in(shown) > 0)
+    }
+}
+
+// Marks what is known so far as commonly shown.
+fn mark_common(rows: &mut [Vec<Flips>]) {
+    for row in rows.iter_mut() {
+        mark_row(row);
+    }
+}
+
+fn mark_row(row: &mut [Flips]) {
+    for flips in row.iter_mut() {
+        flips.mark_common();
+    }
+}
+
+// Whether a claim of an input is open at one of some outputs.
+fn is_any_open(rows: &[Vec<Flips>], outputs: &[u32], input: u32) -> bool {
+    outputs
+        .iter()
+        .any(|output| is_open_at(rows, *output, input))
+}
+
+fn is_open_at(rows: &[Vec<Flips>], output: u32, input: u32) -> bool {
+    let Some(row) = rows.get(output as usize) else {
+        return false;
+    };
+    match row.get(input as usize) {
+        Some(flips) => flips.is_open(),
+        None => false,
+    }
+}
+
+// Notes what an inverted input shows of the outputs that it reaches. Answers vectors that show what none did before.
+fn note_flipped(rows: &mut [Vec<Flips>], simulator: &FlipSim<'_>, input: u32) -> Lanes {
+    let mut shown = replicated(false);
+    for output in simulator.reached(input).iter() {
+        if is_open_at(rows, *output, input) & ((*output as usize) < rows.len()) {
+            let row = &mut rows[*output as usize];
+            shown = shown | note_output(row, simulator, *output, input);
         }
     }
+    shown
 }
 
-fn mark_input(row: &mut [Flips], input: u32) {
-    if (input as usize) < row.len() {
-        row[input as usize].reaches = true;
+// Where an output differs from an input and follows it, it falls as the input goes up; where it agrees, as the input
+// goes down.
+fn note_output(row: &mut [Flips], simulator: &FlipSim<'_>, output: u32, input: u32) -> Lanes {
+    if input as usize >= row.len() {
+        return replicated(false);
     }
-}
-
-// Counts on all vectors where these are few, else on drawn ones.
-fn counted(alloc: Global, simulator: &mut FlipSim<'_>, seed: u64) -> Result<Counts, AllocError> {
-    let mut counter = Counter::new(alloc, simulator)?;
-    let mut draws = Draws::new(seed);
-    let all = blocks_of_all(simulator.graph().inputs());
-    let most = (MOST_WORDS / simulator.words_of_flips().max(1)).clamp(LEAST_BLOCKS, MOST_BLOCKS);
-    let blocks = all.min(most);
-    for block in 0..blocks {
-        put_block(simulator, block, blocks == all, &mut draws);
-        simulator.run();
-        counter.add(simulator);
-    }
-    counter.counts(alloc)
+    let before = simulator.output(output);
+    let changes = before ^ simulator.flipped_output(output);
+    let differs = before ^ simulator.input(input);
+    let up = row[input as usize].note(changes & differs, false);
+    let down = row[input as usize].note(changes & !differs, true);
+    up | down
 }
 
 /// Gives the inputs a block of all vectors, or a drawn one.
@@ -157,25 +379,4 @@ fn drawn(draws: &mut Draws) -> Lanes {
     let sparse = draws.word() & draws.word() & draws.word();
     let dense = draws.word() | draws.word() | draws.word();
     Lanes::from_array([draws.word(), draws.word(), sparse, dense])
-}
-
-// Marks the claims that vectors break: where the output differs from an input and follows it, it falls as the input
-// goes up; where it agrees, as the input goes down.
-fn mark_broken(row: &mut [Flips], influences: &[Influence]) {
-    for influence in influences.iter() {
-        mark_claims(row, *influence);
-    }
-}
-
-fn mark_claims(row: &mut [Flips], influence: Influence) {
-    let input = influence.port as usize;
-    if input >= row.len() {
-        return;
-    }
-    if influence.differs > 0 {
-        row[input].break_claim(false);
-    }
-    if influence.agrees > 0 {
-        row[input].break_claim(true);
-    }
 }

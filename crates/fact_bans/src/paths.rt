@@ -1,0 +1,118 @@
+//! By which paths inputs reach outputs.
+
+use net_core::{Graph, Lit};
+use std::alloc::{AllocError, Global};
+
+/// By which paths an input reaches an output through gates. Where all have an even number of negations the output never
+/// falls as the input goes up, and where all have an odd one it never falls as the input goes down.
+#[derive(Clone, Copy, Debug, Drop)]
+pub(crate) struct Paths {
+    /// Whether there is one with an even number of negations.
+    pub(crate) even: bool,
+    /// Whether there is one with an odd number.
+    pub(crate) odd: bool,
+}
+
+/// By which paths 64 inputs reach a signal, a bit for each.
+#[derive(Clone, Copy, Debug, Drop)]
+struct PathWords {
+    even: u64,
+    odd: u64,
+}
+
+impl PathWords {
+    fn none() -> PathWords {
+        PathWords { even: 0, odd: 0 }
+    }
+
+    fn negated(self) -> PathWords {
+        PathWords {
+            even: self.odd,
+            odd: self.even,
+        }
+    }
+
+    fn or(self, other: PathWords) -> PathWords {
+        PathWords {
+            even: self.even | other.even,
+            odd: self.odd | other.odd,
+        }
+    }
+
+    // Those of one of the inputs.
+    fn of(self, place: u32) -> Paths {
+        Paths {
+            even: (self.even >> (place % 64)) % 2 == 1,
+            odd: (self.odd >> (place % 64)) % 2 == 1,
+        }
+    }
+}
+
+/// For each output of a circuit the paths by which each input reaches it.
+pub(crate) fn paths_to_outputs(
+    alloc: Global,
+    graph: &Graph,
+) -> Result<Vec<Vec<Paths>>, AllocError> {
+    let mut rows = Vec::new(alloc);
+    for _ in 0..graph.outputs().len() {
+        rows.push(Vec::new(alloc))?;
+    }
+    for block in 0..graph.inputs().div_ceil(64) {
+        add_inputs(alloc, graph, block.saturating_mul(64), &mut rows)?;
+    }
+    Ok(rows)
+}
+
+// Adds the paths of 64 inputs, or of as many as there are from the first of them on.
+fn add_inputs(
+    alloc: Global,
+    graph: &Graph,
+    first: u32,
+    rows: &mut [Vec<Paths>],
+) -> Result<(), AllocError> {
+    let words = words_of(alloc, graph, first)?;
+    let count = graph.inputs().saturating_sub(first).min(64);
+    for (row, literal) in rows.iter_mut().zip(graph.outputs().iter()) {
+        add_to(row, of_literal(&words, *literal), count)?;
+    }
+    Ok(())
+}
+
+fn add_to(row: &mut Vec<Paths>, words: PathWords, count: u32) -> Result<(), AllocError> {
+    for place in 0..count {
+        row.push(words.of(place))?;
+    }
+    Ok(())
+}
+
+// By which paths the 64 inputs from one on reach each signal.
+fn words_of(alloc: Global, graph: &Graph, first: u32) -> Result<Vec<PathWords>, AllocError> {
+    let mut words = Vec::with_capacity(alloc, graph.signals())?;
+    words.push(PathWords::none())?;
+    for input in 0..graph.inputs() {
+        words.push(of_input(input.wrapping_sub(first)))?;
+    }
+    for gate in graph.gates().iter() {
+        words.push(of_literal(&words, gate.a).or(of_literal(&words, gate.b)))?;
+    }
+    Ok(words)
+}
+
+// An input reaches itself. Those that aren't among the 64 have no bit.
+fn of_input(place: u32) -> PathWords {
+    PathWords {
+        even: if place < 64 { 1 << (place % 64) } else { 0 },
+        odd: 0,
+    }
+}
+
+fn of_literal(words: &[PathWords], literal: Lit) -> PathWords {
+    let Some(found) = words.get(literal.signal() as usize) else {
+        return PathWords::none();
+    };
+    if literal.is_negated() {
+        found.negated()
+    } else {
+        *found
+    }
+}
