@@ -8,7 +8,7 @@ use Rattle.cnf_core.specs.Clauses.{Formula}
 use Rattle.cnf_core.specs.Derivations.{AreDerived, clauses_of}
 use Rattle.trail_core.specs.Trails.{Trailing}
 use Rattle.watch_lists.specs.Propagations.{AreImplied, IsGrown}
-use Rattle.watch_lists.specs.Threads.{IsAttached}
+use Rattle.watch_lists.specs.Lists.{IsAttached}
 use Rattle.watch_lists.specs.Watched.{AreLoose, Fits, IsCovered, IsPresent, IsRewatched, Watching}
 use Rattle.learn_solver.specs.Solvers.{ArePut, HaveVariables, Solving}
 use Rattle.learn_solver.specs.declared.search.Tools.{Tools}

@@ -1,22 +1,21 @@
 -- Watches that fit a trail, while the list of a false literal is walked.
-use Rattle.std.proofs.Common.{◌≡◌, ◌≢◌, ℕ, ◌+◌, ◌*◌, ◌/◌, ◌<◌, true, false, List, [], ◌∷◌, ◌++◌, length, All, Some, slice_set, inl, inr, refl, sym, ◌∙◌, ap, subst, arith}
+use Rattle.std.proofs.Common.{◌≡◌, ◌≢◌, ℕ, ◌+◌, ◌-◌, ◌*◌, ◌/◌, ◌<◌, ◌≤◌, true, false, List, [], ◌∷◌, ◌++◌, length, All, Some, slice_set, inl, inr, refl, sym, ◌∙◌, ap, subst, arith}
 use Rattle.std.proofs.lemmas.Bool.{both_ways, cases_eq, false_from_ne_true}
-use Rattle.std.proofs.lemmas.List.{append-nil, get_or-set_same, get_or-set_other, get_or_append_left, get_or_at, length-append, length-set}
+use Rattle.std.proofs.lemmas.List.{append-nil, get_or_append_left, get_or_at, length-append, length-set}
 use Rattle.cnf_core.specs.declared.literal.SatLit.{SatLit}
 use Rattle.cnf_core.specs.Clauses.{clause_at, opposite, variable_of, AreKnown}
 use Rattle.cnf_core.specs.Derivations.{is_false, is_true}
 use Rattle.trail_core.specs.declared.assigned.Assigned.{Assigned}
 use Rattle.trail_core.specs.Trails.{IsTrail, Trailing, entry_at, literals, nothing}
 use Rattle.trail_core.proofs.TrailLemmas.{place_of_true, same_place, true_at}
-use Rattle.watch_lists.specs.declared.threads.ThreadedWatch.{ThreadedWatch}
-use Rattle.watch_lists.specs.declared.threads.Head.{Head}
 use Rattle.watch_lists.specs.Looks.{IsBeside, IsHalfFalse, IsTarget}
 use Rattle.watch_lists.specs.Propagations.{AreImplied}
-use Rattle.watch_lists.specs.Threads.{AreAlike, IsAttached, IsIn, head_at, literal_at, no_watch, partner}
-use Rattle.watch_lists.specs.Watched.{AreOfClauses, IsTrueBy, IsPresent, IsWalking, IsWatched}
+use Rattle.watch_lists.specs.Lists.{IsAt, IsAttached, IsOwn, IsStep, Listed, list_at, list_of, literal_at, partner, put_in, taken_from, watch_at}
+use Rattle.watch_lists.specs.Watched.{IsTrueBy, IsPresent, IsWalking, StayAttached}
 use Rattle.watch_lists.proofs.EffectLemmas.{known_at}
 use Rattle.watch_lists.proofs.GrowLemmas.{implied_none, implied_one, low_level, present_more}
-use Rattle.watch_lists.proofs.ThreadLemmas.{attached_before, attached_partner, partner_twice, partner_within, pushed}
+use Rattle.watch_lists.proofs.ListLemmas.{attached_after, attached_before, attached_itself, attached_partner, literal_new, literal_same, moved_front, moved_listed, partner_twice, partner_within, put_size, taken_size}
+use Rattle.watch_lists.proofs.RoomLemmas.{moved_room, room_for}
 
 -- ---- values on a trail
 
@@ -50,76 +49,57 @@ true_by_further es more l level true_by = record {
 
 -- ---- the step from one watch to the next
 
--- what a watch and its place say
-literal_set_same : (ws : List ThreadedWatch) (s : ℕ) (w : ThreadedWatch) → s < length ws → literal_at (slice_set ws s w) s ≡ w.literal
-literal_set_same ws s w within = ap (λ (x : ThreadedWatch). x.literal) (get_or-set_same ws s w no_watch within)
+-- the watch that is looked at next: the last one that is left
+pub next_at : (clauses : List (List SatLit)) (ws : List SatLit) (lists : List Listed) (t : Trailing) (f : SatLit) (p : ℕ) → IsWalking clauses ws lists t f (p + 1) → IsAt (list_of lists f.0) (watch_at (list_of lists f.0) p) p
+next_at clauses ws lists t f p is = record { within = omega (arith, is.few); is = refl }
 
-literal_set_other : (ws : List ThreadedWatch) (s t : ℕ) (w : ThreadedWatch) → t ≢ s → literal_at (slice_set ws s w) t ≡ literal_at ws t
-literal_set_other ws s t w other = ap (λ (x : ThreadedWatch). x.literal) (get_or-set_other ws s t w no_watch other)
+-- it watches the false literal
+pub next_own : (clauses : List (List SatLit)) (ws : List SatLit) (lists : List Listed) (t : Trailing) (f : SatLit) (p : ℕ) → IsWalking clauses ws lists t f (p + 1) → IsOwn ws f.0 (watch_at (list_of lists f.0) p)
+next_own clauses ws lists t f p is = is.listed.own f.0 (watch_at (list_of lists f.0) p) is.literal_known (p, next_at clauses ws lists t f p is)
 
--- a watch that keeps its literal changes none
-pub literals_kept : (ws : List ThreadedWatch) (s : ℕ) (w : ThreadedWatch) → s < length ws → w.literal ≡ literal_at ws s → (t : ℕ) → literal_at (slice_set ws s w) t ≡ literal_at ws t
-literals_kept ws s w within same t = elim (cases_eq t s) [
-  | inl mine ↦ ap (literal_at (slice_set ws s w)) mine ∙ (literal_set_same ws s w within ∙ (same ∙ ap (literal_at ws) (sym mine)))
-  | inr other ↦ literal_set_other ws s t w other
-]
+next_literal : (clauses : List (List SatLit)) (ws : List SatLit) (lists : List Listed) (t : Trailing) (f : SatLit) (p : ℕ) → IsWalking clauses ws lists t f (p + 1) → literal_at ws (watch_at (list_of lists f.0) p) ≡ f
+next_literal clauses ws lists t f p is = ap (λ n. record { 0 = n }) (next_own clauses ws lists t f p is).is
 
-pub alike_attached : (old new : List ThreadedWatch) → AreAlike old new → (t : ℕ) → IsAttached new t → IsAttached old t
-alike_attached old new alike t attached e =
-    attached (ap (λ (l : SatLit). l.0) (alike.same t) ∙ (e ∙ ap (λ (l : SatLit). l.0) (sym (alike.same (partner t)))))
+-- and its partner another one
+pub partner_differs : (clauses : List (List SatLit)) (ws : List SatLit) (lists : List Listed) (t : Trailing) (f : SatLit) (p : ℕ) → IsWalking clauses ws lists t f (p + 1) → f.0 ≢ (literal_at ws (partner (watch_at (list_of lists f.0) p))).0
+partner_differs clauses ws lists t f p is e =
+    let own = next_own clauses ws lists t f p is in
+    own.attached (own.is ∙ e)
 
-pub alike_back : (old new : List ThreadedWatch) → AreAlike old new → AreAlike new old
-alike_back old new alike = record { size = sym alike.size; same = λ t. sym (alike.same t) }
-
-pub alike_of : (clauses : List (List SatLit)) (old new : List ThreadedWatch) → AreAlike old new → AreOfClauses clauses old → AreOfClauses clauses new
-alike_of clauses old new alike of = record {
-  size = alike.size ∙ of.size;
-  of = λ t within attached. ap (is_true (clause_at clauses (t / 2))) (alike.same t) ∙ of.of t (omega (arith, within, alike.size)) (alike_attached old new alike t attached);
-}
-
-alike_true_by : (old new : List ThreadedWatch) → AreAlike old new → (es : List Assigned) (t level : ℕ) → IsTrueBy es (literal_at old (partner t)) level → IsTrueBy es (literal_at new (partner t)) level
-alike_true_by old new alike es t level true_by = subst (λ l. IsTrueBy es l level) (sym (alike.same (partner t))) true_by
-
-pub alike_watched : (old new : List ThreadedWatch) → AreAlike old new → (es : List Assigned) (walked t : ℕ) → IsWatched old es walked t → IsWatched new es walked t
-alike_watched old new alike es walked t is j low within at =
-    alike_true_by old new alike es t (entry_at es j).level (is j low within (at ∙ ap (λ (l : SatLit). (opposite l).0) (alike.same t)))
-
--- the watch that is looked at watches the false literal, and its partner another
-pub partner_differs : (clauses : List (List SatLit)) (ws : List ThreadedWatch) (hs : List Head) (t : Trailing) (f : SatLit) (s : ℕ) (out : List ℕ) → IsWalking clauses ws hs t f (s ∷ out) → f.0 ≢ (literal_at ws (partner s)).0
-partner_differs clauses ws hs t f s out is e =
-    (is.threaded.out_nowhere s (inl refl)).attached (ap (λ (l : SatLit). l.0) (is.left_watch s (inl refl)) ∙ e)
+f_false : (clauses : List (List SatLit)) (ws : List SatLit) (lists : List Listed) (t : Trailing) (f : SatLit) (left : ℕ) → IsWalking clauses ws lists t f left → is_false (literals t.entries) f ≡ true
+f_false clauses ws lists t f left is = true_at t.entries t.walked (opposite f) is.there is.falsity
 
 -- a watch that stays, on a trail that may have grown
-stayed : (clauses : List (List SatLit)) (ws : List ThreadedWatch) (hs : List Head) (old new : Trailing) (more : List Assigned) (f : SatLit) (s : ℕ) (out : List ℕ) → IsWalking clauses ws hs old f (s ∷ out) → new ≡ record old { entries = old.entries ++ more } → IsTrail new → IsPresent new → f.0 < length hs → IsTrueBy new.entries (literal_at ws (partner s)) new.level → IsWalking clauses (slice_set ws s (record { literal = f; next = (head_at hs f.0).first })) (slice_set hs f.0 (record { first = s; count = (head_at hs f.0).count + 1 })) new f out
-stayed clauses ws hs old new more f s out is new_is trail present low true_by = record {
-  heads_are = length-set hs f.0 h ∙ (is.heads_are ∙ ap (λ n. 2 * n) (sym variables));
+stayed : (clauses : List (List SatLit)) (ws : List SatLit) (lists : List Listed) (old new : Trailing) (more : List Assigned) (f : SatLit) (p : ℕ) → IsWalking clauses ws lists old f (p + 1) → new ≡ record old { entries = old.entries ++ more } → IsTrail new → IsPresent new → IsTrueBy new.entries (literal_at ws (partner (watch_at (list_of lists f.0) p))) new.level → IsWalking clauses ws lists new f p
+stayed clauses ws lists old new more f p is new_is trail present true_by = record {
+  lists_are = is.lists_are ∙ ap (λ n. 2 * n) (sym variables);
   known = subst (λ n. All (AreKnown n) clauses) (sym variables) is.known;
-  of_clauses = alike_of clauses ws put alike is.of_clauses;
-  threaded = pushed ws hs s out f is.threaded low (partner_differs clauses ws hs old f s out is);
+  of_clauses = is.of_clauses;
+  listed = is.listed;
+  room = is.room;
   is_trail = trail;
   present = present;
   there = omega (arith, is.there, walked, size);
   falsity = ap (λ k. (entry_at new.entries k).literal.0) walked ∙ (ap (λ (e : Assigned). e.literal.0) (front old.walked is.there) ∙ is.falsity);
-  left_watch = λ t here. alike.same t ∙ is.left_watch t (inr here);
-  watched = λ t within attached. alike_watched ws put alike new.entries new.walked t (λ j early inside at.
+  literal_known = is.literal_known;
+  few = omega (arith, is.few);
+  watched = λ t within attached j early inside at.
       let early_old : j < old.walked = omega (arith, early, walked) in
       let inside_old : j < length old.entries = omega (arith, early_old, is.there) in
       let same = front j inside_old in
-      let old_true_by = is.watched t (omega (arith, within, alike.size)) (alike_attached ws put alike t attached) j early_old inside_old (sym (ap (λ (e : Assigned). e.literal.0) same) ∙ at) in
-      subst (λ n. IsTrueBy new.entries (literal_at ws (partner t)) n) (sym (ap (λ (e : Assigned). e.level) same)) (grown (literal_at ws (partner t)) (entry_at old.entries j).level old_true_by));
-  seen = λ t within attached mine. elim (is.seen t (omega (arith, within, alike.size)) (alike_attached ws put alike t attached) (sym (alike.same t) ∙ mine)) [
-    | inl (inl this) ↦ inr (alike_true_by ws put alike new.entries t new.level (subst (λ k. IsTrueBy new.entries (literal_at ws (partner k)) new.level) (sym this) true_by))
-    | inl (inr following) ↦ inl following
-    | inr before ↦ inr (alike_true_by ws put alike new.entries t new.level (subst (λ n. IsTrueBy new.entries (literal_at ws (partner t)) n) (sym level) (grown (literal_at ws (partner t)) old.level before)))
+      let old_true_by = is.watched t within attached j early_old inside_old (sym (ap (λ (e : Assigned). e.literal.0) same) ∙ at) in
+      subst (λ n. IsTrueBy new.entries (literal_at ws (partner t)) n) (sym (ap (λ (e : Assigned). e.level) same)) (grown (literal_at ws (partner t)) (entry_at old.entries j).level old_true_by);
+  seen = λ t within attached mine. elim (is.seen t within attached mine) [
+    | inl left ↦ elim (cases_eq left.place p) [
+      | inl here ↦
+          let this : watch_at (list_of lists f.0) p ≡ t = ap (watch_at (list_of lists f.0)) (sym here) ∙ left.there.is in
+          inr (subst (λ k. IsTrueBy new.entries (literal_at ws (partner k)) new.level) this true_by)
+      | inr other ↦ inl (record { place = left.place; early = omega (arith, left.early, other); there = left.there })
+    ]
+    | inr before ↦ inr (subst (λ n. IsTrueBy new.entries (literal_at ws (partner t)) n) (sym level) (grown (literal_at ws (partner t)) old.level before))
   ];
 }
   where
-    h : Head
-    h = record { first = s; count = (head_at hs f.0).count + 1 }
-
-    put : List ThreadedWatch
-    put = slice_set ws s (record { literal = f; next = (head_at hs f.0).first })
-
     variables : new.variables ≡ old.variables
     variables = ap (λ (x : Trailing). x.variables) new_is
 
@@ -141,114 +121,124 @@ stayed clauses ws hs old new more f s out is new_is trail present low true_by = 
     grown : (l : SatLit) (n : ℕ) → IsTrueBy old.entries l n → IsTrueBy new.entries l n
     grown l n old_true_by = subst (λ es. IsTrueBy es l n) (sym entries) (true_by_further old.entries more l n old_true_by)
 
-    alike : AreAlike ws (slice_set ws s (record { literal = f; next = (head_at hs f.0).first }))
-    alike = record {
-      size = length-set ws s (record { literal = f; next = (head_at hs f.0).first });
-      same = literals_kept ws s (record { literal = f; next = (head_at hs f.0).first }) (is.threaded.out_nowhere s (inl refl)).within (sym (is.left_watch s (inl refl)));
-    }
+-- the list of another literal of the clause has room
+pub beside_room : (clauses : List (List SatLit)) (ws : List SatLit) (lists : List Listed) (t : Trailing) (f l : SatLit) (p : ℕ) → IsWalking clauses ws lists t f (p + 1) → l.0 < length lists → l.0 ≢ f.0 → is_true (clause_at clauses (watch_at (list_of lists f.0) p / 2)) l ≡ true → l.0 ≢ (literal_at ws (partner (watch_at (list_of lists f.0) p))).0 → 0 < (list_at lists l.0).room
+beside_room clauses ws lists t f l p is low apart there differs =
+    let s = watch_at (list_of lists f.0) p in
+    let own = next_own clauses ws lists t f p is in
+    room_for clauses ws lists l.0 s is.listed is.of_clauses is.room low (omega (arith, own.within, is.of_clauses.size)) there (λ found. apart (sym (is.listed.own l.0 s low found).is ∙ own.is)) (λ found. differs (sym (is.listed.own l.0 (partner s) low found).is))
 
 -- a watch that moves to a literal that isn't false
-moved : (clauses : List (List SatLit)) (ws : List ThreadedWatch) (hs : List Head) (t : Trailing) (f l : SatLit) (s : ℕ) (out : List ℕ) → IsWalking clauses ws hs t f (s ∷ out) → l.0 < length hs → IsBeside (literals t.entries) (clause_at clauses (s / 2)) (literal_at ws (partner s)) l → IsWalking clauses (slice_set ws s (record { literal = l; next = (head_at hs l.0).first })) (slice_set hs l.0 (record { first = s; count = (head_at hs l.0).count + 1 })) t f out
-moved clauses ws hs t f l s out is low beside = record {
-  heads_are = length-set hs l.0 h ∙ is.heads_are;
+moved : (clauses : List (List SatLit)) (ws : List SatLit) (lists : List Listed) (t : Trailing) (f l : SatLit) (p : ℕ) → IsWalking clauses ws lists t f (p + 1) → l.0 < length lists → l.0 ≢ f.0 → IsBeside (literals t.entries) (clause_at clauses (watch_at (list_of lists f.0) p / 2)) (literal_at ws (partner (watch_at (list_of lists f.0) p))) l → IsWalking clauses (slice_set ws (watch_at (list_of lists f.0) p) l) (put_in l.0 (watch_at (list_of lists f.0) p) (taken_from f.0 p lists)) t f p
+moved clauses ws lists t f l p is low apart beside = record {
+  lists_are = lists_size ∙ is.lists_are;
   known = is.known;
   of_clauses = record {
     size = size ∙ is.of_clauses.size;
-    of = λ k within attached. elim (cases_eq k s) [
+    of = λ k within attached. elim (cases_eq k (watch_at (list_of lists f.0) p)) [
       | inl mine ↦ ap (is_true (clause_at clauses (k / 2))) (at_mine k mine) ∙ (ap (λ n. is_true (clause_at clauses (n / 2)) l) mine ∙ beside.there)
-      | inr other ↦ ap (is_true (clause_at clauses (k / 2))) (literal_set_other ws s k w other) ∙ is.of_clauses.of k (omega (arith, within, size)) (before k other attached)
+      | inr other ↦ ap (is_true (clause_at clauses (k / 2))) (literal_same ws (watch_at (list_of lists f.0) p) k l other) ∙ is.of_clauses.of k (omega (arith, within, size)) (before k other attached)
     ];
   };
-  threaded = pushed ws hs s out l is.threaded low beside.differs;
+  listed = moved_listed ws lists f l p (watch_at (list_of lists f.0) p) is.listed is.literal_known low at apart beside.differs;
+  room = moved_room clauses lists f.0 l.0 p (watch_at (list_of lists f.0) p) is.room is.literal_known at.within low apart (beside_room clauses ws lists t f l p is low apart beside.there beside.differs);
   is_trail = is.is_trail;
   present = is.present;
   there = is.there;
   falsity = is.falsity;
-  left_watch = λ k here. literal_set_other ws s k w (λ e. is.threaded.out_once.0 (subst (λ n. IsIn n out) e here)) ∙ is.left_watch k (inr here);
-  watched = λ k within attached j early inside at. elim (cases_eq k s) [
-    | inl mine ↦ absurd (not_false j inside (at ∙ ap (λ (x : SatLit). (opposite x).0) (at_mine k mine)))
+  literal_known = omega (arith, is.literal_known, lists_size);
+  few = few;
+  watched = λ k within attached j early inside at_j. elim (cases_eq k (watch_at (list_of lists f.0) p)) [
+    | inl mine ↦ absurd (not_false j inside (at_j ∙ ap (λ (x : SatLit). (opposite x).0) (at_mine k mine)))
     | inr other ↦
-        let old_at = at ∙ ap (λ (x : SatLit). (opposite x).0) (literal_set_other ws s k w other) in
+        let old_at = at_j ∙ ap (λ (x : SatLit). (opposite x).0) (literal_same ws (watch_at (list_of lists f.0) p) k l other) in
         let true_by = is.watched k (omega (arith, within, size)) (before k other attached) j early inside old_at in
-        elim (cases_eq (partner k) s) [
-          | inl is_s ↦ absurd (consistent t is.is_trail f (true_by_true t.entries f (entry_at t.entries j).level (subst (λ x. IsTrueBy t.entries x (entry_at t.entries j).level) (ap (literal_at ws) is_s ∙ is.left_watch s (inl refl)) true_by)) f_false)
-          | inr apart ↦ subst (λ x. IsTrueBy t.entries x (entry_at t.entries j).level) (sym (literal_set_other ws s (partner k) w apart)) true_by
+        elim (cases_eq (partner k) (watch_at (list_of lists f.0) p)) [
+          | inl is_s ↦ absurd (consistent t is.is_trail f (true_by_true t.entries f (entry_at t.entries j).level (subst (λ x. IsTrueBy t.entries x (entry_at t.entries j).level) (ap (literal_at ws) is_s ∙ next_literal clauses ws lists t f p is) true_by)) (f_false clauses ws lists t f (p + 1) is))
+          | inr different ↦ subst (λ x. IsTrueBy t.entries x (entry_at t.entries j).level) (sym (literal_same ws (watch_at (list_of lists f.0) p) (partner k) l different)) true_by
         ]
   ];
-  seen = λ k within attached is_f. elim (cases_eq k s) [
-    | inl mine ↦ absurd (not_false t.walked is.there (is.falsity ∙ ap (λ (x : SatLit). (opposite x).0) (sym is_f ∙ at_mine k mine)))
+  seen = λ k within attached is_f. elim (cases_eq k (watch_at (list_of lists f.0) p)) [
+    | inl mine ↦ absurd (apart (ap (λ (x : SatLit). x.0) (sym (at_mine k mine) ∙ is_f)))
     | inr other ↦
-        let old_f : literal_at ws k ≡ f = sym (literal_set_other ws s k w other) ∙ is_f in
+        let old_f : literal_at ws k ≡ f = sym (literal_same ws (watch_at (list_of lists f.0) p) k l other) ∙ is_f in
         elim (is.seen k (omega (arith, within, size)) (before k other attached) old_f) [
-          | inl (inl this) ↦ absurd (other this)
-          | inl (inr following) ↦ inl following
-          | inr true_by ↦ elim (cases_eq (partner k) s) [
-            | inl is_s ↦ absurd (differs (ap (λ (x : SatLit). x.0) (sym old_f) ∙ ap (λ n. (literal_at ws n).0) (sym (partner_twice k) ∙ ap partner is_s)))
-            | inr apart ↦ inr (subst (λ x. IsTrueBy t.entries x t.level) (sym (literal_set_other ws s (partner k) w apart)) true_by)
+          | inl left ↦
+              let not_p : left.place ≢ p = λ e. other (sym left.there.is ∙ ap (watch_at (list_of lists f.0)) e) in
+              let early : left.place < p = omega (arith, left.early, not_p) in
+              let front = moved_front lists f.0 l.0 (watch_at (list_of lists f.0) p) p left.place is.literal_known apart at.within early in
+              inl (record { place = left.place; early = early; there = record { within = front.0; is = front.1 ∙ left.there.is } })
+          | inr true_by ↦ elim (cases_eq (partner k) (watch_at (list_of lists f.0) p)) [
+            | inl is_s ↦ absurd (partner_differs clauses ws lists t f p is (ap (λ (x : SatLit). x.0) (sym old_f) ∙ ap (λ n. (literal_at ws n).0) (sym (partner_twice k) ∙ ap partner is_s)))
+            | inr different ↦ inr (subst (λ x. IsTrueBy t.entries x t.level) (sym (literal_same ws (watch_at (list_of lists f.0) p) (partner k) l different)) true_by)
           ]
         ]
   ];
 }
   where
-    w : ThreadedWatch
-    w = record { literal = l; next = (head_at hs l.0).first }
+    at : IsAt (list_of lists f.0) (watch_at (list_of lists f.0) p) p
+    at = next_at clauses ws lists t f p is
 
-    h : Head
-    h = record { first = s; count = (head_at hs l.0).count + 1 }
+    own : IsOwn ws f.0 (watch_at (list_of lists f.0) p)
+    own = next_own clauses ws lists t f p is
 
-    out_there : s < length ws
-    out_there = (is.threaded.out_nowhere s (inl refl)).within
+    size : length (slice_set ws (watch_at (list_of lists f.0) p) l) ≡ length ws
+    size = length-set ws (watch_at (list_of lists f.0) p) l
 
-    size : length (slice_set ws s w) ≡ length ws
-    size = length-set ws s w
+    lists_size : length (put_in l.0 (watch_at (list_of lists f.0) p) (taken_from f.0 p lists)) ≡ length lists
+    lists_size = put_size (taken_from f.0 p lists) l.0 (watch_at (list_of lists f.0) p) ∙ taken_size lists f.0 p
 
-    differs : f.0 ≢ (literal_at ws (partner s)).0
-    differs = partner_differs clauses ws hs t f s out is
+    few : p ≤ length (list_of (put_in l.0 (watch_at (list_of lists f.0) p) (taken_from f.0 p lists)) f.0)
+    few = elim (cases_eq p 0) [
+      | inl none ↦ omega (arith, none)
+      | inr some ↦ omega (arith, (moved_front lists f.0 l.0 (watch_at (list_of lists f.0) p) p (p - 1) is.literal_known apart at.within (omega (arith, some))).0, some)
+    ]
 
-    at_mine : (k : ℕ) → k ≡ s → literal_at (slice_set ws s w) k ≡ l
-    at_mine k mine = ap (literal_at (slice_set ws s w)) mine ∙ literal_set_same ws s w out_there
+    at_mine : (k : ℕ) → k ≡ watch_at (list_of lists f.0) p → literal_at (slice_set ws (watch_at (list_of lists f.0) p) l) k ≡ l
+    at_mine k mine = ap (literal_at (slice_set ws (watch_at (list_of lists f.0) p) l)) mine ∙ literal_new ws (watch_at (list_of lists f.0) p) l own.within
 
-    before : (k : ℕ) → k ≢ s → IsAttached (slice_set ws s w) k → IsAttached ws k
-    before k other attached = attached_before ws s k w out_there other (is.threaded.out_nowhere s (inl refl)).attached attached
+    before : (k : ℕ) → k ≢ watch_at (list_of lists f.0) p → IsAttached (slice_set ws (watch_at (list_of lists f.0) p) l) k → IsAttached ws k
+    before k other attached = attached_before ws (watch_at (list_of lists f.0) p) k l own.within other own.attached attached
 
     not_false : (j : ℕ) → j < length t.entries → (entry_at t.entries j).literal.0 ≡ (opposite l).0 → ⊥
-    not_false j inside at = both_ways (is_false (literals t.entries) l) beside.not_false (true_at t.entries j (opposite l) inside at)
+    not_false j inside at_j = both_ways (is_false (literals t.entries) l) beside.not_false (true_at t.entries j (opposite l) inside at_j)
 
-    f_false : is_false (literals t.entries) f ≡ true
-    f_false = true_at t.entries t.walked (opposite f) is.there is.falsity
-
--- the literal of the list is known
-pub f_known : (clauses : List (List SatLit)) (ws : List ThreadedWatch) (hs : List Head) (t : Trailing) (f : SatLit) (s : ℕ) (out : List ℕ) → IsWalking clauses ws hs t f (s ∷ out) → f.0 < length hs
-f_known clauses ws hs t f s out is =
-    omega (arith, is.threaded.known s (is.threaded.out_nowhere s (inl refl)).within, ap (λ (x : SatLit). x.0) (is.left_watch s (inl refl)))
+-- the literal that a watch moves to isn't the false one
+pub goes_apart : (clauses : List (List SatLit)) (ws : List SatLit) (lists : List Listed) (t : Trailing) (f l : SatLit) (left : ℕ) (clause : List SatLit) (other : SatLit) → IsWalking clauses ws lists t f left → IsBeside (literals t.entries) clause other l → l.0 ≢ f.0
+goes_apart clauses ws lists t f l left clause other is beside e =
+    let same : l ≡ f = ap (λ n. record { 0 = n }) e in
+    both_ways (is_false (literals t.entries) l) beside.not_false (ap (is_false (literals t.entries)) same ∙ f_false clauses ws lists t f left is)
 
 -- what a look at a clause comes to
-pub looked : (clauses : List (List SatLit)) (ws : List ThreadedWatch) (hs : List Head) (old new : Trailing) (f l : SatLit) (s : ℕ) (out : List ℕ) → IsWalking clauses ws hs old f (s ∷ out) → IsTrail new → IsTarget old new (clause_at clauses (s / 2)) (s / 2) (literal_at ws (partner s)) f l → IsWalking clauses (slice_set ws s (record { literal = l; next = (head_at hs l.0).first })) (slice_set hs l.0 (record { first = s; count = (head_at hs l.0).count + 1 })) new f out
-looked clauses ws hs old new f l s out is trail (inl true_by) =
-    let low = f_known clauses ws hs old f s out is in
-    let other = literal_at ws (partner s) in
+pub looked : (clauses : List (List SatLit)) (ws new_ws : List SatLit) (lists new_lists : List Listed) (old new : Trailing) (f l : SatLit) (p : ℕ) → IsWalking clauses ws lists old f (p + 1) → IsTrail new → IsTarget old new (clause_at clauses (watch_at (list_of lists f.0) p / 2)) (watch_at (list_of lists f.0) p / 2) (literal_at ws (partner (watch_at (list_of lists f.0) p))) f l → IsStep ws new_ws lists new_lists f l p (watch_at (list_of lists f.0) p) → IsWalking clauses new_ws new_lists new f p
+looked clauses ws new_ws lists new_lists old new f l p is trail (inl true_by) step =
+    let other = literal_at ws (partner (watch_at (list_of lists f.0) p)) in
     let nothing_more : record old { entries = old.entries ++ [] } ≡ old = ap (λ es. record old { entries = es }) (append-nil old.entries) in
-    let walking = stayed clauses ws hs old old [] f s out is (sym nothing_more) is.is_trail is.present low (true_by_here old is.is_trail other true_by.other_true) in
-    subst (λ t. IsWalking clauses (slice_set ws s (record { literal = l; next = (head_at hs l.0).first })) (slice_set hs l.0 (record { first = s; count = (head_at hs l.0).count + 1 })) t f out) (sym true_by.same) (subst (λ x. IsWalking clauses (slice_set ws s (record { literal = x; next = (head_at hs x.0).first })) (slice_set hs x.0 (record { first = s; count = (head_at hs x.0).count + 1 })) old f out) (sym true_by.stays) walking)
-looked clauses ws hs old new f l s out is trail (inr (inl made)) =
-    let low = f_known clauses ws hs old f s out is in
+    let walking = stayed clauses ws lists old old [] f p is (sym nothing_more) is.is_trail is.present (true_by_here old is.is_trail other true_by.other_true) in
+    let stays = step.stays (ap (λ (x : SatLit). x.0) true_by.stays) in
+    subst (λ t. IsWalking clauses new_ws new_lists t f p) (sym true_by.same) (subst (λ w. IsWalking clauses w new_lists old f p) (sym stays.0) (subst (λ h. IsWalking clauses ws h old f p) (sym stays.1) walking))
+looked clauses ws new_ws lists new_lists old new f l p is trail (inr (inl made)) step =
+    let s = watch_at (list_of lists f.0) p in
     let other = literal_at ws (partner s) in
-    let id = s / 2 in
-    let e : Assigned = record { literal = other; level = old.level; reason = Some id } in
+    let e : Assigned = record { literal = other; level = old.level; reason = Some (s / 2) } in
     let entries : new.entries ≡ old.entries ++ e ∷ [] = ap (λ (t : Trailing). t.entries) made.assigned in
     let last : entry_at new.entries (length old.entries) ≡ e = ap (λ es. entry_at es (length old.entries)) entries ∙ get_or_at old.entries e [] nothing (length old.entries) refl in
     let level : new.level ≡ old.level = ap (λ (t : Trailing). t.level) made.assigned in
     let size : length new.entries ≡ length old.entries + 1 = ap length entries ∙ length-append old.entries (e ∷ []) in
-    let present = present_more old new other (Some id) is.present made.assigned in
+    let present = present_more old new other (Some (s / 2)) is.present made.assigned in
     let true_by : IsTrueBy new.entries other new.level = record { at = length old.entries; within = omega (arith, size); is = ap (λ (x : Assigned). x.literal.0) last; low = omega (arith, ap (λ (x : Assigned). x.level) last, level) } in
-    let walking = stayed clauses ws hs old new (e ∷ []) f s out is made.assigned trail present low true_by in
-    subst (λ x. IsWalking clauses (slice_set ws s (record { literal = x; next = (head_at hs x.0).first })) (slice_set hs x.0 (record { first = s; count = (head_at hs x.0).count + 1 })) new f out) (sym made.stays) walking
-looked clauses ws hs old new f l s out is trail (inr (inr goes)) =
+    let walking = stayed clauses ws lists old new (e ∷ []) f p is made.assigned trail present true_by in
+    let stays = step.stays (ap (λ (x : SatLit). x.0) made.stays) in
+    subst (λ w. IsWalking clauses w new_lists new f p) (sym stays.0) (subst (λ h. IsWalking clauses ws h new f p) (sym stays.1) walking)
+looked clauses ws new_ws lists new_lists old new f l p is trail (inr (inr goes)) step =
+    let s = watch_at (list_of lists f.0) p in
     let id = s / 2 in
-    let there : id < length clauses = omega (arith, (is.threaded.out_nowhere s (inl refl)).within, is.of_clauses.size) in
+    let there : id < length clauses = omega (arith, (next_own clauses ws lists old f p is).within, is.of_clauses.size) in
     let known = known_at old.variables (clause_at clauses id) l (is.known id [] there) goes.beside.there in
-    let low : l.0 < length hs = omega (arith, known, is.heads_are) in
-    subst (λ t. IsWalking clauses (slice_set ws s (record { literal = l; next = (head_at hs l.0).first })) (slice_set hs l.0 (record { first = s; count = (head_at hs l.0).count + 1 })) t f out) (sym goes.same) (moved clauses ws hs old f l s out is low goes.beside)
+    let low : l.0 < length lists = omega (arith, known, is.lists_are) in
+    let apart = goes_apart clauses ws lists old f l (p + 1) (clause_at clauses id) (literal_at ws (partner s)) is goes.beside in
+    let walking = moved clauses ws lists old f l p is low apart goes.beside in
+    subst (λ t. IsWalking clauses new_ws new_lists t f p) (sym goes.same) (subst (λ w. IsWalking clauses w new_lists old f p) (sym (step.moves_watch apart)) (subst (λ h. IsWalking clauses (slice_set ws s l) h old f p) (sym (step.moves_list apart)) walking))
 
 -- what it assigns is all that the clause left
 pub target_implied : (clauses : List (List SatLit)) (old new : Trailing) (f l other : SatLit) (id : ℕ) → id < length clauses → IsTarget old new (clause_at clauses id) id other f l → AreImplied clauses old new
@@ -257,34 +247,58 @@ target_implied clauses old new f l other id there (inr (inl made)) = implied_one
 target_implied clauses old new f l other id there (inr (inr goes)) = implied_none clauses old new goes.same
 
 -- the literal to watch is known, and isn't the other one
-pub target_known : (clauses : List (List SatLit)) (ws : List ThreadedWatch) (hs : List Head) (old new : Trailing) (f l : SatLit) (s : ℕ) (out : List ℕ) → IsWalking clauses ws hs old f (s ∷ out) → IsTarget old new (clause_at clauses (s / 2)) (s / 2) (literal_at ws (partner s)) f l → l.0 < length hs
-target_known clauses ws hs old new f l s out is (inl true_by) = omega (arith, f_known clauses ws hs old f s out is, ap (λ (x : SatLit). x.0) true_by.stays)
-target_known clauses ws hs old new f l s out is (inr (inl made)) = omega (arith, f_known clauses ws hs old f s out is, ap (λ (x : SatLit). x.0) made.stays)
-target_known clauses ws hs old new f l s out is (inr (inr goes)) =
-    let there : s / 2 < length clauses = omega (arith, (is.threaded.out_nowhere s (inl refl)).within, is.of_clauses.size) in
-    omega (arith, known_at old.variables (clause_at clauses (s / 2)) l (is.known (s / 2) [] there) goes.beside.there, is.heads_are)
+pub target_known : (clauses : List (List SatLit)) (ws : List SatLit) (lists : List Listed) (old new : Trailing) (f l : SatLit) (p : ℕ) → IsWalking clauses ws lists old f (p + 1) → IsTarget old new (clause_at clauses (watch_at (list_of lists f.0) p / 2)) (watch_at (list_of lists f.0) p / 2) (literal_at ws (partner (watch_at (list_of lists f.0) p))) f l → l.0 < length lists
+target_known clauses ws lists old new f l p is (inl true_by) = omega (arith, is.literal_known, ap (λ (x : SatLit). x.0) true_by.stays)
+target_known clauses ws lists old new f l p is (inr (inl made)) = omega (arith, is.literal_known, ap (λ (x : SatLit). x.0) made.stays)
+target_known clauses ws lists old new f l p is (inr (inr goes)) =
+    let s = watch_at (list_of lists f.0) p in
+    let there : s / 2 < length clauses = omega (arith, (next_own clauses ws lists old f p is).within, is.of_clauses.size) in
+    omega (arith, known_at old.variables (clause_at clauses (s / 2)) l (is.known (s / 2) [] there) goes.beside.there, is.lists_are)
 
-pub target_differs : (clauses : List (List SatLit)) (ws : List ThreadedWatch) (hs : List Head) (old new : Trailing) (f l : SatLit) (s : ℕ) (out : List ℕ) → IsWalking clauses ws hs old f (s ∷ out) → IsTarget old new (clause_at clauses (s / 2)) (s / 2) (literal_at ws (partner s)) f l → l.0 ≢ (literal_at ws (partner s)).0
-target_differs clauses ws hs old new f l s out is (inl true_by) e = partner_differs clauses ws hs old f s out is (ap (λ (x : SatLit). x.0) (sym true_by.stays) ∙ e)
-target_differs clauses ws hs old new f l s out is (inr (inl made)) e = partner_differs clauses ws hs old f s out is (ap (λ (x : SatLit). x.0) (sym made.stays) ∙ e)
-target_differs clauses ws hs old new f l s out is (inr (inr goes)) e = goes.beside.differs e
+pub target_differs : (clauses : List (List SatLit)) (ws : List SatLit) (lists : List Listed) (old new : Trailing) (f l : SatLit) (p : ℕ) → IsWalking clauses ws lists old f (p + 1) → IsTarget old new (clause_at clauses (watch_at (list_of lists f.0) p / 2)) (watch_at (list_of lists f.0) p / 2) (literal_at ws (partner (watch_at (list_of lists f.0) p))) f l → l.0 ≢ (literal_at ws (partner (watch_at (list_of lists f.0) p))).0
+target_differs clauses ws lists old new f l p is (inl true_by) e = partner_differs clauses ws lists old f p is (ap (λ (x : SatLit). x.0) (sym true_by.stays) ∙ e)
+target_differs clauses ws lists old new f l p is (inr (inl made)) e = partner_differs clauses ws lists old f p is (ap (λ (x : SatLit). x.0) (sym made.stays) ∙ e)
+target_differs clauses ws lists old new f l p is (inr (inr goes)) e = goes.beside.differs e
+
+-- and its list has room
+pub target_room : (clauses : List (List SatLit)) (ws : List SatLit) (lists : List Listed) (old new : Trailing) (f l : SatLit) (p : ℕ) → IsWalking clauses ws lists old f (p + 1) → IsTarget old new (clause_at clauses (watch_at (list_of lists f.0) p / 2)) (watch_at (list_of lists f.0) p / 2) (literal_at ws (partner (watch_at (list_of lists f.0) p))) f l → l.0 ≢ f.0 → 0 < (list_at lists l.0).room
+target_room clauses ws lists old new f l p is (inl true_by) apart = absurd (apart (ap (λ (x : SatLit). x.0) true_by.stays))
+target_room clauses ws lists old new f l p is (inr (inl made)) apart = absurd (apart (ap (λ (x : SatLit). x.0) made.stays))
+target_room clauses ws lists old new f l p is (inr (inr goes)) apart =
+    beside_room clauses ws lists old f l p is (target_known clauses ws lists old new f l p is (inr (inr goes))) apart goes.beside.there goes.beside.differs
+
+-- what is attached stays so
+pub step_attached : (clauses : List (List SatLit)) (ws new_ws : List SatLit) (lists new_lists : List Listed) (old new : Trailing) (f l : SatLit) (p : ℕ) → IsWalking clauses ws lists old f (p + 1) → IsTarget old new (clause_at clauses (watch_at (list_of lists f.0) p / 2)) (watch_at (list_of lists f.0) p / 2) (literal_at ws (partner (watch_at (list_of lists f.0) p))) f l → IsStep ws new_ws lists new_lists f l p (watch_at (list_of lists f.0) p) → StayAttached ws new_ws
+step_attached clauses ws new_ws lists new_lists old new f l p is target step = elim (cases_eq l.0 f.0) [
+  | inl same ↦ subst (StayAttached ws) (sym (step.stays same).0) (λ s within attached. attached)
+  | inr apart ↦
+      let s = watch_at (list_of lists f.0) p in
+      let own = next_own clauses ws lists old f p is in
+      let differ = target_differs clauses ws lists old new f l p is target in
+      subst (StayAttached ws) (sym (step.moves_watch apart)) (λ t within attached. elim (cases_eq t s) [
+        | inl mine ↦ subst (IsAttached (slice_set ws s l)) (sym mine) (attached_itself ws s l own.within differ)
+        | inr other ↦ attached_after ws s t l own.within other differ attached
+      ])
+]
 
 -- the other watch's literal is in the clause
-pub other_there : (clauses : List (List SatLit)) (ws : List ThreadedWatch) (hs : List Head) (t : Trailing) (f : SatLit) (s : ℕ) (out : List ℕ) → IsWalking clauses ws hs t f (s ∷ out) → is_true (clause_at clauses (s / 2)) (literal_at ws (partner s)) ≡ true
-other_there clauses ws hs t f s out is =
-    let front = is.threaded.out_nowhere s (inl refl) in
-    let back : IsAttached ws (partner s) = attached_partner ws s front.attached in
+pub other_there : (clauses : List (List SatLit)) (ws : List SatLit) (lists : List Listed) (t : Trailing) (f : SatLit) (p : ℕ) → IsWalking clauses ws lists t f (p + 1) → is_true (clause_at clauses (watch_at (list_of lists f.0) p / 2)) (literal_at ws (partner (watch_at (list_of lists f.0) p))) ≡ true
+other_there clauses ws lists t f p is =
+    let s = watch_at (list_of lists f.0) p in
+    let own = next_own clauses ws lists t f p is in
+    let back : IsAttached ws (partner s) = attached_partner ws s own.attached in
     let half : partner s / 2 ≡ s / 2 = omega arith in
-    ap (λ k. is_true (clause_at clauses k) (literal_at ws (partner s))) (sym half) ∙ is.of_clauses.of (partner s) (partner_within ws s is.threaded.even front.within) back
+    ap (λ k. is_true (clause_at clauses k) (literal_at ws (partner s))) (sym half) ∙ is.of_clauses.of (partner s) (partner_within ws s is.listed.even own.within) back
 
 -- the clause that is looked at has the other watch's literal, and the false one
-pub half_false : (clauses : List (List SatLit)) (ws : List ThreadedWatch) (hs : List Head) (t : Trailing) (f : SatLit) (s : ℕ) (out : List ℕ) → IsWalking clauses ws hs t f (s ∷ out) → IsHalfFalse (literals t.entries) (clause_at clauses (s / 2)) (literal_at ws (partner s))
-half_false clauses ws hs t f s out is =
-    let front = is.threaded.out_nowhere s (inl refl) in
+pub half_false : (clauses : List (List SatLit)) (ws : List SatLit) (lists : List Listed) (t : Trailing) (f : SatLit) (p : ℕ) → IsWalking clauses ws lists t f (p + 1) → IsHalfFalse (literals t.entries) (clause_at clauses (watch_at (list_of lists f.0) p / 2)) (literal_at ws (partner (watch_at (list_of lists f.0) p)))
+half_false clauses ws lists t f p is =
+    let s = watch_at (list_of lists f.0) p in
+    let own = next_own clauses ws lists t f p is in
     record {
       falsified = f;
-      there = ap (is_true (clause_at clauses (s / 2))) (sym (is.left_watch s (inl refl))) ∙ is.of_clauses.of s front.within front.attached;
-      fails = true_at t.entries t.walked (opposite f) is.there is.falsity;
-      differs = partner_differs clauses ws hs t f s out is;
-      other_there = other_there clauses ws hs t f s out is;
+      there = ap (is_true (clause_at clauses (s / 2))) (sym (next_literal clauses ws lists t f p is)) ∙ is.of_clauses.of s own.within own.attached;
+      fails = f_false clauses ws lists t f (p + 1) is;
+      differs = partner_differs clauses ws lists t f p is;
+      other_there = other_there clauses ws lists t f p is;
     }

@@ -1,5 +1,5 @@
 -- Trails that grow.
-use Rattle.std.proofs.Common.{◌≡◌, ℕ, ◌+◌, ◌<◌, ◌≤◌, cond, List, Option, None, Some, [], ◌∷◌, ◌++◌, length, take, is_none, inl, inr, sym, ◌∙◌, ap, subst, arith}
+use Rattle.std.proofs.Common.{◌≡◌, ℕ, ◌+◌, ◌<◌, ◌≤◌, cond, List, Option, None, Some, [], ◌∷◌, ◌++◌, length, take, is_none, inl, inr, refl, sym, ◌∙◌, ap, subst, arith}
 use Rattle.std.proofs.lemmas.List.{get_or_append_left, get_or_at, get_or-take, length-append, length-map, map-append, take-append-le, take-map, take-take, take_all}
 use Rattle.std.proofs.lemmas.Bool.{cases_lt}
 use Rattle.std.proofs.lemmas.List.Sums.{sum_by-take-le}
@@ -102,6 +102,21 @@ present_more old new l reason is assigned = subst IsPresent (sym assigned) (reco
     | inl before_it ↦ ap (λ (x : Assigned). x.level) (get_or_append_left old.entries (e ∷ []) nothing k before_it) ∙ is.present k late before_it
     | inr last ↦ ap (λ (x : Assigned). x.level) (get_or_at old.entries e [] nothing k (sym last))
   ];
+})
+  where
+    e : Assigned
+    e = record { literal = l; level = old.level; reason = reason }
+
+-- a trail that stays or gets one literal more has grown
+pub grown_none : (t : Trailing) → IsGrown t t
+grown_none t = record { variables = refl; level = refl; longer = omega arith; kept = take_all (length t.entries) t.entries (omega arith) }
+
+pub grown_one : (old new : Trailing) (l : SatLit) (reason : Option ℕ) → new ≡ record old { entries = old.entries ++ record { literal = l; level = old.level; reason = reason } ∷ [] } → IsGrown old new
+grown_one old new l reason assigned = subst (IsGrown old) (sym assigned) (record {
+  variables = refl;
+  level = refl;
+  longer = omega (arith, length-append old.entries (e ∷ []));
+  kept = take-append-le (length old.entries) old.entries (e ∷ []) (omega arith) ∙ take_all (length old.entries) old.entries (omega arith);
 })
   where
     e : Assigned

@@ -5,10 +5,10 @@ use Rattle.cnf_core.specs.declared.literal.SatLit.{SatLit}
 use Rattle.trail_core.specs.declared.assigned.Assigned.{Assigned}
 use Rattle.trail_core.specs.Trails.{IsBack, Trailing, nothing, with_assigned, with_decision}
 use Rattle.trail_core.proofs.BackLemmas.{front_at, front_within, kept_at, low_at}
-use Rattle.watch_lists.specs.Threads.{literal_at, partner}
+use Rattle.watch_lists.specs.Lists.{literal_at, partner}
 use Rattle.watch_lists.specs.Watched.{AreAllLoose, Fits, IsTrueBy, Watching}
 use Rattle.watch_lists.proofs.FitLemmas.{true_by_further}
-use Rattle.watch_lists.proofs.ThreadLemmas.{attached_half}
+use Rattle.watch_lists.proofs.ListLemmas.{attached_half}
 
 -- watches of which none is of an attached clause fit each trail
 pub fits_loose : (watching : Watching) (trail : Trailing) → AreAllLoose watching → trail.variables ≡ watching.variables → Fits watching trail

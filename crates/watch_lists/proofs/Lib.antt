@@ -1,8 +1,9 @@
 pub mod EffectLemmas
 pub mod GrowLemmas
-pub mod ThreadLemmas
+pub mod ListLemmas
+pub mod SpanLemmas
+pub mod RoomLemmas
 pub mod FitLemmas
-pub mod BackLemmas
 pub mod PassLemmas
 pub mod FootLemmas
 pub mod AttachLemmas

@@ -2,7 +2,8 @@ pub mod Feet
 pub mod Looks
 pub mod Arenas
 pub mod Propagations
-pub mod Threads
+pub mod Lists
+pub mod Spans
 pub mod Watched
 pub use Rattle.cnf_core.specs.Clauses
 pub use Rattle.cnf_core.specs.Derivations

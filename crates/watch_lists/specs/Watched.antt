@@ -6,19 +6,17 @@ use Rattle.cnf_core.specs.Clauses.{clause_at, opposite, AreKnown}
 use Rattle.cnf_core.specs.Derivations.{effect_of, is_true}
 use Rattle.trail_core.specs.declared.assigned.Assigned.{Assigned}
 use Rattle.trail_core.specs.Trails.{IsTrail, Trailing, entry_at}
-use Rattle.watch_lists.specs.declared.threads.ThreadedWatch.{ThreadedWatch}
-use Rattle.watch_lists.specs.declared.threads.Head.{Head}
-use Rattle.watch_lists.specs.Threads.{AreThreaded, IsAttached, IsIn, literal_at, partner}
+use Rattle.watch_lists.specs.Lists.{AreListed, HaveRoom, IsAttached, IsAmongFirst, Listed, list_of, literal_at, numbered, partner}
 
 -- The clauses over this many variables, and the two watches of each.
 pub record Watching : Type 0 where
   pub variables : ℕ
   pub clauses : List (List SatLit)
-  pub watches : List ThreadedWatch
+  pub watches : List SatLit
 
 -- a watch of a clause that isn't attached
-abbrev pub loose_watch : List SatLit → ThreadedWatch
-loose_watch clause = record { literal = slice_index_or clause 0 (record { 0 = 0 }); next = 0 }
+abbrev pub loose_watch : List SatLit → SatLit
+loose_watch clause = slice_index_or clause 0 (numbered 0)
 
 -- one clause more, which isn't attached
 abbrev pub with_clause : List SatLit → Watching → Watching
@@ -35,7 +33,7 @@ pub record IsTrueBy (entries : List Assigned) (literal : SatLit) (level : ℕ) :
   pub low : (entry_at entries at).level ≤ level
 
 -- where a watched literal is false at a walked place, the other one of its clause is true at a level that isn't greater
-abbrev pub IsWatched : List ThreadedWatch → List Assigned → ℕ → ℕ → Type 0
+abbrev pub IsWatched : List SatLit → List Assigned → ℕ → ℕ → Type 0
 IsWatched watches entries walked s = (j : ℕ)
     → j < walked
     → j < length entries
@@ -87,7 +85,7 @@ pub record IsRewatched (old new : Watching) : Type 0 where
   pub attached : (id : ℕ) → id < length old.clauses → IsAttached old.watches (2 * id) → IsAttached new.watches (2 * id)
 
 -- the watches of attached clauses are among their literals
-pub record AreOfClauses (clauses : List (List SatLit)) (watches : List ThreadedWatch) : Type 0 where
+pub record AreOfClauses (clauses : List (List SatLit)) (watches : List SatLit) : Type 0 where
   pub size : length watches ≡ 2 * length clauses
   pub of : (s : ℕ)
       → s < length watches
@@ -95,15 +93,16 @@ pub record AreOfClauses (clauses : List (List SatLit)) (watches : List ThreadedW
       → is_true (clause_at clauses (s / 2)) (literal_at watches s) ≡ true
 
 -- What all watches keep.
-pub record AreKept (variables : ℕ) (clauses : List (List SatLit)) (watches : List ThreadedWatch) (heads : List Head) : Type 0 where
-  pub heads_are : length heads ≡ 2 * variables
+pub record AreKept (variables : ℕ) (clauses : List (List SatLit)) (watches : List SatLit) (lists : List Listed) : Type 0 where
+  pub lists_are : length lists ≡ 2 * variables
   pub known : All (AreKnown variables) clauses
   pub of_clauses : AreOfClauses clauses watches
-  pub threaded : AreThreaded watches heads []
+  pub listed : AreListed watches lists
+  pub room : HaveRoom clauses lists
 
 -- The watches fit a trail.
-pub record IsReady (clauses : List (List SatLit)) (watches : List ThreadedWatch) (heads : List Head) (trail : Trailing) : Type 0 where
-  pub kept : AreKept trail.variables clauses watches heads
+pub record IsReady (clauses : List (List SatLit)) (watches : List SatLit) (lists : List Listed) (trail : Trailing) : Type 0 where
+  pub kept : AreKept trail.variables clauses watches lists
   pub is_trail : IsTrail trail
   pub present : IsPresent trail
   pub watched : (s : ℕ)
@@ -111,18 +110,20 @@ pub record IsReady (clauses : List (List SatLit)) (watches : List ThreadedWatch)
       → IsAttached watches s
       → IsWatched watches trail.entries trail.walked s
 
--- The list of a false literal is walked, which is the opposite of that at the next place; some watches are left.
-pub record IsWalking (clauses : List (List SatLit)) (watches : List ThreadedWatch) (heads : List Head) (trail : Trailing)
-    (literal : SatLit) (left : List ℕ) : Type 0 where
-  pub heads_are : length heads ≡ 2 * trail.variables
+-- The list of a false literal is walked, which is the opposite of that at the next place; its first n watches are left.
+pub record IsWalking (clauses : List (List SatLit)) (watches : List SatLit) (lists : List Listed) (trail : Trailing)
+    (literal : SatLit) (left : ℕ) : Type 0 where
+  pub lists_are : length lists ≡ 2 * trail.variables
   pub known : All (AreKnown trail.variables) clauses
   pub of_clauses : AreOfClauses clauses watches
-  pub threaded : AreThreaded watches heads left
+  pub listed : AreListed watches lists
+  pub room : HaveRoom clauses lists
   pub is_trail : IsTrail trail
   pub present : IsPresent trail
   pub there : trail.walked < length trail.entries
   pub falsity : (entry_at trail.entries trail.walked).literal.0 ≡ (opposite literal).0
-  pub left_watch : (s : ℕ) → IsIn s left → literal_at watches s ≡ literal
+  pub literal_known : literal.0 < length lists
+  pub few : left ≤ length (list_of lists literal.0)
   pub watched : (s : ℕ)
       → s < length watches
       → IsAttached watches s
@@ -131,8 +132,8 @@ pub record IsWalking (clauses : List (List SatLit)) (watches : List ThreadedWatc
       → s < length watches
       → IsAttached watches s
       → literal_at watches s ≡ literal
-      → IsIn s left ⊎ IsTrueBy trail.entries (literal_at watches (partner s)) trail.level
+      → IsAmongFirst left (list_of lists literal.0) s ⊎ IsTrueBy trail.entries (literal_at watches (partner s)) trail.level
 
 -- what is attached stays so
-abbrev pub StayAttached : List ThreadedWatch → List ThreadedWatch → Type 0
+abbrev pub StayAttached : List SatLit → List SatLit → Type 0
 StayAttached old new = (s : ℕ) → s < length old → IsAttached old s → IsAttached new s

@@ -4,8 +4,9 @@
 
 mod arena;
 pub mod laws;
+mod list_store;
+mod lists;
 mod looking;
-mod threads;
 mod watches;
 
 pub use watches::Watches;

@@ -1,19 +1,20 @@
 //! The watches of clauses.
 
 ghost use Rattle.std.specs.Prelude.{ℕ, ◌≡◌, ◌≢◌, ◌+◌, ◌-◌, ◌*◌, ◌^◌, ◌<◌, ◌≤◌, ◌++◌, ◌∷◌, [], false, All, IfOk, IfSome};
-ghost use Rattle.std.specs.Prelude.{IfNone, OnOk, OnErr, length, replicate};
+ghost use Rattle.std.specs.Prelude.{IfNone, OnOk, OnErr, length};
 ghost use Rattle.cnf_core.specs.Clauses.{clause_at, opposite, AreKnown};
 ghost use Rattle.cnf_core.specs.Derivations.{is_empty};
 ghost use Rattle.trail_core.specs.Trails.{entry_at, literals};
 ghost use Rattle.watch_lists.specs.Propagations.{AreImplied, IsConflict, IsGrown};
 ghost use Rattle.watch_lists.specs.Feet.{IsReached};
-ghost use Rattle.watch_lists.specs.Threads.{IsAttached, links, no_head};
+ghost use Rattle.watch_lists.specs.Lists.{IsAttached};
 ghost use Rattle.watch_lists.specs.Watched.{AreQuiet, Fits, IsCovered, IsPresent, IsReady, IsRewatched, IsWalking};
 ghost use Rattle.watch_lists.specs.Watched.{StayAttached, with_clause};
 
 use crate::arena::Arena;
+use crate::list_store::ListStore;
+use crate::lists::{Lists, partner};
 use crate::looking::{Foot, find_foot, target};
-use crate::threads::{Head, Rest, Threads, partner};
 use cnf_core::{ClauseStore, SatLit};
 use std::alloc::{AllocError, Global};
 use std::marker::Model;
@@ -25,7 +26,7 @@ use trail_core::Trail;
 pub struct Watches {
     variables: u64,
     clauses: Arena,
-    threads: Threads,
+    lists: Lists,
 }
 
 // By hand, so that each exit of a function has one call for it (docs/IDIOMS.md).
@@ -34,7 +35,7 @@ impl Drop for Watches {
         let Watches {
             variables: _variables,
             clauses: _clauses,
-            threads: _threads,
+            lists: _lists,
         } = self;
     }
 }
@@ -47,10 +48,10 @@ impl Model for Watches {
     ghost view = { λ a. record {
       variables = a.variables;
       clauses = a.clauses.clauses;
-      watches = a.threads.watches.items;
+      watches = a.lists.watches.items;
     } };
 
-    ghost invariant = { λ a. AreKept a.variables a.clauses.clauses a.threads.watches.items a.threads.heads.items };
+    ghost invariant = { λ a. AreKept a.variables a.clauses.clauses a.lists.watches.items a.lists.lists };
 }
 
 impl Watches {
@@ -59,15 +60,14 @@ impl Watches {
         requires { variables < 2 ^ 62 }
         ensures { IfOk result (λ watches. watches ≡ record { variables = variables; clauses = []; watches = [] }) }
     {
-        let heads = no_heads(alloc, 2 * variables as usize)?;
-        let threads = Threads {
+        let lists = Lists {
             watches: Vec::new(alloc),
-            heads,
+            lists: ListStore::new(alloc, 2 * variables as usize)?,
         };
         Ok(Watches {
             variables,
             clauses: Arena::new(alloc),
-            threads,
+            lists,
         })
     }
 
@@ -80,9 +80,10 @@ impl Watches {
         ensures size { length self.old.watches ≡ 2 * length self.old.clauses }
         ensures refused { OnErr result (self.new ≡ self.old) }
     {
-        self.threads.watches.reserve(2)?;
+        self.lists.watches.reserve(2)?;
+        self.lists.make_room(clause)?;
         let id = self.clauses.put(clause)?;
-        self.threads.loosen(clause[0]);
+        self.lists.loosen(clause[0]);
         Ok(id)
     }
 
@@ -134,7 +135,7 @@ impl Watches {
         let _walked = trail.walked();
         match find_foot(trail, self.clauses.get(id), id) {
             Foot::Two(first, second) => {
-                self.threads.attach(2 * id as usize, first, second);
+                self.lists.attach(2 * id as usize, first, second);
                 None
             }
             Foot::Rooted => None,
@@ -160,80 +161,70 @@ impl Watches {
     {
         // it brings in that this is a trail
         let _walked = trail.walked();
-        let conflict = walk_all(&self.clauses, &mut self.threads, trail);
+        let conflict = walk_all(&self.clauses, &mut self.lists, trail);
         // and that it is one still
         let _walked = trail.walked();
         conflict
     }
 }
 
-// The lists of n literals, without watches.
-fn no_heads(alloc: Global, count: usize) -> Result<Vec<Head>, AllocError>
-    ensures { IfOk result (λ heads. heads.items ≡ replicate count no_head) }
-{
-    let none = Head { first: 0, count: 0 };
-    vec![in alloc; none; count]
-}
-
-// Looks at the next clause of a list of watches whose literal became false. Some: it is attached, all its literals are
+// Looks at the clause at a place of the list of a literal that became false. Some: it is attached, all its literals are
 // false, and nothing changes.
 fn visit(
     clauses: &Arena,
-    threads: &mut Threads,
+    lists: &mut Lists,
     trail: &mut Trail,
     literal: SatLit,
-    rest: &mut Rest,
+    place: usize,
 ) -> Option<u64>
-    requires walking { IsWalking clauses.now.clauses threads.old.watches.items threads.old.heads.items trail.old literal
-        (links threads.old.watches.items rest.old.left rest.old.at) }
-    requires left { 0 < rest.old.left }
-    ensures walking { IfNone result (IsWalking clauses.now.clauses threads.new.watches.items threads.new.heads.items
-        trail.new literal (links threads.new.watches.items rest.new.left rest.new.at)) }
-    ensures fewer { IfNone result (rest.new.left + 1 ≡ rest.old.left) }
+    requires walking { IsWalking clauses.now.clauses lists.old.watches.items lists.old.lists trail.old literal
+        (place + 1) }
+    ensures walking { IfNone result (IsWalking clauses.now.clauses lists.new.watches.items lists.new.lists
+        trail.new literal place) }
     ensures grown { IfNone result (IsGrown trail.old trail.new) }
     ensures implied { IfNone result (AreImplied clauses.now.clauses trail.old trail.new) }
     ensures walked { IfNone result (trail.new.walked ≡ trail.old.walked) }
-    ensures attached { IfNone result (StayAttached threads.old.watches.items threads.new.watches.items) }
+    ensures attached { IfNone result (StayAttached lists.old.watches.items lists.new.watches.items) }
     ensures conflict { IfSome result (IsConflict clauses.now.clauses (literals trail.old.entries)) }
-    ensures of_attached { IfSome result (λ id. IsAttached threads.old.watches.items (2 * id)) }
+    ensures of_attached { IfSome result (λ id. IsAttached lists.old.watches.items (2 * id)) }
     ensures same_trail { IfSome result (λ _. trail.new ≡ trail.old) }
-    ensures same_watches { IfSome result (λ _. threads.new ≡ threads.old) }
-    ensures same_rest { IfSome result (λ _. rest.new ≡ rest.old) }
+    ensures same_lists { IfSome result (λ _. lists.new ≡ lists.old) }
 {
-    let watch = rest.at;
+    let watch = lists.at(literal, place);
     let id = (watch / 2) as u64;
-    let other = threads.watches[partner(watch)].literal;
+    let other = lists.watches[partner(watch)];
     let Some(moved) = target(trail, clauses, id, other, literal) else {
         return Some(id);
     };
     // it brings in that this is a trail
     let _walked = trail.walked();
-    threads.step(rest, moved);
+    lists.step(literal, place, watch, moved);
     None
 }
 
-// Goes over the clauses that watch a literal, whose opposite is the next one to be walked. Some: an attached clause all
-// of whose literals are false.
-fn walk(clauses: &Arena, threads: &mut Threads, trail: &mut Trail, literal: SatLit) -> Option<u64>
-    requires ready { IsReady clauses.now.clauses threads.old.watches.items threads.old.heads.items trail.old }
+// Goes over the clauses that watch a literal, whose opposite is the next one to be walked, from the last one to the
+// first: what takes the place of a watch that moves was looked at. Some: an attached clause all of whose literals are
+// false.
+fn walk(clauses: &Arena, lists: &mut Lists, trail: &mut Trail, literal: SatLit) -> Option<u64>
+    requires ready { IsReady clauses.now.clauses lists.old.watches.items lists.old.lists trail.old }
     requires there { trail.old.walked < length trail.old.entries }
     requires falsity { (entry_at trail.old.entries trail.old.walked).literal.0 ≡ (opposite literal).0 }
-    requires known { literal.0 < length threads.old.heads.items }
-    ensures none { IfNone result (IsReady clauses.now.clauses threads.new.watches.items threads.new.heads.items
+    requires known { literal.0 < length lists.old.lists }
+    ensures none { IfNone result (IsReady clauses.now.clauses lists.new.watches.items lists.new.lists
         (record trail.new { walked = trail.new.walked + 1 })) }
-    ensures some { IfSome result (λ _. IsReady clauses.now.clauses threads.new.watches.items threads.new.heads.items
+    ensures some { IfSome result (λ _. IsReady clauses.now.clauses lists.new.watches.items lists.new.lists
         trail.new) }
     ensures conflict { IfSome result (IsConflict clauses.now.clauses (literals trail.new.entries)) }
-    ensures of_attached { IfSome result (λ id. IsAttached threads.new.watches.items (2 * id)) }
+    ensures of_attached { IfSome result (λ id. IsAttached lists.new.watches.items (2 * id)) }
     ensures grown { IsGrown trail.old trail.new }
     ensures implied { AreImplied clauses.now.clauses trail.old trail.new }
     ensures walked { trail.new.walked ≡ trail.old.walked }
-    ensures attached { StayAttached threads.old.watches.items threads.new.watches.items }
+    ensures attached { StayAttached lists.old.watches.items lists.new.watches.items }
 {
-    let mut rest = threads.take(literal);
-    while rest.left > 0 {
-        if let Some(failed) = visit(clauses, threads, trail, literal, &mut rest) {
-            threads.give_back(rest, literal);
+    let mut left = lists.count(literal);
+    while left > 0 {
+        left -= 1;
+        if let Some(failed) = visit(clauses, lists, trail, literal, left) {
             return Some(failed);
         }
     }
@@ -241,19 +232,19 @@ fn walk(clauses: &Arena, threads: &mut Threads, trail: &mut Trail, literal: SatL
 }
 
 // Walks all literals of a trail that aren't walked. Some: an attached clause all of whose literals are false.
-fn walk_all(clauses: &Arena, threads: &mut Threads, trail: &mut Trail) -> Option<u64>
-    requires ready { IsReady clauses.now.clauses threads.old.watches.items threads.old.heads.items trail.old }
-    ensures ready { IsReady clauses.now.clauses threads.new.watches.items threads.new.heads.items trail.new }
+fn walk_all(clauses: &Arena, lists: &mut Lists, trail: &mut Trail) -> Option<u64>
+    requires ready { IsReady clauses.now.clauses lists.old.watches.items lists.old.lists trail.old }
+    ensures ready { IsReady clauses.now.clauses lists.new.watches.items lists.new.lists trail.new }
     ensures walked { IfNone result (trail.new.walked ≡ length trail.new.entries) }
     ensures conflict { IfSome result (IsConflict clauses.now.clauses (literals trail.new.entries)) }
-    ensures of_attached { IfSome result (λ id. IsAttached threads.new.watches.items (2 * id)) }
+    ensures of_attached { IfSome result (λ id. IsAttached lists.new.watches.items (2 * id)) }
     ensures grown { IsGrown trail.old trail.new }
     ensures implied { AreImplied clauses.now.clauses trail.old trail.new }
-    ensures attached { StayAttached threads.old.watches.items threads.new.watches.items }
+    ensures attached { StayAttached lists.old.watches.items lists.new.watches.items }
 {
     while trail.walked() < trail.len() {
         let literal = trail.lit_at(trail.walked()).opposite();
-        if let Some(conflict) = walk(clauses, threads, trail, literal) {
+        if let Some(conflict) = walk(clauses, lists, trail, literal) {
             return Some(conflict);
         }
         trail.step();

@@ -1,105 +1,113 @@
--- The next watch of the list stays or moves.
-use Rattle.std.proofs.Common.{◌≡◌, ℕ, ◌/◌, ◌<◌, List, [], length, slice_index_or, inl, refl, ap, sym, subst, ◌∙◌, arith}
+-- The watch at a place of the list stays or moves.
+use Rattle.std.proofs.Common.{◌≡◌, ◌≢◌, ℕ, ◌+◌, ◌/◌, ◌<◌, List, [], length, slice_index_or, slice_set, ap, sym, subst, ◌∙◌, arith}
 use Rattle.std.proofs.lemmas.List.{get_or_default}
 use Rattle.cnf_core.specs.declared.literal.SatLit.{SatLit}
 use Rattle.cnf_core.specs.Clauses.{clause_at}
 use Rattle.trail_core.specs.Trails.{Trailing, literals}
-use Rattle.watch_lists.specs.declared.threads.Head.{Head}
-use Rattle.watch_lists.specs.declared.threads.Rest.{Rest}
-use Rattle.watch_lists.specs.declared.threads.ThreadedWatch.{ThreadedWatch}
+use Rattle.watch_lists.specs.declared.lists.Lists.{Lists}
 use Rattle.watch_lists.specs.Looks.{IsHalfFalse, IsTarget}
-use Rattle.watch_lists.specs.Threads.{links, literal_at, no_watch, partner}
+use Rattle.watch_lists.specs.Lists.{IsAttached, IsStep, Listed, list_of, literal_at, numbered, partner, put_in, taken_from, watch_at}
 use Rattle.watch_lists.specs.Watched.{IsWalking}
-use Rattle.watch_lists.proofs.BackLemmas.{at_within, next_out}
-use Rattle.watch_lists.proofs.FitLemmas.{half_false, target_implied, target_known}
-use Rattle.watch_lists.proofs.PassLemmas.{front_of, visited, visited_attached}
-use Rattle.watch_lists.proofs.ThreadLemmas.{attached_half, partner_within, room}
+use Rattle.watch_lists.proofs.FitLemmas.{half_false, looked, next_own, step_attached, target_implied, target_known, target_room}
+use Rattle.watch_lists.proofs.ListLemmas.{attached_half, partner_within}
 use Rattle.watch_lists.proofs.watches.visit.Goals as goal
 
--- the other watched literal of the clause, which is read at the watch beside the next one
-other_is : {clauses : List (List SatLit)} {ws : List ThreadedWatch} {hs : List Head} {t : Trailing} {f : SatLit} {p : ℕ} {w : ThreadedWatch} (rest : Rest) → IsWalking clauses ws hs t f (links ws rest.left rest.at) → 0 < rest.left → p ≡ partner rest.at → w ≡ slice_index_or ws p w → w.literal ≡ literal_at ws (partner rest.at)
-other_is {ws = ws} {hs = hs} {p = p} {w = w} rest is some p_is w_is =
-    let within : p < length ws = omega (arith, partner_within ws rest.at is.threaded.even (at_within ws hs rest some is.threaded), p_is) in
-    ap (λ (x : ThreadedWatch). x.literal) (w_is ∙ get_or_default ws p w no_watch within) ∙ ap (literal_at ws) p_is
+-- the other watched literal of the clause, which is read at the watch beside this one
+other_is : {clauses : List (List SatLit)} {ws : List SatLit} {lists : List Listed} {t : Trailing} {f other : SatLit} {w p : ℕ} (place : ℕ) → IsWalking clauses ws lists t f (place + 1) → w ≡ watch_at (list_of lists f.0) place → p ≡ partner w → other ≡ slice_index_or ws p other → other ≡ literal_at ws (partner (watch_at (list_of lists f.0) place))
+other_is {clauses = clauses} {ws = ws} {lists = lists} {t = t} {f = f} {other = other} {w = w} {p = p} place is w_is p_is other_at =
+    let own = next_own clauses ws lists t f place is in
+    let within : p < length ws = subst (λ k. k < length ws) (sym (p_is ∙ ap partner w_is)) (partner_within ws (watch_at (list_of lists f.0) place) is.listed.even own.within) in
+    other_at ∙ (get_or_default ws p other (numbered 0) within ∙ ap (literal_at ws) (p_is ∙ ap partner w_is))
 
-target_is : {clauses : List (List SatLit)} {ws : List ThreadedWatch} {hs : List Head} {t new : Trailing} {f moved : SatLit} {p : ℕ} {w : ThreadedWatch} (rest : Rest) → IsWalking clauses ws hs t f (links ws rest.left rest.at) → 0 < rest.left → p ≡ partner rest.at → w ≡ slice_index_or ws p w → IsTarget t new (clause_at clauses (rest.at / 2)) (rest.at / 2) w.literal f moved → IsTarget t new (clause_at clauses (rest.at / 2)) (rest.at / 2) (literal_at ws (partner rest.at)) f moved
-target_is {clauses = clauses} {t = t} {new = new} {f = f} {moved = moved} rest is some p_is w_is target =
-    subst (λ (l : SatLit). IsTarget t new (clause_at clauses (rest.at / 2)) (rest.at / 2) l f moved) (other_is rest is some p_is w_is) target
+target_is : {clauses : List (List SatLit)} {ws : List SatLit} {lists : List Listed} {t new : Trailing} {f other l : SatLit} {w p : ℕ} (place : ℕ) → IsWalking clauses ws lists t f (place + 1) → w ≡ watch_at (list_of lists f.0) place → p ≡ partner w → other ≡ slice_index_or ws p other → IsTarget t new (clause_at clauses (w / 2)) (w / 2) other f l → IsTarget t new (clause_at clauses (watch_at (list_of lists f.0) place / 2)) (watch_at (list_of lists f.0) place / 2) (literal_at ws (partner (watch_at (list_of lists f.0) place))) f l
+target_is {clauses = clauses} {ws = ws} {lists = lists} {t = t} {new = new} {f = f} {other = other} {l = l} {w = w} {p = p} place is w_is p_is other_at target =
+    subst (λ k. IsTarget t new (clause_at clauses (k / 2)) (k / 2) (literal_at ws (partner (watch_at (list_of lists f.0) place))) f l) w_is (subst (λ x. IsTarget t new (clause_at clauses (w / 2)) (w / 2) x f l) (other_is place is w_is p_is other_at) target)
 
 -- the clause that is looked at is there
-clause_there : {clauses : List (List SatLit)} {ws : List ThreadedWatch} {hs : List Head} {t : Trailing} {f : SatLit} (rest : Rest) → IsWalking clauses ws hs t f (links ws rest.left rest.at) → 0 < rest.left → rest.at / 2 < length clauses
-clause_there {ws = ws} {hs = hs} rest is some = omega (arith, at_within ws hs rest some is.threaded, is.of_clauses.size)
+clause_there : {clauses : List (List SatLit)} {ws : List SatLit} {lists : List Listed} {t : Trailing} {f : SatLit} {w : ℕ} (place : ℕ) → IsWalking clauses ws lists t f (place + 1) → w ≡ watch_at (list_of lists f.0) place → w / 2 < length clauses
+clause_there {clauses = clauses} {ws = ws} {lists = lists} {t = t} {f = f} place is w_is = omega (arith, w_is, (next_own clauses ws lists t f place is).within, is.of_clauses.size)
 
-pub index-requires : goal.index-requires
-index-requires c =
-    let ws = c.args.threads.now.watches.items in
-    let is = c.requires.walking.threaded in
-    let within = at_within ws c.args.threads.now.heads.items c.args.rest.now c.requires.left is in
-    omega (arith, partner_within ws c.args.rest.now.at is.even within, c.partner.ensures, c.args.threads.now.watches.ok.0)
+watch_there : {clauses : List (List SatLit)} {ws : List SatLit} {lists : List Listed} {t : Trailing} {f : SatLit} {w : ℕ} (place : ℕ) → IsWalking clauses ws lists t f (place + 1) → w ≡ watch_at (list_of lists f.0) place → w < length ws
+watch_there {clauses = clauses} {ws = ws} {lists = lists} {t = t} {f = f} place is w_is = omega (arith, w_is, (next_own clauses ws lists t f place is).within)
 
-pub target-requires-clause-there : goal.target-requires-clause-there
-target-requires-clause-there c = clause_there c.args.rest.now c.requires.walking c.requires.left
-
-pub target-requires-clause-known : goal.target-requires-clause-known
-target-requires-clause-known c =
-    let is = c.requires.walking in
-    is.known (c.args.rest.now.at / 2) [] (target-requires-clause-there c)
-
-pub target-requires-clause-half : goal.target-requires-clause-half
-target-requires-clause-half c =
-    let rest = c.args.rest.now in
-    let is = c.requires.walking in
-    let other = other_is rest is c.requires.left c.partner.ensures c.index.ensures in
-    subst (λ (l : SatLit). IsHalfFalse (literals c.args.trail.now.entries) (clause_at c.args.clauses.now.clauses (rest.at / 2)) l) (sym other) (half_false _ _ _ _ _ rest.at _ (front_of _ _ _ _ _ rest is c.requires.left))
-
-pub returns-in_default-clause-conflict : goal.returns-in_default-clause-conflict
-returns-in_default-clause-conflict c = record {
-  there = clause_there c.args.rest.now c.requires.walking c.requires.left;
-  conflict = c.in_default.ensures.conflict;
+step_is : {old new : Lists} {f l : SatLit} {place w : ℕ} → w ≡ watch_at (list_of old.lists f.0) place → (l.0 ≡ f.0 → new ≡ old) → (l.0 ≢ f.0 → new.watches.items ≡ slice_set old.watches.items w l) → (l.0 ≢ f.0 → new.lists ≡ put_in l.0 w (taken_from f.0 place old.lists)) → IsStep old.watches.items new.watches.items old.lists new.lists f l place (watch_at (list_of old.lists f.0) place)
+step_is {old = old} {new = new} {f = f} {l = l} {place = place} {w = w} w_is stays watches lists = record {
+  stays = λ e. (ap (λ (x : Lists). x.watches.items) (stays e), ap (λ (x : Lists). x.lists) (stays e));
+  moves_watch = λ e. watches e ∙ ap (λ k. slice_set old.watches.items k l) w_is;
+  moves_list = λ e. lists e ∙ ap (λ k. put_in l.0 k (taken_from f.0 place old.lists)) w_is;
 }
 
-pub step-requires-clause-there : goal.step-requires-clause-there
-step-requires-clause-there c =
-    at_within c.args.threads.now.watches.items c.args.threads.now.heads.items c.args.rest.now c.requires.left c.requires.walking.threaded
-
-pub step-requires-clause-known : goal.step-requires-clause-known
-step-requires-clause-known c =
-    let rest = c.args.rest.now in
-    let is = c.requires.walking in
-    let target = target_is rest is c.requires.left c.partner.ensures c.index.ensures c.in-Some.ensures.target in
-    target_known _ _ _ _ _ _ _ rest.at _ (front_of _ _ _ _ _ rest is c.requires.left) target
-
-pub step-requires-clause-few : goal.step-requires-clause-few
-step-requires-clause-few c =
-    let ws = c.args.threads.now.watches.items in
-    let hs = c.args.threads.now.heads.items in
-    let rest = c.args.rest.now in
-    room ws hs c.in-Some.moved.0 (links ws rest.left rest.at) c.requires.walking.threaded (step-requires-clause-known c)
-
-pub returns-clause-walking : goal.returns-clause-walking
-returns-clause-walking c =
-    let rest = c.args.rest.now in
-    let is = c.requires.walking in
-    let target = target_is rest is c.requires.left c.partner.ensures c.index.ensures c.in-Some.ensures.target in
-    visited _ _ _ _ _ _ _ _ _ rest _ is c.requires.left c.walked-walked.ensures.trail target c.step.ensures.rest c.step.ensures.watches c.step.ensures.heads
-
-pub returns-clause-attached : goal.returns-clause-attached
-returns-clause-attached c =
-    let rest = c.args.rest.now in
-    let is = c.requires.walking in
-    let target = target_is rest is c.requires.left c.partner.ensures c.index.ensures c.in-Some.ensures.target in
-    visited_attached _ _ _ _ _ _ _ _ rest is c.requires.left target c.step.ensures.watches
+pub at-watch-requires-clause-there : goal.at-watch-requires-clause-there
+at-watch-requires-clause-there c = omega (arith, c.requires.walking.few)
 
 pub partner-requires : goal.partner-requires
 partner-requires c =
-    let is = c.requires.walking.threaded in
-    omega (arith, at_within c.args.threads.now.watches.items c.args.threads.now.heads.items c.args.rest.now c.requires.left is, is.few, is.even)
+    let is = c.requires.walking in
+    omega (arith, watch_there c.args.place is c.at-watch.ensures, is.listed.few, is.listed.even)
 
-pub returns-clause-implied : goal.returns-clause-implied
-returns-clause-implied c =
-    target_implied c.args.clauses.now.clauses c.args.trail.now c.target.new.trail c.args.literal c.in-Some.moved _ (c.args.rest.now.at / 2) (clause_there c.args.rest.now c.requires.walking c.requires.left) c.in-Some.ensures.target
+pub index-other-requires : goal.index-other-requires
+index-other-requires c =
+    let is = c.requires.walking in
+    let w = c.at-watch.result in
+    omega (arith, partner_within c.args.lists.now.watches.items w is.listed.even (watch_there c.args.place is c.at-watch.ensures), c.partner.ensures, c.args.lists.now.watches.ok.0)
+
+pub target-requires-clause-there : goal.target-requires-clause-there
+target-requires-clause-there c = clause_there c.args.place c.requires.walking c.at-watch.ensures
+
+pub target-requires-clause-known : goal.target-requires-clause-known
+target-requires-clause-known c = c.requires.walking.known (c.at-watch.result / 2) [] (target-requires-clause-there c)
+
+pub target-requires-clause-half : goal.target-requires-clause-half
+target-requires-clause-half c =
+    let is = c.requires.walking in
+    let w_is = c.at-watch.ensures in
+    let other = other_is c.args.place is w_is c.partner.ensures c.index-other.ensures in
+    let made = literals c.args.trail.now.entries in
+    let clauses = c.args.clauses.now.clauses in
+    let half = half_false _ _ _ _ _ c.args.place is in
+    subst (λ (l : SatLit). IsHalfFalse made (clause_at clauses (c.at-watch.result / 2)) l) (sym other) (subst (λ k. IsHalfFalse made (clause_at clauses (k / 2)) (literal_at c.args.lists.now.watches.items (partner (watch_at (list_of c.args.lists.now.lists c.args.literal.0) c.args.place)))) (sym w_is) half)
+
+pub returns-in_default-clause-conflict : goal.returns-in_default-clause-conflict
+returns-in_default-clause-conflict c = record {
+  there = clause_there c.args.place c.requires.walking c.at-watch.ensures;
+  conflict = c.in_default.ensures.conflict;
+}
 
 pub returns-in_default-clause-of_attached : goal.returns-in_default-clause-of_attached
 returns-in_default-clause-of_attached c =
-    let rest = c.args.rest.now in
-    attached_half c.args.threads.now.watches.items rest.at ((next_out c.args.threads.now.watches.items c.args.threads.now.heads.items rest c.requires.left c.requires.walking.threaded).out_nowhere rest.at (inl refl)).attached
+    let own = next_own _ _ _ _ _ c.args.place c.requires.walking in
+    attached_half c.args.lists.now.watches.items c.at-watch.result (subst (λ k. IsAttached c.args.lists.now.watches.items k) (sym c.at-watch.ensures) own.attached)
+
+pub step-requires-clause-there : goal.step-requires-clause-there
+step-requires-clause-there c = watch_there c.args.place c.requires.walking c.at-watch.ensures
+
+pub step-requires-clause-within : goal.step-requires-clause-within
+step-requires-clause-within c = omega (arith, c.requires.walking.few)
+
+pub step-requires-clause-moved : goal.step-requires-clause-moved
+step-requires-clause-moved c =
+    let is = c.requires.walking in
+    target_known _ _ _ _ _ _ _ c.args.place is (target_is c.args.place is c.at-watch.ensures c.partner.ensures c.index-other.ensures c.in-Some.ensures.target)
+
+pub step-requires-clause-room : goal.step-requires-clause-room
+step-requires-clause-room c =
+    let is = c.requires.walking in
+    target_room _ _ _ _ _ _ _ c.args.place is (target_is c.args.place is c.at-watch.ensures c.partner.ensures c.index-other.ensures c.in-Some.ensures.target)
+
+pub returns-clause-walking : goal.returns-clause-walking
+returns-clause-walking c =
+    let is = c.requires.walking in
+    let target = target_is c.args.place is c.at-watch.ensures c.partner.ensures c.index-other.ensures c.in-Some.ensures.target in
+    let step = step_is {old = c.args.lists.now} {new = c.step.new.self} c.at-watch.ensures c.step.ensures.stays c.step.ensures.watches c.step.ensures.lists in
+    looked _ _ _ _ _ _ _ _ _ c.args.place is c.walked-walked.ensures.trail target step
+
+pub returns-clause-attached : goal.returns-clause-attached
+returns-clause-attached c =
+    let is = c.requires.walking in
+    let target = target_is c.args.place is c.at-watch.ensures c.partner.ensures c.index-other.ensures c.in-Some.ensures.target in
+    let step = step_is {old = c.args.lists.now} {new = c.step.new.self} c.at-watch.ensures c.step.ensures.stays c.step.ensures.watches c.step.ensures.lists in
+    step_attached _ _ _ _ _ _ _ _ _ c.args.place is target step
+
+pub returns-clause-implied : goal.returns-clause-implied
+returns-clause-implied c =
+    target_implied c.args.clauses.now.clauses c.args.trail.now c.target.new.trail c.args.literal c.in-Some.moved _ (c.at-watch.result / 2) (clause_there c.args.place c.requires.walking c.at-watch.ensures) c.in-Some.ensures.target

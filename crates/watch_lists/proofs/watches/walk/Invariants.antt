@@ -1,8 +1,8 @@
 use Rattle.watch_lists.proofs.PassLemmas.{IsOnTheWay}
 use Rattle.watch_lists.proofs.watches.walk.Given as goal
 
-abbrev pub invariant-loop-rest : goal.invariant-loop-rest
-invariant-loop-rest l = IsOnTheWay l.clauses.clauses l.fn.threads.watches.items l.threads.watches.items l.threads.heads.items l.fn.trail l.trail l.literal l.rest
+abbrev pub invariant-loop-left : goal.invariant-loop-left
+invariant-loop-left l = IsOnTheWay l.clauses.clauses l.fn.lists.watches.items l.lists.watches.items l.lists.lists l.fn.trail l.trail l.literal l.left
 
-abbrev pub decreases-loop-rest : goal.decreases-loop-rest
-decreases-loop-rest l = l.rest.left
+abbrev pub decreases-loop-left : goal.decreases-loop-left
+decreases-loop-left l = l.left
