@@ -1,6 +1,7 @@
 pub mod EffectLemmas
 pub mod GrowLemmas
 pub mod ListLemmas
+pub mod SpanLemmas
 pub mod RoomLemmas
 pub mod FitLemmas
 pub mod PassLemmas

@@ -61,17 +61,17 @@ attached_itself watches s l within differ e =
 
 -- ---- the watch at a place is taken out of a list
 
-removed_size : (xs : List ℕ) (i : ℕ) → length (swap_remove xs i 0) ≡ length xs - 1
+pub removed_size : (xs : List ℕ) (i : ℕ) → length (swap_remove xs i 0) ≡ length xs - 1
 removed_size xs i =
     length-take-le (length xs - 1) (slice_set xs i (slice_index_or xs (length xs - 1) 0)) (omega (arith, length-set xs i (slice_index_or xs (length xs - 1) 0)))
 
 -- before it what stood there stands there
-removed_other : (xs : List ℕ) (i k : ℕ) → k < length (swap_remove xs i 0) → k ≢ i → watch_at (swap_remove xs i 0) k ≡ watch_at xs k
+pub removed_other : (xs : List ℕ) (i k : ℕ) → k < length (swap_remove xs i 0) → k ≢ i → watch_at (swap_remove xs i 0) k ≡ watch_at xs k
 removed_other xs i k within other =
     get_or-take (length xs - 1) (slice_set xs i (slice_index_or xs (length xs - 1) 0)) k 0 (omega (arith, within, removed_size xs i)) ∙ get_or-set_other xs i k (slice_index_or xs (length xs - 1) 0) 0 other
 
 -- and at its place the last one
-removed_here : (xs : List ℕ) (i k : ℕ) → k < length (swap_remove xs i 0) → k ≡ i → watch_at (swap_remove xs i 0) k ≡ watch_at xs (length xs - 1)
+pub removed_here : (xs : List ℕ) (i k : ℕ) → k < length (swap_remove xs i 0) → k ≡ i → watch_at (swap_remove xs i 0) k ≡ watch_at xs (length xs - 1)
 removed_here xs i k within here =
     get_or-take (length xs - 1) (slice_set xs i (slice_index_or xs (length xs - 1) 0)) k 0 (omega (arith, within, removed_size xs i))
     ∙ (ap (λ n. slice_index_or (slice_set xs i (slice_index_or xs (length xs - 1) 0)) n 0) here ∙ get_or-set_same xs i (slice_index_or xs (length xs - 1) 0) 0 (omega (arith, within, here, removed_size xs i)))

@@ -3,6 +3,7 @@ pub mod Looks
 pub mod Arenas
 pub mod Propagations
 pub mod Lists
+pub mod Spans
 pub mod Watched
 pub use Rattle.cnf_core.specs.Clauses
 pub use Rattle.cnf_core.specs.Derivations

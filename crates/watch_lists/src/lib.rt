@@ -4,9 +4,9 @@
 
 mod arena;
 pub mod laws;
+mod list_store;
 mod lists;
 mod looking;
-mod watch_list;
 mod watches;
 
 pub use watches::Watches;

@@ -1,11 +1,11 @@
 //! The watches of clauses, and the lists of literals.
 
-ghost use Rattle.std.specs.Prelude.{◌≡◌, ◌≢◌, ◌+◌, ◌*◌, ◌%◌, ◌^◌, ◌<◌, ◌≤◌, ℕ, ◌++◌, ◌∷◌, [], All, IfOk, OnOk, OnErr, length};
-ghost use Rattle.std.specs.Prelude.{replicate, slice_set, vec_len, vec_capacity};
-ghost use Rattle.watch_lists.specs.Lists.{ArePut, IsRoomier, list_at, list_of, none_listed, partner, put_in};
+ghost use Rattle.std.specs.Prelude.{◌≡◌, ◌≢◌, ◌+◌, ◌*◌, ◌%◌, ◌^◌, ◌<◌, ◌≤◌, ℕ, ◌++◌, ◌∷◌, [], All, OnOk, OnErr, length};
+ghost use Rattle.std.specs.Prelude.{slice_set, vec_len, vec_capacity};
+ghost use Rattle.watch_lists.specs.Lists.{ArePut, IsRoomier, list_at, list_of, partner, put_in};
 ghost use Rattle.watch_lists.specs.Lists.{roomier_at, taken_from, watch_at};
 
-use crate::watch_list::WatchList;
+use crate::list_store::ListStore;
 use cnf_core::SatLit;
 use std::alloc::{AllocError, Global};
 
@@ -15,7 +15,7 @@ use std::alloc::{AllocError, Global};
 #[derive(Drop)]
 pub(crate) struct Lists {
     pub(crate) watches: Vec<SatLit>,
-    pub(crate) lists: Vec<WatchList>,
+    pub(crate) lists: ListStore,
 }
 
 /// The other watch of the same clause.
@@ -26,69 +26,58 @@ pub(crate) fn partner(watch: usize) -> usize
     if watch % 2 == 0 { watch + 1 } else { watch - 1 }
 }
 
-/// An empty list for each of n literals.
-pub(crate) fn no_lists(alloc: Global, count: usize) -> Result<Vec<WatchList>, AllocError>
-    ensures { IfOk result (λ lists. lists.items ≡ replicate count none_listed) }
-{
-    let mut lists = Vec::with_capacity(alloc, count)?;
-    for _ in 0..count {
-        lists.push(WatchList::new(alloc))?;
-    }
-    Ok(lists)
-}
-
 impl Lists {
     /// How many watches a literal has.
     pub(crate) fn count(&self, literal: SatLit) -> usize
-        requires { literal.0 < length self.now.lists.items }
-        ensures { result ≡ length (list_of self.now.lists.items literal.0) }
+        requires { literal.0 < length self.now.lists }
+        ensures { result ≡ length (list_of self.now.lists literal.0) }
     {
-        self.lists[literal.0 as usize].len()
+        self.lists.count(literal)
     }
 
     /// The watch at a place of a literal's list.
     pub(crate) fn at(&self, literal: SatLit, place: usize) -> usize
-        requires known { literal.0 < length self.now.lists.items }
-        requires there { place < length (list_of self.now.lists.items literal.0) }
-        ensures { result ≡ watch_at (list_of self.now.lists.items literal.0) place }
+        requires known { literal.0 < length self.now.lists }
+        requires there { place < length (list_of self.now.lists literal.0) }
+        ensures { result ≡ watch_at (list_of self.now.lists literal.0) place }
     {
-        self.lists[literal.0 as usize].get(place)
+        self.lists.at(literal, place)
     }
 
     // Takes the watch at a place of a literal's list out.
     fn take_out(&mut self, literal: SatLit, place: usize)
-        requires known { literal.0 < length self.old.lists.items }
-        requires there { place < length (list_of self.old.lists.items literal.0) }
+        requires known { literal.0 < length self.old.lists }
+        requires there { place < length (list_of self.old.lists literal.0) }
         ensures watches { self.new.watches ≡ self.old.watches }
-        ensures lists { self.new.lists.items ≡ taken_from literal.0 place self.old.lists.items }
+        ensures lists { self.new.lists ≡ taken_from literal.0 place self.old.lists }
     {
-        self.lists[literal.0 as usize].take_out(place);
+        self.lists.take_out(literal, place);
     }
 
     // Has a watch, which is in no list, watch a literal.
     fn put(&mut self, watch: usize, literal: SatLit)
         requires there { watch < length self.old.watches.items }
-        requires known { literal.0 < length self.old.lists.items }
-        requires room { 0 < (list_at self.old.lists.items literal.0).room }
+        requires known { literal.0 < length self.old.lists }
+        requires room { 0 < (list_at self.old.lists literal.0).room }
         ensures watches { self.new.watches.items ≡ slice_set self.old.watches.items watch literal }
-        ensures lists { self.new.lists.items ≡ put_in literal.0 watch self.old.lists.items }
+        ensures lists { self.new.lists ≡ put_in literal.0 watch self.old.lists }
     {
         self.watches[watch] = literal;
-        self.lists[literal.0 as usize].push(watch);
+        self.lists.push(literal, watch);
     }
 
     /// Moves the watch at a place of a literal's list to that of another literal. Where it is the same one nothing
     /// changes.
     pub(crate) fn step(&mut self, literal: SatLit, place: usize, watch: usize, moved: SatLit)
         requires there { watch < length self.old.watches.items }
-        requires known { literal.0 < length self.old.lists.items }
-        requires within { place < length (list_of self.old.lists.items literal.0) }
-        requires moved { moved.0 < length self.old.lists.items }
-        requires room { moved.0 ≢ literal.0 → 0 < (list_at self.old.lists.items moved.0).room }
+        requires known { literal.0 < length self.old.lists }
+        requires within { place < length (list_of self.old.lists literal.0) }
+        requires moved { moved.0 < length self.old.lists }
+        requires room { moved.0 ≢ literal.0 → 0 < (list_at self.old.lists moved.0).room }
         ensures stays { moved.0 ≡ literal.0 → self.new ≡ self.old }
         ensures watches { moved.0 ≢ literal.0 → self.new.watches.items ≡ slice_set self.old.watches.items watch moved }
-        ensures lists { moved.0 ≢ literal.0 → self.new.lists.items
-            ≡ put_in moved.0 watch (taken_from literal.0 place self.old.lists.items) }
+        ensures lists { moved.0 ≢ literal.0 → self.new.lists
+            ≡ put_in moved.0 watch (taken_from literal.0 place self.old.lists) }
     {
         if moved == literal {
             return;
@@ -100,13 +89,13 @@ impl Lists {
     /// Puts the two watches of a clause, which are in no list, into the lists of two literals.
     pub(crate) fn attach(&mut self, watch: usize, first: SatLit, second: SatLit)
         requires there { watch + 1 < length self.old.watches.items }
-        requires first { first.0 < length self.old.lists.items }
-        requires second { second.0 < length self.old.lists.items }
+        requires first { first.0 < length self.old.lists }
+        requires second { second.0 < length self.old.lists }
         requires differ { first.0 ≢ second.0 }
-        requires first_room { 0 < (list_at self.old.lists.items first.0).room }
-        requires second_room { 0 < (list_at self.old.lists.items second.0).room }
+        requires first_room { 0 < (list_at self.old.lists first.0).room }
+        requires second_room { 0 < (list_at self.old.lists second.0).room }
         ensures put { ArePut self.old.watches.items self.new.watches.items watch first second }
-        ensures lists { self.new.lists.items ≡ put_in second.0 (watch + 1) (put_in first.0 watch self.old.lists.items) }
+        ensures lists { self.new.lists ≡ put_in second.0 (watch + 1) (put_in first.0 watch self.old.lists) }
     {
         self.put(watch, first);
         self.put(watch + 1, second);
@@ -114,11 +103,11 @@ impl Lists {
 
     /// Makes room for a watch more of each literal of a clause. A refusal leaves all that is watched.
     pub(crate) fn make_room(&mut self, clause: &[SatLit]) -> Result<(), AllocError>
-        requires { All (λ literal. literal.0 < length self.old.lists.items) clause.now }
+        requires { All (λ literal. literal.0 < length self.old.lists) clause.now }
         ensures watches { self.new.watches ≡ self.old.watches }
-        ensures roomier { OnOk result (IsRoomier self.old.lists.items self.new.lists.items clause.now
+        ensures roomier { OnOk result (IsRoomier self.old.lists self.new.lists clause.now
             (length clause.now)) }
-        ensures refused { OnErr result (IsRoomier self.old.lists.items self.new.lists.items clause.now 0) }
+        ensures refused { OnErr result (IsRoomier self.old.lists self.new.lists clause.now 0) }
     {
         for literal in clause.iter() {
             self.make_one(*literal)?;
@@ -128,12 +117,12 @@ impl Lists {
 
     // Makes room for one watch more of a literal. A refusal changes nothing.
     fn make_one(&mut self, literal: SatLit) -> Result<(), AllocError>
-        requires { literal.0 < length self.old.lists.items }
+        requires { literal.0 < length self.old.lists }
         ensures watches { self.new.watches ≡ self.old.watches }
-        ensures made { OnOk result (self.new.lists.items ≡ roomier_at literal.0 self.old.lists.items) }
-        ensures refused { OnErr result (self.new.lists.items ≡ self.old.lists.items) }
+        ensures made { OnOk result (self.new.lists ≡ roomier_at literal.0 self.old.lists) }
+        ensures refused { OnErr result (self.new.lists ≡ self.old.lists) }
     {
-        self.lists[literal.0 as usize].make_room()
+        self.lists.make_room(literal)
     }
 
     /// Adds the two watches of a clause, for which there is room, and which are in no list.

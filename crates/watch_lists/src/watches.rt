@@ -12,7 +12,8 @@ ghost use Rattle.watch_lists.specs.Watched.{AreQuiet, Fits, IsCovered, IsPresent
 ghost use Rattle.watch_lists.specs.Watched.{StayAttached, with_clause};
 
 use crate::arena::Arena;
-use crate::lists::{Lists, no_lists, partner};
+use crate::list_store::ListStore;
+use crate::lists::{Lists, partner};
 use crate::looking::{Foot, find_foot, target};
 use cnf_core::{ClauseStore, SatLit};
 use std::alloc::{AllocError, Global};
@@ -50,7 +51,7 @@ impl Model for Watches {
       watches = a.lists.watches.items;
     } };
 
-    ghost invariant = { λ a. AreKept a.variables a.clauses.clauses a.lists.watches.items a.lists.lists.items };
+    ghost invariant = { λ a. AreKept a.variables a.clauses.clauses a.lists.watches.items a.lists.lists };
 }
 
 impl Watches {
@@ -59,10 +60,9 @@ impl Watches {
         requires { variables < 2 ^ 62 }
         ensures { IfOk result (λ watches. watches ≡ record { variables = variables; clauses = []; watches = [] }) }
     {
-        let lists = no_lists(alloc, 2 * variables as usize)?;
         let lists = Lists {
             watches: Vec::new(alloc),
-            lists,
+            lists: ListStore::new(alloc, 2 * variables as usize)?,
         };
         Ok(Watches {
             variables,
@@ -177,9 +177,9 @@ fn visit(
     literal: SatLit,
     place: usize,
 ) -> Option<u64>
-    requires walking { IsWalking clauses.now.clauses lists.old.watches.items lists.old.lists.items trail.old literal
+    requires walking { IsWalking clauses.now.clauses lists.old.watches.items lists.old.lists trail.old literal
         (place + 1) }
-    ensures walking { IfNone result (IsWalking clauses.now.clauses lists.new.watches.items lists.new.lists.items
+    ensures walking { IfNone result (IsWalking clauses.now.clauses lists.new.watches.items lists.new.lists
         trail.new literal place) }
     ensures grown { IfNone result (IsGrown trail.old trail.new) }
     ensures implied { IfNone result (AreImplied clauses.now.clauses trail.old trail.new) }
@@ -206,13 +206,13 @@ fn visit(
 // first: what takes the place of a watch that moves was looked at. Some: an attached clause all of whose literals are
 // false.
 fn walk(clauses: &Arena, lists: &mut Lists, trail: &mut Trail, literal: SatLit) -> Option<u64>
-    requires ready { IsReady clauses.now.clauses lists.old.watches.items lists.old.lists.items trail.old }
+    requires ready { IsReady clauses.now.clauses lists.old.watches.items lists.old.lists trail.old }
     requires there { trail.old.walked < length trail.old.entries }
     requires falsity { (entry_at trail.old.entries trail.old.walked).literal.0 ≡ (opposite literal).0 }
-    requires known { literal.0 < length lists.old.lists.items }
-    ensures none { IfNone result (IsReady clauses.now.clauses lists.new.watches.items lists.new.lists.items
+    requires known { literal.0 < length lists.old.lists }
+    ensures none { IfNone result (IsReady clauses.now.clauses lists.new.watches.items lists.new.lists
         (record trail.new { walked = trail.new.walked + 1 })) }
-    ensures some { IfSome result (λ _. IsReady clauses.now.clauses lists.new.watches.items lists.new.lists.items
+    ensures some { IfSome result (λ _. IsReady clauses.now.clauses lists.new.watches.items lists.new.lists
         trail.new) }
     ensures conflict { IfSome result (IsConflict clauses.now.clauses (literals trail.new.entries)) }
     ensures of_attached { IfSome result (λ id. IsAttached lists.new.watches.items (2 * id)) }
@@ -233,8 +233,8 @@ fn walk(clauses: &Arena, lists: &mut Lists, trail: &mut Trail, literal: SatLit) 
 
 // Walks all literals of a trail that aren't walked. Some: an attached clause all of whose literals are false.
 fn walk_all(clauses: &Arena, lists: &mut Lists, trail: &mut Trail) -> Option<u64>
-    requires ready { IsReady clauses.now.clauses lists.old.watches.items lists.old.lists.items trail.old }
-    ensures ready { IsReady clauses.now.clauses lists.new.watches.items lists.new.lists.items trail.new }
+    requires ready { IsReady clauses.now.clauses lists.old.watches.items lists.old.lists trail.old }
+    ensures ready { IsReady clauses.now.clauses lists.new.watches.items lists.new.lists trail.new }
     ensures walked { IfNone result (trail.new.walked ≡ length trail.new.entries) }
     ensures conflict { IfSome result (IsConflict clauses.now.clauses (literals trail.new.entries)) }
     ensures of_attached { IfSome result (λ id. IsAttached lists.new.watches.items (2 * id)) }

@@ -30,11 +30,11 @@ clause_there {clauses = clauses} {ws = ws} {lists = lists} {t = t} {f = f} place
 watch_there : {clauses : List (List SatLit)} {ws : List SatLit} {lists : List Listed} {t : Trailing} {f : SatLit} {w : ℕ} (place : ℕ) → IsWalking clauses ws lists t f (place + 1) → w ≡ watch_at (list_of lists f.0) place → w < length ws
 watch_there {clauses = clauses} {ws = ws} {lists = lists} {t = t} {f = f} place is w_is = omega (arith, w_is, (next_own clauses ws lists t f place is).within)
 
-step_is : {old new : Lists} {f l : SatLit} {place w : ℕ} → w ≡ watch_at (list_of old.lists.items f.0) place → (l.0 ≡ f.0 → new ≡ old) → (l.0 ≢ f.0 → new.watches.items ≡ slice_set old.watches.items w l) → (l.0 ≢ f.0 → new.lists.items ≡ put_in l.0 w (taken_from f.0 place old.lists.items)) → IsStep old.watches.items new.watches.items old.lists.items new.lists.items f l place (watch_at (list_of old.lists.items f.0) place)
+step_is : {old new : Lists} {f l : SatLit} {place w : ℕ} → w ≡ watch_at (list_of old.lists f.0) place → (l.0 ≡ f.0 → new ≡ old) → (l.0 ≢ f.0 → new.watches.items ≡ slice_set old.watches.items w l) → (l.0 ≢ f.0 → new.lists ≡ put_in l.0 w (taken_from f.0 place old.lists)) → IsStep old.watches.items new.watches.items old.lists new.lists f l place (watch_at (list_of old.lists f.0) place)
 step_is {old = old} {new = new} {f = f} {l = l} {place = place} {w = w} w_is stays watches lists = record {
-  stays = λ e. (ap (λ (x : Lists). x.watches.items) (stays e), ap (λ (x : Lists). x.lists.items) (stays e));
+  stays = λ e. (ap (λ (x : Lists). x.watches.items) (stays e), ap (λ (x : Lists). x.lists) (stays e));
   moves_watch = λ e. watches e ∙ ap (λ k. slice_set old.watches.items k l) w_is;
-  moves_list = λ e. lists e ∙ ap (λ k. put_in l.0 k (taken_from f.0 place old.lists.items)) w_is;
+  moves_list = λ e. lists e ∙ ap (λ k. put_in l.0 k (taken_from f.0 place old.lists)) w_is;
 }
 
 pub at-watch-requires-clause-there : goal.at-watch-requires-clause-there
@@ -65,7 +65,7 @@ target-requires-clause-half c =
     let made = literals c.args.trail.now.entries in
     let clauses = c.args.clauses.now.clauses in
     let half = half_false _ _ _ _ _ c.args.place is in
-    subst (λ (l : SatLit). IsHalfFalse made (clause_at clauses (c.at-watch.result / 2)) l) (sym other) (subst (λ k. IsHalfFalse made (clause_at clauses (k / 2)) (literal_at c.args.lists.now.watches.items (partner (watch_at (list_of c.args.lists.now.lists.items c.args.literal.0) c.args.place)))) (sym w_is) half)
+    subst (λ (l : SatLit). IsHalfFalse made (clause_at clauses (c.at-watch.result / 2)) l) (sym other) (subst (λ k. IsHalfFalse made (clause_at clauses (k / 2)) (literal_at c.args.lists.now.watches.items (partner (watch_at (list_of c.args.lists.now.lists c.args.literal.0) c.args.place)))) (sym w_is) half)
 
 pub returns-in_default-clause-conflict : goal.returns-in_default-clause-conflict
 returns-in_default-clause-conflict c = record {

@@ -13,14 +13,14 @@ attach-requires-clause-first c =
     let old = c.self.inside in
     let there = subst (λ (w : Watching). c.args.id < length w.clauses) (sym c.self.view_is) c.requires.there in
     let pair = subst (λ (cl : List SatLit). ArePair c.find_foot.new.trail.entries cl c.in-Two.first c.in-Two.second) c.get.ensures c.in-Two.ensures.foot in
-    has_list old.variables old.clauses.clauses old.lists.watches.items old.lists.lists.items c.args.id c.in-Two.first c.self.invariant there pair.first_there
+    has_list old.variables old.clauses.clauses old.lists.watches.items old.lists.lists c.args.id c.in-Two.first c.self.invariant there pair.first_there
 
 pub attach-requires-clause-second : goal.attach-requires-clause-second
 attach-requires-clause-second c =
     let old = c.self.inside in
     let there = subst (λ (w : Watching). c.args.id < length w.clauses) (sym c.self.view_is) c.requires.there in
     let pair = subst (λ (cl : List SatLit). ArePair c.find_foot.new.trail.entries cl c.in-Two.first c.in-Two.second) c.get.ensures c.in-Two.ensures.foot in
-    has_list old.variables old.clauses.clauses old.lists.watches.items old.lists.lists.items c.args.id c.in-Two.second c.self.invariant there pair.second_there
+    has_list old.variables old.clauses.clauses old.lists.watches.items old.lists.lists c.args.id c.in-Two.second c.self.invariant there pair.second_there
 
 pub attach-requires-clause-first_room : goal.attach-requires-clause-first_room
 attach-requires-clause-first_room c =
@@ -28,7 +28,7 @@ attach-requires-clause-first_room c =
     let there = subst (λ (w : Watching). c.args.id < length w.clauses) (sym c.self.view_is) c.requires.there in
     let loose = subst (λ (w : Watching). IsAttached w.watches (2 * c.args.id) → ⊥) (sym c.self.view_is) c.requires.loose in
     let pair = subst (λ (cl : List SatLit). ArePair c.find_foot.new.trail.entries cl c.in-Two.first c.in-Two.second) c.get.ensures c.in-Two.ensures.foot in
-    loose_room old.variables old.clauses.clauses old.lists.watches.items old.lists.lists.items c.args.id (2 * c.args.id) c.in-Two.first c.self.invariant there refl loose pair.first_there
+    loose_room old.variables old.clauses.clauses old.lists.watches.items old.lists.lists c.args.id (2 * c.args.id) c.in-Two.first c.self.invariant there refl loose pair.first_there
 
 pub attach-requires-clause-second_room : goal.attach-requires-clause-second_room
 attach-requires-clause-second_room c =
@@ -36,7 +36,7 @@ attach-requires-clause-second_room c =
     let there = subst (λ (w : Watching). c.args.id < length w.clauses) (sym c.self.view_is) c.requires.there in
     let loose = subst (λ (w : Watching). IsAttached w.watches (2 * c.args.id) → ⊥) (sym c.self.view_is) c.requires.loose in
     let pair = subst (λ (cl : List SatLit). ArePair c.find_foot.new.trail.entries cl c.in-Two.first c.in-Two.second) c.get.ensures c.in-Two.ensures.foot in
-    loose_room old.variables old.clauses.clauses old.lists.watches.items old.lists.lists.items c.args.id (2 * c.args.id) c.in-Two.second c.self.invariant there refl loose pair.second_there
+    loose_room old.variables old.clauses.clauses old.lists.watches.items old.lists.lists c.args.id (2 * c.args.id) c.in-Two.second c.self.invariant there refl loose pair.second_there
 
 pub invariant_of-self : goal.invariant_of-self
 invariant_of-self c =
@@ -44,7 +44,7 @@ invariant_of-self c =
     let there = subst (λ (w : Watching). c.args.id < length w.clauses) (sym c.self.view_is) c.requires.there in
     let loose = subst (λ (w : Watching). IsAttached w.watches (2 * c.args.id) → ⊥) (sym c.self.view_is) c.requires.loose in
     let pair = subst (λ (cl : List SatLit). ArePair c.find_foot.new.trail.entries cl c.in-Two.first c.in-Two.second) c.get.ensures c.in-Two.ensures.foot in
-    kept_attached old.variables old.clauses.clauses old.lists.watches.items c.attach.new.self.watches.items old.lists.lists.items c.attach.new.self.lists.items c.args.id (2 * c.args.id) c.in-Two.first c.in-Two.second c.find_foot.new.trail.entries c.self.invariant there refl loose c.attach.ensures.put c.attach.ensures.lists pair
+    kept_attached old.variables old.clauses.clauses old.lists.watches.items c.attach.new.self.watches.items old.lists.lists c.attach.new.self.lists c.args.id (2 * c.args.id) c.in-Two.first c.in-Two.second c.find_foot.new.trail.entries c.self.invariant there refl loose c.attach.ensures.put c.attach.ensures.lists pair
 
 pub returns-in-Two-clause-fits : goal.returns-in-Two-clause-fits
 returns-in-Two-clause-fits c =
