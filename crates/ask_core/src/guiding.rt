@@ -1,9 +1,11 @@
 //! What the solver looks at first.
 
 use crate::base::DenseBase;
+use crate::sums::add_parts;
+use crate::xors::Xors;
 use crate::{GatePair, LitGate, gates_of, inputs_of, pairs_of};
 use cnf_core::{Base, SatLit};
-use learn_solver::{Agenda, Candidate, Operands, QuestionGuide};
+use learn_solver::{Agenda, Candidate, Clash, Operands, Part, QuestionGuide};
 use std::alloc::{AllocError, Global};
 
 /// The number that vectors are drawn from: any would do. Each question of a run draws the same ones.
@@ -36,7 +38,8 @@ impl<'a> QuestionGuide for GatePairs<'a> {
 
 /// What a search is to look at first. Where the cones of a query have few inputs, these are decided first, and nothing
 /// else is looked at. Else two candidates for each pair of gates that seem to be equal: that one is true and the other
-/// false. `ids` are the numbers of the cones' clauses: after the first clause three for each gate.
+/// false; where both are sums of exclusive ors, parts of these before. `ids` are the numbers of the cones' clauses: after
+/// the first clause three for each gate.
 ///
 /// # Errors
 ///
@@ -47,34 +50,53 @@ pub fn agenda_of<B: Base>(alloc: Global, base: &B, ids: &[u64]) -> Result<Agenda
     if inputs.len() <= FEW_INPUTS {
         return Ok(inputs_first(alloc, inputs));
     }
-    let candidates = candidates_of(alloc, &gates)?;
-    let gates = operands_of(alloc, &gates)?;
-    Ok(Agenda {
-        gates,
-        candidates,
-        leading: Vec::new(alloc),
-    })
+    pairs_first(alloc, &gates)
 }
 
 // Nothing is looked at before the question, and inputs are decided first in it.
 fn inputs_first(alloc: Global, inputs: Vec<SatLit>) -> Agenda {
     Agenda {
         gates: Vec::new(alloc),
+        parts: Vec::new(alloc),
         candidates: Vec::new(alloc),
         leading: inputs,
     }
 }
 
-// Two candidates for each pair.
-fn candidates_of(alloc: Global, gates: &[LitGate]) -> Result<Vec<Candidate>, AllocError> {
+// Pairs of gates are looked at.
+fn pairs_first(alloc: Global, gates: &[LitGate]) -> Result<Agenda, AllocError> {
     let pairs = pairs_of(alloc, gates, SEED)?;
+    let xors = Xors::new(alloc, gates, &pairs)?;
+    let mut parts = Vec::new(alloc);
     let mut candidates = Vec::new(alloc);
     for pair in pairs.iter() {
-        let GatePair { one, other } = *pair;
-        push_clash(&mut candidates, one, other.opposite())?;
-        push_clash(&mut candidates, one.opposite(), other)?;
+        push_pair(alloc, &xors, *pair, &mut parts, &mut candidates)?;
     }
-    Ok(candidates)
+    let gates = operands_of(alloc, gates)?;
+    Ok(Agenda {
+        gates,
+        parts,
+        candidates,
+        leading: Vec::new(alloc),
+    })
+}
+
+// Adds the candidates of a pair.
+fn push_pair(
+    alloc: Global,
+    xors: &Xors,
+    pair: GatePair,
+    parts: &mut Vec<Part>,
+    candidates: &mut Vec<Candidate>,
+) -> Result<(), AllocError> {
+    let before = parts.len();
+    add_parts(alloc, xors, pair, parts)?;
+    for number in before..parts.len() {
+        candidates.push(Candidate::Part(number))?;
+    }
+    let GatePair { one, other } = pair;
+    push_clash(candidates, one, other.opposite())?;
+    push_clash(candidates, one.opposite(), other)
 }
 
 // The variables of each gate.
@@ -96,6 +118,6 @@ fn push_clash(
     one: SatLit,
     other: SatLit,
 ) -> Result<(), AllocError> {
-    candidates.push(Candidate { one, other })?;
+    candidates.push(Candidate::Clash(Clash { one, other }))?;
     Ok(())
 }

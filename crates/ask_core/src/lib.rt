@@ -16,10 +16,12 @@ mod places;
 mod question;
 mod small;
 mod solving;
+mod sums;
 mod tab;
 mod translation;
 mod vector;
 mod verdict;
+mod xors;
 
 pub use base::DenseBase;
 pub use gates::{LitGate, gates_of, inputs_of};

@@ -7,12 +7,29 @@ use cnf_core::SatLit;
 use std::alloc::{AllocError, Global};
 use trail_core::Trail;
 
-/// Two literals that seem never to be true together, as those by which one gate would be true and another one not that
-/// has the same value wherever it was looked at. Whether they ever are is for the search to find out.
+/// What seems to be refuted. Whether it is is for the search to find out.
 #[derive(Clone, Copy, Drop)]
-pub struct Candidate {
+pub enum Candidate {
+    /// Two literals that seem never to be true together.
+    Clash(Clash),
+    /// The part of this number of the agenda.
+    Part(usize),
+}
+
+/// Two literals that seem never to be true together, as those by which one gate would be true and another one not that
+/// has the same value wherever it was looked at.
+#[derive(Clone, Copy, Drop)]
+pub struct Clash {
     pub one: SatLit,
     pub other: SatLit,
+}
+
+/// Literals that seem never to be true together, as those by which a sum of exclusive ors would be broken.
+#[derive(Drop)]
+pub struct Part {
+    pub literals: Vec<SatLit>,
+    /// What is decided after them, and nothing else is: what the summands share.
+    pub splits: Vec<SatLit>,
 }
 
 /// The variable of a gate, and those of its operands.
@@ -28,6 +45,7 @@ pub struct Operands {
 pub struct Agenda {
     /// The gates, each after its operands.
     pub gates: Vec<Operands>,
+    pub parts: Vec<Part>,
     /// In the order in which they are looked at: best those first on which others rest.
     pub candidates: Vec<Candidate>,
     /// What is decided before all other variables, once the candidates were looked at: each of these literals is to be
@@ -65,6 +83,7 @@ impl QuestionGuide for Unguided {
     fn agenda(&mut self, alloc: Global) -> Result<Agenda, AllocError> {
         Ok(Agenda {
             gates: Vec::new(alloc),
+            parts: Vec::new(alloc),
             candidates: Vec::new(alloc),
             leading: Vec::new(alloc),
         })
@@ -80,7 +99,7 @@ impl QuestionGuide for Unguided {
     }
 }
 
-impl Candidate {
+impl Clash {
     /// The next of the two literals to decide, so that both become true. None where both are, or one is false. A
     /// literal over no variable of the trail is passed over.
     pub(crate) fn next(self, trail: &Trail, variables: usize) -> Option<SatLit>
@@ -105,7 +124,8 @@ impl Candidate {
     }
 }
 
-fn is_false(trail: &Trail, literal: SatLit) -> bool {
+/// Whether a literal is false.
+pub(crate) fn is_false(trail: &Trail, literal: SatLit) -> bool {
     matches!(trail.value(literal), Some(false))
 }
 

@@ -1,7 +1,7 @@
 ghost use Rattle.std.specs.Prelude.{◌≡◌, IfSome};
 ghost use Rattle.trail_core.specs.Trails.{IsFree};
 
-use crate::candidate::{Candidate, Operands, is_free};
+use crate::candidate::{Candidate, Operands, Part, is_false, is_free};
 use cnf_core::SatLit;
 use std::alloc::{AllocError, Global};
 use trail_core::Trail;
@@ -19,6 +19,7 @@ pub(crate) struct Focus {
     pub(crate) is_spread: bool,
     /// The gates of the question, each after its operands.
     gates: Vec<Operands>,
+    parts: Vec<Part>,
     /// The number of the gate that each variable is of, and 1 more; 0 where it is of none.
     gate_numbers: Vec<usize>,
     /// The last turn in which each variable was one of those from which the literals are computed.
@@ -39,6 +40,7 @@ impl Drop for Focus {
             exhausted: _exhausted,
             is_spread: _is_spread,
             gates: _gates,
+            parts: _parts,
             gate_numbers: _gate_numbers,
             turns: _turns,
             turn: _turn,
@@ -57,6 +59,7 @@ impl Focus {
             exhausted: false,
             is_spread: true,
             gates: Vec::new(alloc),
+            parts: Vec::new(alloc),
             gate_numbers: vec![in alloc; 0; variables]?,
             turns: vec![in alloc; 0; variables]?,
             turn: 0,
@@ -79,12 +82,55 @@ impl Focus {
         requires { variables ≡ trail.now.variables }
         ensures { IfSome result (IsFree trail.now) }
     {
-        for literal in self.leading.iter() {
-            if is_free(trail, variables, *literal) {
-                return Some(*literal);
-            }
+        first_free(&self.leading, trail, variables)
+    }
+
+    /// The next literal to decide for the candidate: those that are to be true, then what is split on. None where there
+    /// is none, or one that is to be true is false.
+    pub(crate) fn next_of_candidate(&self, trail: &Trail, variables: usize) -> Option<SatLit>
+        requires { variables ≡ trail.now.variables }
+        ensures { IfSome result (IsFree trail.now) }
+    {
+        match self.candidate? {
+            Candidate::Clash(clash) => clash.next(trail, variables),
+            Candidate::Part(number) => self.next_of_part(number, trail, variables),
         }
-        None
+    }
+
+    // The same of a part.
+    fn next_of_part(&self, number: usize, trail: &Trail, variables: usize) -> Option<SatLit>
+        requires { variables ≡ trail.now.variables }
+        ensures { IfSome result (IsFree trail.now) }
+    {
+        if self.is_part_closed(number, trail) {
+            return None;
+        }
+        let part = self.parts.get(number)?;
+        let literal = first_free(&part.literals, trail, variables);
+        if literal.is_some() {
+            return literal;
+        }
+        first_free(&part.splits, trail, variables)
+    }
+
+    /// Whether a literal of the candidate that is to be true is false.
+    pub(crate) fn is_closed(&self, trail: &Trail) -> bool {
+        match self.candidate {
+            Some(Candidate::Clash(clash)) => clash.is_closed(trail),
+            Some(Candidate::Part(number)) => self.is_part_closed(number, trail),
+            None => false,
+        }
+    }
+
+    // The same of a part, and so it is where there is none of this number.
+    fn is_part_closed(&self, number: usize, trail: &Trail) -> bool {
+        match self.parts.get(number) {
+            Some(part) => part
+                .literals
+                .iter()
+                .any(|literal| is_false(trail, *literal)),
+            None => true,
+        }
     }
 
     /// Turns to a candidate.
@@ -94,22 +140,25 @@ impl Focus {
         self.is_spread = false;
     }
 
-    /// What the search is after may be over these gates, each of which stands after its operands.
-    pub(crate) fn heed(&mut self, gates: Vec<Operands>) {
+    /// What the search is after may be over these gates, each of which stands after its operands, and is one of these
+    /// parts.
+    pub(crate) fn heed(&mut self, gates: Vec<Operands>, parts: Vec<Part>) {
         for (number, gate) in gates.iter().enumerate() {
             set(&mut self.gate_numbers, gate.gate, number.saturating_add(1));
         }
         self.gates = gates;
+        self.parts = parts;
     }
 
     /// Finds the candidate's cone, if there is a candidate. It costs by that cone.
     pub(crate) fn spread(&mut self) {
         self.is_spread = true;
         self.cone_len = 0;
-        if let Some(candidate) = self.candidate {
-            self.turn = self.turn.saturating_add(1);
-            self.include(candidate.one.variable());
-            self.include(candidate.other.variable());
+        self.turn = self.turn.saturating_add(1);
+        // nothing but its literals is decided for a part
+        if let Some(Candidate::Clash(clash)) = self.candidate {
+            self.include(clash.one.variable());
+            self.include(clash.other.variable());
             self.close_cone();
         }
     }
@@ -160,6 +209,19 @@ impl Focus {
     pub(crate) fn has(&self, variable: u64) -> bool {
         self.is_spread & (self.candidate.is_none() || is_marked(&self.turns, self.turn, variable))
     }
+}
+
+// The first of these literals that isn't assigned. One over no variable of the trail is passed over.
+fn first_free(literals: &[SatLit], trail: &Trail, variables: usize) -> Option<SatLit>
+    requires { variables ≡ trail.now.variables }
+    ensures { IfSome result (IsFree trail.now) }
+{
+    for literal in literals.iter() {
+        if is_free(trail, variables, *literal) {
+            return Some(*literal);
+        }
+    }
+    None
 }
 
 // The first n of these.

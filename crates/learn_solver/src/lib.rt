@@ -15,6 +15,6 @@ mod search;
 mod solver;
 mod verdict;
 
-pub use candidate::{Agenda, Candidate, Operands, QuestionGuide, Unguided};
+pub use candidate::{Agenda, Candidate, Clash, Operands, Part, QuestionGuide, Unguided};
 pub use solver::{Solver, solve, solve_guided};
 pub use verdict::{Finding, Verdict};

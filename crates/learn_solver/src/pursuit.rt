@@ -38,10 +38,11 @@ impl<'a, B: Base> Solver<'a, B> {
         }
         let Agenda {
             gates,
+            parts,
             candidates,
             leading,
         } = guide.agenda(alloc)?;
-        search.heed(gates);
+        search.heed(gates, parts);
         if let Some(found) = self.follow(alloc, search, guide, &candidates, ledger)? {
             return Ok(Some(found));
         }

@@ -12,7 +12,7 @@ ghost use Rattle.learn_solver.specs.Starts.{AreIdle, IsBegun, IsFitting, IsStart
 ghost use Rattle.learn_solver.specs.Orders.{IsOrder};
 ghost use Rattle.learn_solver.specs.Solvers.{ArePut};
 
-use crate::candidate::{Candidate, Operands};
+use crate::candidate::{Candidate, Operands, Part};
 use crate::conflict::no_marks;
 use crate::decision::{next_decision, variables_of};
 use crate::focus::Focus;
@@ -152,8 +152,7 @@ impl Tools {
         if literal.is_some() {
             return literal;
         }
-        let candidate = self.focus.candidate?;
-        candidate.next(trail, variables)
+        self.focus.next_of_candidate(trail, variables)
     }
 }
 
@@ -208,12 +207,12 @@ impl Search {
         self.begin_anew();
     }
 
-    /// What it is after may be over these gates, each of which stands after its operands.
-    pub(crate) fn heed(&mut self, gates: Vec<Operands>)
+    /// What it is after may be over these gates, each of which stands after its operands, and is one of these parts.
+    pub(crate) fn heed(&mut self, gates: Vec<Operands>, parts: Vec<Part>)
         requires { CanTurn self.old }
         ensures { HasTurned self.old self.new }
     {
-        self.tools.focus.heed(gates);
+        self.tools.focus.heed(gates, parts);
     }
 
     /// Turns to a candidate, from level 0 on.
@@ -238,7 +237,7 @@ impl Search {
     /// now, or all is assigned from which they are computed.
     pub(crate) fn is_settled(&self) -> bool {
         match self.tools.focus.candidate {
-            Some(candidate) => self.tools.focus.exhausted | candidate.is_closed(&self.trail),
+            Some(_) => self.tools.focus.exhausted | self.tools.focus.is_closed(&self.trail),
             None => false,
         }
     }

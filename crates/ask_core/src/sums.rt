@@ -1,0 +1,300 @@
+//! How the exclusive ors between two gates add up to their being equal.
+
+use crate::pairs::GatePair;
+use crate::xors::{Xors, has, toggled};
+use cnf_core::SatLit;
+use learn_solver::Part;
+use std::alloc::{AllocError, Global};
+use word_sim::mix;
+
+/// How many exclusive ors are added at most: planning takes the cube of it.
+const MOST_XORS: usize = 64;
+
+/// How many variables a sum has at most. It is broken by half of their vectors.
+const WIDEST: usize = 12;
+
+/// How many parts a pair may have.
+const MOST_PARTS: usize = 8192;
+
+/// In how many orders exclusive ors are added. By one alone a Hamming code of 57 bits takes 27,000 lines, and by the
+/// best of 20 it takes 8,600.
+const ORDERS: u64 = 20;
+
+/// With so few parts no other order is looked at.
+const FEW_PARTS: usize = 64;
+
+/// Of sums of one width any may come first: what says which is below this.
+const SPREAD: u64 = 1024;
+
+/// Variables whose sum is a constant.
+#[derive(Drop)]
+struct Equation {
+    variables: Vec<u64>,
+    /// Whether it is 1.
+    is_odd: bool,
+    /// Whether it was added to another one.
+    is_used: bool,
+}
+
+/// Adds the parts of a pair, if both its gates are sums of the same variables: those by which each sum of two of the
+/// exclusive ors between them would be broken. Of some orders in which they are added the one of the fewest parts.
+pub(crate) fn add_parts(
+    alloc: Global,
+    xors: &Xors,
+    pair: GatePair,
+    parts: &mut Vec<Part>,
+) -> Result<(), AllocError> {
+    let (one, other) = (pair.one.variable(), pair.other.variable());
+    if !xors.are_alike(one, other) {
+        return Ok(());
+    }
+    for part in fewest_parts(alloc, xors, one, other)? {
+        parts.push(part)?;
+    }
+    Ok(())
+}
+
+// The parts by the order that has the fewest of them.
+fn fewest_parts(alloc: Global, xors: &Xors, one: u64, other: u64) -> Result<Vec<Part>, AllocError> {
+    let mut best = parts_by(alloc, xors, one, other, 0)?;
+    for salt in 1..ORDERS {
+        if !best.is_empty() & (best.len() <= FEW_PARTS) {
+            return Ok(best);
+        }
+        let found = parts_by(alloc, xors, one, other, salt)?;
+        if !found.is_empty() & (best.is_empty() | (found.len() < best.len())) {
+            best = found;
+        }
+    }
+    Ok(best)
+}
+
+// The parts by one order; none where a sum is too wide.
+fn parts_by(
+    alloc: Global,
+    xors: &Xors,
+    one: u64,
+    other: u64,
+    salt: u64,
+) -> Result<Vec<Part>, AllocError> {
+    let mut parts = Vec::new(alloc);
+    let Some(mut equations) = between(alloc, xors, one, other)? else {
+        return Ok(parts);
+    };
+    for _ in 0..MOST_XORS {
+        let Some((left, right)) = nearest(&equations, salt) else {
+            return Ok(parts);
+        };
+        let Some(sum) = added(alloc, &mut equations, left, right, &mut parts)? else {
+            return Ok(Vec::new(alloc));
+        };
+        equations.push(sum)?;
+        if parts.len() > MOST_PARTS {
+            return Ok(Vec::new(alloc));
+        }
+    }
+    Ok(parts)
+}
+
+// The exclusive ors between two gates, of which each other variable is in an even number. None where there are none.
+fn between(
+    alloc: Global,
+    xors: &Xors,
+    one: u64,
+    other: u64,
+) -> Result<Option<Vec<Equation>>, AllocError> {
+    let mut equations = Vec::new(alloc);
+    let mut open = toggled(alloc, &[one], &[other])?;
+    for _ in 0..MOST_XORS {
+        let Some(equation) = next_equation(alloc, xors, &open)? else {
+            break;
+        };
+        open = toggled(alloc, &open, &equation.variables)?;
+        equations.push(equation)?;
+    }
+    if open.is_empty() {
+        return Ok(Some(equations));
+    }
+    Ok(None)
+}
+
+// The exclusive or of the last variable that is one.
+fn next_equation(alloc: Global, xors: &Xors, open: &[u64]) -> Result<Option<Equation>, AllocError> {
+    for variable in open.iter().rev() {
+        if let Some(sum) = xors.sum_of(*variable) {
+            let own = [*variable];
+            let operands = toggled(alloc, &[sum.first.variable()], &[sum.second.variable()])?;
+            let mut variables = toggled(alloc, &own, &operands)?;
+            let constant = has(&variables, 0);
+            if constant {
+                variables = toggled(alloc, &variables, &[0])?;
+            }
+            let negated = sum.first.is_negated() ^ sum.second.is_negated();
+            return Ok(Some(Equation {
+                variables,
+                is_odd: negated ^ sum.is_opposite ^ constant,
+                is_used: false,
+            }));
+        }
+    }
+    Ok(None)
+}
+
+// The two equations whose sum is the narrowest, among those that share a variable and weren't added.
+fn nearest(equations: &[Equation], salt: u64) -> Option<(usize, usize)> {
+    let mut best = None;
+    let mut least = u64::MAX;
+    for (right, equation) in equations.iter().enumerate() {
+        if let Some((left, cost)) = nearest_before(equations, right, equation, salt) {
+            if cost < least {
+                least = cost;
+                best = Some((left, right));
+            }
+        }
+    }
+    best
+}
+
+// The one before an equation with which it makes the narrowest sum, and what that costs.
+fn nearest_before(
+    equations: &[Equation],
+    end: usize,
+    equation: &Equation,
+    salt: u64,
+) -> Option<(usize, u64)> {
+    if equation.is_used {
+        return None;
+    }
+    let mut best = None;
+    let mut least = u64::MAX;
+    for (left, other) in equations.iter().enumerate() {
+        if (left >= end) | other.is_used {
+            continue;
+        }
+        if let Some(width) = width_of(&other.variables, &equation.variables) {
+            let cost = cost_of(width, salt, left, end);
+            if cost < least {
+                least = cost;
+                best = Some((left, cost));
+            }
+        }
+    }
+    best
+}
+
+// Of how many variables the sum of two equations is, if they share one.
+fn width_of(one: &[u64], other: &[u64]) -> Option<usize> {
+    let shared = shared_by(one, other);
+    if shared == 0 {
+        return None;
+    }
+    let all = one.len().saturating_add(other.len());
+    Some(all.saturating_sub(shared.saturating_mul(2)))
+}
+
+// What a sum costs: its width, and what is drawn from the order and the places.
+fn cost_of(width: usize, salt: u64, left: usize, right: usize) -> u64 {
+    let drawn = mix(mix(salt, left as u64), right as u64) % SPREAD;
+    (width as u64).saturating_mul(SPREAD).saturating_add(drawn)
+}
+
+// How many numbers two lists share.
+fn shared_by(one: &[u64], other: &[u64]) -> usize {
+    let mut count: usize = 0;
+    for number in one.iter() {
+        if has(other, *number) {
+            count = count.saturating_add(1);
+        }
+    }
+    count
+}
+
+// The sum of two equations, whose parts are added. None where it is too wide.
+fn added(
+    alloc: Global,
+    equations: &mut Vec<Equation>,
+    left: usize,
+    right: usize,
+    parts: &mut Vec<Part>,
+) -> Result<Option<Equation>, AllocError> {
+    let (Some(one), Some(other)) = (equations.get(left), equations.get(right)) else {
+        return Ok(None);
+    };
+    let variables = toggled(alloc, &one.variables, &other.variables)?;
+    let splits = shared(alloc, &one.variables, &other.variables)?;
+    let is_odd = one.is_odd ^ other.is_odd;
+    if variables.len() > WIDEST {
+        return Ok(None);
+    }
+    add_broken(alloc, &variables, is_odd, &splits, parts)?;
+    use_up(equations, left);
+    use_up(equations, right);
+    Ok(Some(Equation {
+        variables,
+        is_odd,
+        is_used: false,
+    }))
+}
+
+// Notes that an equation was added to another one.
+fn use_up(equations: &mut Vec<Equation>, place: usize) {
+    if let Some(equation) = equations.get_mut(place) {
+        equation.is_used = true;
+    }
+}
+
+// The numbers that two lists share, as literals.
+fn shared(alloc: Global, one: &[u64], other: &[u64]) -> Result<Vec<SatLit>, AllocError> {
+    let mut literals = Vec::new(alloc);
+    for number in one.iter() {
+        if has(other, *number) {
+            literals.push(literal_of(*number, true))?;
+        }
+    }
+    Ok(literals)
+}
+
+// Adds a part for each vector of some variables by which their sum isn't what it is to be.
+fn add_broken(
+    alloc: Global,
+    variables: &[u64],
+    is_odd: bool,
+    splits: &[SatLit],
+    parts: &mut Vec<Part>,
+) -> Result<(), AllocError> {
+    for code in 0..1u64 << WIDEST {
+        if is_broken(code, variables.len(), is_odd) {
+            let literals = literals_at(alloc, variables, code)?;
+            let splits = splits.to_vec(alloc)?;
+            parts.push(Part { literals, splits })?;
+        }
+    }
+    Ok(())
+}
+
+// Whether a number is a vector of n bits whose sum isn't what it is to be.
+fn is_broken(code: u64, count: usize, is_odd: bool) -> bool {
+    let mut left = code;
+    let mut sum = false;
+    for _ in 0..count {
+        sum ^= left % 2 == 1;
+        left /= 2;
+    }
+    (left == 0) & (sum != is_odd)
+}
+
+// The literals by which variables have the bits of a number.
+fn literals_at(alloc: Global, variables: &[u64], code: u64) -> Result<Vec<SatLit>, AllocError> {
+    let mut literals = Vec::new(alloc);
+    let mut left = code;
+    for variable in variables.iter() {
+        literals.push(literal_of(*variable, left % 2 == 1))?;
+        left /= 2;
+    }
+    Ok(literals)
+}
+
+// The literal of a variable. There are fewer than 2^62 of them.
+fn literal_of(variable: u64, bit: bool) -> SatLit {
+    SatLit::of(variable % (1 << 62), bit)
+}
