@@ -11,3 +11,9 @@ pub mod ApartNamedLemmas
 pub mod SignalLemmas
 pub mod DepthLemmas
 pub mod OneHierLemmas
+pub mod FindLemmas
+pub mod EntryLemmas
+pub mod KeyLemmas
+pub mod LookUpLemmas
+pub mod PortLemmas
+pub mod PushLemmas

@@ -11,3 +11,4 @@ pub mod Nested
 pub mod Flattening
 pub mod Signals
 pub mod Hierarchies
+pub mod Scopes

@@ -5,6 +5,7 @@ use Rattle.std.specs.Bool.{beq}
 use Rattle.std.specs.List.{flat_map, list_any}
 use Rattle.std.specs.Str.{bytes_eq}
 use Rattle.text_core.specs.Piece.{Piece}
+use Rattle.blif_reader.specs.declared.survey.PortWord.{PortWord}
 use Rattle.blif_reader.specs.Names.{repeats_port, is_redefined, is_undefined}
 use Rattle.hier_blif.specs.declared.fault.HierFault.{HierFault}
 use Rattle.hier_blif.specs.declared.fault.HierKind.{HierKind}
@@ -54,8 +55,11 @@ abbrev pub port_line_faults : BlifModel → List HierFault
 port_line_faults model = when (lacks_ports model) wrong.NoPortLine model.at
 
 -- 29: a name of two ports of a kind
+abbrev pub repeated_ports : List PortWord → List HierFault
+repeated_ports ports = at_words wrong.DuplicatePort (map (λ port. port.word) (found_in repeats_port ports))
+
 abbrev pub port_faults : BlifModel → List HierFault
-port_faults model = at_words wrong.DuplicatePort (map (λ port. port.word) (found_in repeats_port (ports_of model)))
+port_faults model = repeated_ports (ports_of model)
 
 -- 41: an instance of no model
 abbrev pub model_faults : List BlifModel → InstanceLine → List HierFault

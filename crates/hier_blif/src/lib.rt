@@ -1,14 +1,18 @@
 //! Reads files of several models in the Berkeley Logic Interchange Format (BLIF), in which models have instances of
-//! other ones (`.subckt`).
+//! other ones (`.subckt`), as one flat netlist.
 #![tactic(auto)]
 
 mod bindings;
 mod fault;
 mod laws;
 mod model;
+mod names;
+mod numbers;
 mod reader;
+mod words;
 
 pub use fault::{HierFault, HierKind, HierStop};
 pub use laws::{flattened_means_nested, hier_blif_is_a_format, names_have_a_numbering};
 pub use model::{BlifModel, CoverLine, InstanceLine, ModelLine};
+pub use names::check_names;
 pub use reader::read_models;

@@ -1,7 +1,8 @@
 //! Files of several models, whose lines and first faults are worked out by hand.
 
 use hier_blif::{
-    BlifModel, CoverLine, HierFault, HierKind, HierStop, InstanceLine, ModelLine, read_models,
+    BlifModel, CoverLine, HierFault, HierKind, HierStop, InstanceLine, ModelLine, check_names,
+    read_models,
 };
 use std::alloc::{AllocError, Global};
 use std::test::Fail;
@@ -160,6 +161,120 @@ fn finds_the_first_line_that_is_refused(rt: HostRuntime) -> Result<(), Fail> {
             at: *at,
         };
         assert!(rt; has_fault(rt.alloc(), file, fault));
+    }
+    Ok(())
+}
+
+// Reads the models of a file, and checks their names.
+fn check_file(alloc: Global, file: &[u8]) -> Result<(), HierStop> {
+    let models = read_models(alloc, file)?;
+    check_names(alloc, &models)
+}
+
+static NAMED: [&'static [u8]; 4] = [
+    b".inputs\n.outputs\n",
+    b".model top\n.inputs a b\n.outputs y\n.subckt nd p=a q=b r=t\n.subckt nd p=t q=t r=y\n.end\n\
+      .model nd\n.inputs p q\n.outputs r\n.names p q r\n11 0\n.end\n",
+    // an input that is an output, an output that isn't bound, lines in any order
+    b".model t\n.outputs y a\n.names a y\n1 1\n.subckt u p=y\n.inputs a\n\
+      .model u\n.names p r\n.inputs p\n.outputs r\n",
+    // that a model has an instance of itself is no fault of names
+    b".model t\n.inputs a\n.outputs y\n.subckt t a=a y=y\n",
+];
+
+#[test]
+fn takes_names_without_a_fault(rt: HostRuntime) -> Result<(), Fail> {
+    for file in NAMED.iter() {
+        check_file(rt.alloc(), file)?;
+    }
+    Ok(())
+}
+
+static NAME_FAULTS: [(&'static [u8], HierKind, u64); 16] = [
+    (b"", HierKind::NoPortLine, 0),
+    // a model without a port line comes before what repeats in an earlier one
+    (
+        b".model a\n.inputs x x\n.outputs\n.model b\n.inputs\n",
+        HierKind::NoPortLine,
+        30,
+    ),
+    (b".inputs a a\n.outputs\n", HierKind::DuplicatePort, 10),
+    (
+        b".inputs a\n.outputs a y\n.outputs y\n",
+        HierKind::DuplicatePort,
+        32,
+    ),
+    (b".inputs\n.outputs\n.subckt x a=b\n", HierKind::NoModel, 25),
+    (
+        b".model t\n.inputs a\n.outputs y\n.subckt u p=a q=y\n.model u\n.inputs p\n.outputs r\n",
+        HierKind::Formal,
+        44,
+    ),
+    // a port that is both an input and an output
+    (
+        b".model t\n.inputs a\n.outputs y\n.subckt u p=a\n.model u\n.inputs p\n.outputs p\n",
+        HierKind::Formal,
+        40,
+    ),
+    (
+        b".model t\n.inputs a\n.outputs y\n.subckt u p=a p=a r=y\n.model u\n.inputs p\n.outputs r\n",
+        HierKind::FormalTwice,
+        44,
+    ),
+    (
+        b".model top\n.inputs a\n.outputs y\n.subckt nd p=a r=y\n.end\n\
+          .model nd\n.inputs p q\n.outputs r\n.names p q r\n11 0\n",
+        HierKind::Unbound,
+        32,
+    ),
+    // an input is defined, wherever its line stands
+    (
+        b".inputs a\n.outputs a\n.names a\n1\n",
+        HierKind::Redefined,
+        28,
+    ),
+    (
+        b".outputs y\n.names y\n.inputs y\n",
+        HierKind::Redefined,
+        18,
+    ),
+    // by a cover, and then by an output that is bound
+    (
+        b".model t\n.inputs a\n.outputs y\n.names a y\n1 1\n.subckt u p=a r=y\n\
+          .model u\n.inputs p\n.outputs r\n.names p r\n",
+        HierKind::Redefined,
+        59,
+    ),
+    (b".inputs\n.outputs y\n", HierKind::Undefined, 17),
+    (b".inputs\n.outputs\n.names b c\n", HierKind::Undefined, 24),
+    (
+        b".model t\n.inputs\n.outputs\n.subckt u p=z\n.model u\n.inputs p\n.outputs\n",
+        HierKind::Undefined,
+        36,
+    ),
+    // a line that is refused comes before any name
+    (
+        b".model a\n.inputs x x\n.outputs\n.exdc\n",
+        HierKind::DontCare,
+        30,
+    ),
+];
+
+fn has_fault_of_names(alloc: Global, file: &[u8], fault: HierFault) -> bool {
+    match check_file(alloc, file) {
+        Err(HierStop::Fault(found)) => found == fault,
+        _ => false,
+    }
+}
+
+#[test]
+fn finds_the_first_fault_of_names(rt: HostRuntime) -> Result<(), Fail> {
+    for (file, kind, at) in NAME_FAULTS.iter() {
+        let fault = HierFault {
+            kind: *kind,
+            at: *at,
+        };
+        assert!(rt; has_fault_of_names(rt.alloc(), file, fault));
     }
     Ok(())
 }
