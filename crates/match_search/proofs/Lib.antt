@@ -4,3 +4,4 @@ pub mod StepLemmas
 pub mod CompareLemmas
 pub mod SearchLemmas
 pub mod FreeLemmas
+pub mod BackLemmas

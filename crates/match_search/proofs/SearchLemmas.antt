@@ -13,13 +13,14 @@ use Rattle.ban_book.proofs.VectorLemmas.{last_resorts_none}
 use Rattle.oracle_core.specs.Enough.{enough}
 use Rattle.oracle_core.specs.Oracles.{IsSpentWork, IsStopped, Known, Serves}
 use Rattle.fact_bans.specs.Serving.{MakesBans, MayMakeBans}
-use Rattle.fact_bans.proofs.MakingLemmas.{made_same, makes_no_more}
+use Rattle.fact_bans.proofs.MakingLemmas.{made_one, made_same, makes_err, makes_last, makes_no_more, makes_ok, makes_stop, may_later}
 use Rattle.fact_bans.proofs.ServeLemmas.{served_one, served_then, serves_err, serves_last, serves_memory, serves_ok, valid_grows}
+use Rattle.pair_domains.specs.Trails.{Domained}
 use Rattle.sim_patterns.specs.Trials.{AreTrials}
 use Rattle.match_search.specs.declared.found.Found.{Found}
 use Rattle.match_search.specs.Founds.{IsFound}
-use Rattle.match_search.specs.States.{AreSameLoans, AreValid, Explores, HasServed, Lent, MayCompare, MayBegin, MaySearch, Searches, SearchesBy}
-use Rattle.match_search.proofs.StepLemmas.{never_if, same_loans, same_then}
+use Rattle.match_search.specs.States.{AreSameLoans, AreValid, Explores, HasServed, Lent, MayCompare, MayBegin, MaySearch, Searches, SearchesBy, Steps}
+use Rattle.match_search.proofs.StepLemmas.{never_if, never_ok, same_loans, same_then}
 
 pub none_valid : (graphs : Graphs) (known : Known) (bans : List Ban) → graphs ≡ known.graphs → bans ≡ [] → AreValid graphs known bans
 none_valid graphs known bans are none =
@@ -147,4 +148,54 @@ pub search_last : {graphs : Graphs} {old mid new : Lent} {result : Result Found 
 search_last is searches = record {
   same = same_then is.same searches.same;
   searches = searches_last is.served searches.searches;
+}
+
+-- steps of which no trail is left
+pub explores_steps : {X : Type 0} {graphs : Graphs} {old new : Lent} {d : Domained} {result : Result X Stop} → Steps graphs old new d result → Explores graphs old new result
+explores_steps steps = record { same = steps.same; makes = steps.makes; trials = steps.trials }
+
+-- nothing was done
+pub explores_none : {X : Type 0} {graphs : Graphs} {s : Lent} {x : X} → MaySearch graphs s → Explores graphs s s (Ok x)
+explores_none may = record {
+  same = same_loans;
+  makes = makes_ok _ _ _ _ _ _ _ _ _ refl (made_same _ _ _ _ may.may);
+  trials = may.trials;
+}
+
+-- and memory ran out
+pub explores_stop : {X : Type 0} {graphs : Graphs} {s : Lent} {result : Result X Stop} → IsErrAnd result (λ e. e ≡ Memory) → MaySearch graphs s → Explores graphs s s result
+explores_stop is may = record {
+  same = same_loans;
+  makes = makes_stop _ _ _ _ _ _ _ _ is (made_same _ _ _ _ may.may);
+  trials = never_ok _ _ _ is;
+}
+
+-- another value is answered
+pub explores_ok : {X Y : Type 0} {graphs : Graphs} {old new : Lent} {x : X} {y : Y} → Explores graphs old new (Ok x) → Explores graphs old new (Ok y)
+explores_ok explores = record {
+  same = explores.same;
+  makes = makes_ok _ _ _ _ _ _ _ _ _ refl (made_one _ _ _ _ _ _ _ _ explores.makes);
+  trials = explores.trials;
+}
+
+-- the same stop
+pub explores_err : {X Y : Type 0} {graphs : Graphs} {old new : Lent} {result : Result Y Stop} {stop : Stop} → IsErrAnd result (λ e. e ≡ stop) → MaySearch graphs old → Explores {X = X} graphs old new (Err stop) → Explores graphs old new result
+explores_err is may explores = record {
+  same = explores.same;
+  makes = makes_err _ _ _ _ _ _ _ _ _ _ _ _ is (made_same _ _ _ _ may.may) explores.makes;
+  trials = never_ok _ _ _ is;
+}
+
+-- and one search after another
+pub explores_last : {X Y : Type 0} {graphs : Graphs} {old mid new : Lent} {x : X} {result : Result Y Stop} → Explores graphs old mid (Ok x) → Explores graphs mid new result → Explores graphs old new result
+explores_last first explores = record {
+  same = same_then first.same explores.same;
+  makes = makes_last _ _ _ _ _ _ _ _ _ _ _ (made_one _ _ _ _ _ _ _ _ first.makes) explores.makes;
+  trials = explores.trials;
+}
+
+pub explored_may : {X : Type 0} {graphs : Graphs} {old new : Lent} {x : X} → MaySearch graphs old → Explores graphs old new (Ok x) → MaySearch graphs new
+explored_may may explores = record {
+  may = may_later _ _ _ _ _ _ _ may.may (made_one _ _ _ _ _ _ _ _ explores.makes);
+  trials = explores.trials;
 }

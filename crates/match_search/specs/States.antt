@@ -1,5 +1,5 @@
 -- What a step of a search leaves.
-use Rattle.std.specs.Prelude.{◌≡◌, ◌⊎◌, ℕ, ◌<◌, ◌≤◌, List, [], map, Option, Contains, Result, IfOk, IfSome, OnOk}
+use Rattle.std.specs.Prelude.{◌≡◌, ◌⊎◌, ℕ, ⊤, ◌<◌, ◌≤◌, List, [], map, Option, Contains, Result, IfOk, IfSome, OnOk}
 use Rattle.std.specs.Borrow.{GName}
 use Rattle.cnf_core.specs.declared.stop.Stop.{Stop}
 use Rattle.circuits.specs.declared.port.Pair.{Pair}
@@ -9,7 +9,7 @@ use Rattle.query_core.specs.Ledgers.{Ledgered}
 use Rattle.account_core.specs.declared.step.Ban.{Ban}
 use Rattle.account_core.specs.Facts.{AreFacts}
 use Rattle.account_core.specs.Given.{decided_by}
-use Rattle.account_core.specs.Shown.{IsShownMatch}
+use Rattle.account_core.specs.Shown.{IsEmptyBan, IsShownMatch}
 use Rattle.ban_book.specs.Covering.{Covers}
 use Rattle.pair_domains.specs.Trails.{Domained, assigned_in}
 use Rattle.fact_bans.specs.declared.exchanges.SwapPairs.{SwapPairs}
@@ -28,6 +28,10 @@ use Rattle.match_search.specs.declared.ahead.Ahead.{Ahead}
 use Rattle.match_search.specs.declared.ahead.Ahead.TheVariants as ahead
 use Rattle.match_search.specs.declared.ahead.WholeCompared.{WholeCompared}
 use Rattle.match_search.specs.declared.ahead.WholeCompared.TheVariants as compared
+use Rattle.match_search.specs.declared.tabled.TableAhead.{TableAhead}
+use Rattle.match_search.specs.declared.tabled.TableAhead.TheVariants as tables
+use Rattle.match_search.specs.declared.tabled.Tabled.{Tabled}
+use Rattle.match_search.specs.declared.tabled.Tabled.TheVariants as tabled
 pub use Rattle.fact_bans.specs.Serving.{AreValid, HasServed}
 pub use Rattle.class_refine.specs.Refining.{IsShownTrail}
 
@@ -169,3 +173,15 @@ IsAhead graphs lent before after (ahead.Conflict conflict) = IsStuck lent.bans b
 abbrev pub IsWholeCompared : Graphs → List Ban → List Pair → WholeCompared → Type 0
 IsWholeCompared graphs bans assigned (compared.Match matching logs) = IsShownMatch graphs matching logs
 IsWholeCompared graphs bans assigned (compared.Ban number) = Covers bans assigned number
+
+-- a step ahead by tables: it goes on, tables say of no other port, or it doesn't go on
+abbrev pub IsTableAhead : List Ban → Domained → TableAhead → Type 0
+IsTableAhead bans domains tables.Further = ⊤
+IsTableAhead bans domains tables.Nothing = ⊤
+IsTableAhead bans domains (tables.Conflict conflict) = IsConflict bans domains conflict
+
+-- a turn by tables: it isn't over, tables don't refuse a match, or a ban has no pairs
+abbrev pub IsTabled : List Ban → Tabled → Type 0
+IsTabled bans tabled.Open = ⊤
+IsTabled bans tabled.Over = ⊤
+IsTabled bans (tabled.Refusal number) = IsEmptyBan bans number

@@ -87,8 +87,8 @@ fn first_of(domains: &Domains, kind: PortKind) -> Option<Port>
     None
 }
 
-// Whether a port is there, and in no pair.
-fn is_free(domains: &Domains, port: Port) -> bool
+/// Whether a port is there, and in no pair.
+pub(crate) fn is_free(domains: &Domains, port: Port) -> bool
     ensures there { IsTrue result → port.number < ports_of domains.now.inputs domains.now.outputs port.kind }
     ensures free { IsTrue result → IsFreePort domains.now.entries port.side port.kind port.number }
     ensures taken { result ≡ false

@@ -6,7 +6,7 @@ use crate::branching::explore_rounds;
 use crate::found::Found;
 use crate::guessed::compare_guesses;
 use crate::heuristics::Heuristics;
-use crate::searching::{refuse_by_counts, refuse_or_explore};
+use crate::searching::{refuse_early, refuse_or_explore};
 use crate::session::Session;
 use account_core::PairableGraphs;
 use ban_book::BanBook;
@@ -27,6 +27,9 @@ const FEW_CLAIMS: u64 = 2_304;
 /// How often a refusal by counts is tried before more matchings are guessed: once, since vectors that err there say
 /// little, and of circuits that match each further try is lost.
 const FEW_TRIES: u32 = 1;
+
+/// How many bans a refusal by tables may take before the short search.
+const FEW_BANS: u64 = 20_000;
 
 /// How many rounds a short search has: 1, 1, 2, 1, 1, 2 and 4 times the shortest one. After three a near miss of an
 /// encoder (`encoder64`) isn't refused; 15 in which more lines may be learned gain nothing more.
@@ -113,7 +116,7 @@ fn refuse_or_find<'a, O: Oracle>(
     requires may { MaySearch graphs.now (lent O.known session.old) }
     ensures searches { SearchesBy graphs.now (lent O.known session.old) (lent O.known session.new) result }
 {
-    if let Some(ban) = refuse_by_counts(graphs, session, FEW_TRIES)? {
+    if let Some(ban) = refuse_early(graphs, session, FEW_TRIES, FEW_BANS)? {
         return Ok(Found::None(ban));
     }
     let lines = session.learned().saturating_add(FEW_LINES);

@@ -169,8 +169,8 @@ fn ask_next_pair<O: Oracle>(
     Ok(true)
 }
 
-// The assigned pair of a place.
-fn next_assigned(domains: &Domains, place: usize) -> Option<Pair>
+/// The assigned pair of a place.
+pub(crate) fn next_assigned(domains: &Domains, place: usize) -> Option<Pair>
     ensures { IfSome result (Contains (assigned_in domains.now.entries)) }
 {
     domains.pairs().get(place).copied()

@@ -12,6 +12,7 @@ use crate::branching::{explore_rounds, explore_whole};
 use crate::found::Found;
 use crate::heuristics::Heuristics;
 use crate::session::Session;
+use crate::tabled::refuse_by_tables;
 use account_core::PairableGraphs;
 use ban_book::BanBook;
 use cnf_core::Stop;
@@ -23,6 +24,9 @@ use std::alloc::Global;
 /// How often a refusal by counts is tried. Vectors that err more often say little of the circuits.
 const MOST_TRIES: u32 = 32;
 
+/// How many bans a refusal by tables may take: 400 MB.
+const MOST_BANS: u64 = 1_500_000;
+
 /// How many rounds there are with the same bans, after each of which the search starts over. They come to some six
 /// million conflicts, hours of work.
 const MOST_ROUNDS: u64 = 10_000;
@@ -32,9 +36,10 @@ const MOST_ROUNDS: u64 = 10_000;
 const MOST_TIMES: u64 = 10_000;
 
 /// Looks for a match of two circuits with as many ports, as conflict-driven solvers look for models, unless counts of
-/// inputs refuse one at once. Ports are decided one by one, and bans and ports with one way left are propagated. From a
-/// conflict a ban is learned that leads as far back as it can. Pairs are tried on vectors, and the outputs of whole
-/// matchings are compared. Another seed draws other vectors. `docs/SEARCH.md` says how, and why it ends.
+/// inputs refuse one at once, or tables of outputs that reach few inputs do with few bans. Ports are decided one by
+/// one, and bans and ports with one way left are propagated. From a conflict a ban is learned that leads as far back as
+/// it can. Pairs are tried on vectors, and the outputs of whole matchings are compared. Another seed draws other
+/// vectors. `docs/SEARCH.md` says how, and why it ends.
 ///
 /// The book's bans are valid in view of the oracle's facts, whatever is answered. A ban by a vector is a last resort:
 /// the claims of one input of its two outputs are decided, and neither a mismatch of these nor a tally is valid for its
@@ -95,9 +100,9 @@ fn search_all<O: Oracle>(
     refuse_or_explore(graphs, &mut session)
 }
 
-/// Searches unless counts of inputs refuse a match. Ports are decided one by one, as conflict-driven solvers decide
-/// variables, until a match is found, or a ban without pairs. The heuristic state comes from the caller, and there may
-/// be bans already. Where a match is found, the claims of one input of all outputs are decided.
+/// Searches unless counts of inputs or tables refuse a match. Ports are decided one by one, as conflict-driven solvers
+/// decide variables, until a match is found, or a ban without pairs. The heuristic state comes from the caller, and
+/// there may be bans already. Where a match is found, the claims of one input of all outputs are decided.
 ///
 /// Bans that take all their room are let go, and the search begins again. A ban without pairs rests on those of its
 /// book alone, so nothing that it needs is gone.
@@ -114,7 +119,7 @@ pub(crate) fn refuse_or_explore<O: Oracle>(
     ensures decided { IfOk result
         (IsDecidedFound graphs.now (map decided_by (O.known session.new.asker.oracle.now).facts)) }
 {
-    if let Some(ban) = refuse_by_counts(graphs, session, MOST_TRIES)? {
+    if let Some(ban) = refuse_early(graphs, session, MOST_TRIES, MOST_BANS)? {
         return Ok(Found::None(ban));
     }
     for _time in 0..MOST_TIMES {
@@ -127,12 +132,30 @@ pub(crate) fn refuse_or_explore<O: Oracle>(
     explore_whole(graphs, session)
 }
 
-/// Makes a ban without pairs that counts of inputs show, tried this often, and answers its number.
+/// Makes a ban without pairs, and answers its number: by counts of inputs, tried this often, or by tables of outputs
+/// that reach few inputs, where these foresee no more than some bans.
 ///
 /// # Errors
 ///
 /// As for `search`.
-pub(crate) fn refuse_by_counts<O: Oracle>(
+pub(crate) fn refuse_early<O: Oracle>(
+    graphs: &PairableGraphs<'_>,
+    session: &mut Session<'_, O>,
+    tries: u32,
+    bans: u64,
+) -> Result<Option<u64>, Stop>
+    requires may { MaySearch graphs.now (lent O.known session.old) }
+    ensures explores { Explores graphs.now (lent O.known session.old) (lent O.known session.new) result }
+    ensures empty { IfOk result (λ found. IfSome found (IsEmptyBan session.new.book.now)) }
+{
+    if let Some(ban) = refuse_by_counts(graphs, session, tries)? {
+        return Ok(Some(ban));
+    }
+    refuse_by_tables(graphs, session, bans)
+}
+
+// Makes a ban without pairs that counts of inputs show, tried this often, and answers its number.
+fn refuse_by_counts<O: Oracle>(
     graphs: &PairableGraphs<'_>,
     session: &mut Session<'_, O>,
     tries: u32,

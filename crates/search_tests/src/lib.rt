@@ -19,3 +19,5 @@ mod sample_circuits;
 mod searches;
 #[cfg(test)]
 mod supports;
+#[cfg(test)]
+mod tables;

@@ -106,7 +106,7 @@ const DECODER_ONE_TWICE: Sample = Sample {
 
 /// What a search comes to, with what it leaves.
 #[derive(Clone, Copy, Debug, PartialEq, Eq)]
-enum Answer {
+pub(crate) enum Answer {
     /// A match, and how many claims of one input are decided: of both circuits two of each output at each input.
     Match(usize),
     /// No match, and whether a ban is by a vector.
@@ -169,7 +169,7 @@ fn by_table(alloc: Global, graphs: &PairableGraphs<'_>) -> Result<Answer, AllocE
 }
 
 /// What a search over the book of facts finds.
-fn by_book(alloc: Global, graphs: &PairableGraphs<'_>) -> Result<Answer, AllocError> {
+pub(crate) fn by_book(alloc: Global, graphs: &PairableGraphs<'_>) -> Result<Answer, AllocError> {
     let mut oracle = FactBook::new(alloc, graphs.graphs(), 1)?;
     Ok(found_by(alloc, graphs, &mut oracle))
 }

@@ -8,7 +8,7 @@ use Rattle.circuits.specs.declared.port.Pair.{Pair}
 use Rattle.circuits.specs.declared.port.PortKind.TheVariants.{Input, Output}
 use Rattle.net_core.specs.Sides.{Graphs}
 use Rattle.net_core.specs.Graph.{IsGraph}
-use Rattle.account_core.specs.Ports.{StandInOrder}
+use Rattle.account_core.specs.Ports.{AreOrdered, IsKnown, StandInOrder}
 use Rattle.word_sim.specs.declared.tri.Tri.{Tri}
 use Rattle.account_core.specs.Assigned.{AreAssignable, IsPart}
 use Rattle.ban_book.specs.Rows.{HasOneOutput}
@@ -19,18 +19,23 @@ use Rattle.vector_bans.proofs.ResortLemmas.{first_there}
 use Rattle.vector_bans.proofs.ShownLemmas.{input_output}
 use Rattle.word_sim.specs.ThreeValues.{of_bit}
 
--- assigned pairs of inputs, and one of an output that a vector shows to be wrong
-pub shown_assigned : (graphs : Graphs) (assigned pairs : List Pair) (pair : Pair) (x : List Bool) (values : List Tri) → AreAssignable graphs assigned → IsGraph graphs.first → IsPart assigned pairs → Contains assigned pair → HasOneOutput pairs pair → length x ≡ graphs.first.inputs → values ≡ map of_bit x → IsWrong graphs pairs pair values → IsShown graphs pairs pair values pairs
-shown_assigned graphs assigned pairs pair x values are first part there output size values_are wrong =
+-- pairs of inputs, and one of an output that a vector shows to be wrong
+pub shown_known : (graphs : Graphs) (pairs : List Pair) (pair : Pair) (x : List Bool) (values : List Tri) → IsGraph graphs.first → All (IsKnown graphs) pairs → AreOrdered pairs → HasOneOutput pairs pair → length x ≡ graphs.first.inputs → values ≡ map of_bit x → IsWrong graphs pairs pair values → IsShown graphs pairs pair values pairs
+shown_known graphs pairs pair x values first known ordered output size values_are wrong =
     subst (λ v. IsShown graphs pairs pair v pairs) (sym values_are) (record {
       among = All-contains_itself pairs;
-      ordered = part.ordered;
-      known = part_known graphs assigned pairs are part;
+      ordered = ordered;
+      known = known;
       output = output;
       places = length-map x of_bit ∙ size;
-      definite = λ e. of_bit_definite _ (sym (of_output graphs.first x pair.from first.ordered size (first_there graphs pairs pair (part_known graphs assigned pairs are part) output)) ∙ e);
+      definite = λ e. of_bit_definite _ (sym (of_output graphs.first x pair.from first.ordered size (first_there graphs pairs pair known output)) ∙ e);
       wrong = subst (IsWrong graphs pairs pair) values_are wrong;
     })
+
+-- and where they are assigned ones
+pub shown_assigned : (graphs : Graphs) (assigned pairs : List Pair) (pair : Pair) (x : List Bool) (values : List Tri) → AreAssignable graphs assigned → IsGraph graphs.first → IsPart assigned pairs → Contains assigned pair → HasOneOutput pairs pair → length x ≡ graphs.first.inputs → values ≡ map of_bit x → IsWrong graphs pairs pair values → IsShown graphs pairs pair values pairs
+shown_assigned graphs assigned pairs pair x values are first part there output size values_are wrong =
+    shown_known graphs pairs pair x values first (part_known graphs assigned pairs are part) part.ordered output size values_are wrong
 
 -- none yet
 pub inputs_none : (assigned : List Pair) → AreAssignedInputs assigned []

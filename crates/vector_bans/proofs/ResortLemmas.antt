@@ -1,5 +1,5 @@
 -- Rows of claims of one input show a ban, or the vector's is a last resort.
-use Rattle.std.proofs.Common.{◌≡◌, ◌<◌, All, List, length, map, Option, None, Some, sym, subst}
+use Rattle.std.proofs.Common.{◌≡◌, ◌<◌, All, List, length, map, Option, None, Some, refl, sym, subst}
 use Rattle.std.specs.Prelude.{IfNone, IfSome}
 use Rattle.std.proofs.lemmas.List.Elements.{All-contains, All-contains_itself}
 use Rattle.circuits.specs.declared.port.Pair.{Pair}
@@ -20,7 +20,7 @@ use Rattle.ban_book.proofs.VectorLemmas.{facts_decided}
 use Rattle.ban_book.proofs.RowLemmas.{ends_decided}
 use Rattle.fact_bans.proofs.FactLemmas.{row_grows}
 use Rattle.vector_bans.specs.Differences.{IsShown}
-use Rattle.vector_bans.specs.Resorts.{IsBanWithin, ShowNothing}
+use Rattle.vector_bans.specs.Resorts.{IsBanWithin, IsVectorBan, ShowNothing}
 use Rattle.vector_bans.proofs.DifferLemmas.{vector_valid}
 
 -- the outputs of a pair of some that are known
@@ -68,3 +68,8 @@ vector_within graphs facts pairs pair values shown nothing = record {
 pub within_by_vector : (graphs : Graphs) (facts : List Decided) (pairs lent : List Pair) (pair : Pair) (values : List Tri) (ban : Ban) → lent ≡ pairs → ban ≡ record { pairs = lent; step = step.Vector pair.from values } → IsShown graphs pairs pair values pairs → ShowNothing graphs facts pair lent → IsBanWithin graphs facts pairs ban
 within_by_vector graphs facts pairs lent pair values ban lent_is ban_is shown nothing =
     subst (IsBanWithin graphs facts pairs) (sym ban_is) (subst (λ (l : List Pair). IsBanWithin graphs facts pairs (record { pairs = l; step = step.Vector pair.from values })) (sym lent_is) (vector_within graphs facts pairs pair values shown (subst (ShowNothing graphs facts pair) lent_is nothing)))
+
+-- if it is found
+pub within_by_found : (graphs : Graphs) (facts : List Decided) (pairs : List Pair) (pair : Pair) (found : Option Ban) → IfSome found (IsVectorBan graphs pair pairs) → ShowNothing graphs facts pair pairs → IfSome found (IsBanWithin graphs facts pairs)
+within_by_found graphs facts pairs pair None is nothing = tt
+within_by_found graphs facts pairs pair (Some ban) is nothing = within_by_vector graphs facts pairs pairs pair is.values ban refl is.ban_is is.shown nothing

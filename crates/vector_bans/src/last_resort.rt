@@ -75,8 +75,8 @@ fn ban_of<O: Oracle>(
     }
 }
 
-// The ban that claims of one input show of some pairs, among them that of an output. They are decided for both outputs.
-fn ban_by_claims<O: Oracle>(
+/// The ban that claims of one input show of some pairs, among them that of an output. They are decided for both outputs.
+pub(crate) fn ban_by_claims<O: Oracle>(
     graphs: &PairableGraphs<'_>,
     asker: &mut Asker<'_, O>,
     pairs: &[Pair],
@@ -100,8 +100,8 @@ fn ban_by_claims<O: Oracle>(
     Ok(ban_by_facts(asker.alloc, graphs, pairs, pair, &first, &second)?)
 }
 
-// The ban of pairs on which an output is wrong where the first circuit's inputs have these values.
-fn vector_ban(
+/// The ban of pairs on which an output is wrong where the first circuit's inputs have these values.
+pub(crate) fn vector_ban(
     alloc: Global,
     pairs: &[Pair],
     output: u32,

@@ -4,6 +4,8 @@
 mod difference;
 mod foresight;
 mod last_resort;
+mod suspicion;
 
 pub use difference::{Difference, exclude};
 pub use foresight::foresee;
+pub use suspicion::{Suspicion, ban_suspected};

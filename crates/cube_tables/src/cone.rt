@@ -1,0 +1,275 @@
+//! What an output of few inputs has on cubes of these.
+
+ghost use Rattle.std.specs.Prelude.{◌≡◌, length};
+
+use crate::cubes::{CubeColumn, at, blocks_of, first_free, has, power, vectors_of};
+use items::Items;
+use net_core::Graph;
+use std::alloc::{AllocError, Global};
+use word_sim::{Rails, rails_eval, word_at};
+
+/// The value of an output that isn't known.
+pub(crate) const UNKNOWN: u8 = 2;
+
+/// An output that reaches few inputs through gates.
+#[derive(Drop)]
+pub(crate) struct Cone {
+    /// The inputs that it reaches, ascending. An input's place is that in this list.
+    pub(crate) inputs: Items<u32>,
+    /// What it has on each cube by its gates, evaluated by three values: 0, 1, or `UNKNOWN`.
+    pub(crate) values: Items<u8>,
+    /// What it has on vectors of each cube: 1 where it has 0 on one, 2 where it has 1 on one, and 3 where it has both.
+    pub(crate) bits: Items<u8>,
+    /// Of each place which claims of one input fail: 1 where the output may fall as the input rises, 2 where it may
+    /// rise, and 3 for both.
+    pub(crate) broken: Items<u8>,
+    /// Of each two places which claims of two inputs fail, in a row for each first place: bit 2 a + b is 1 where the
+    /// output may fall as both change, the one from a and the other from b.
+    swaps: Items<u8>,
+}
+
+impl Cone {
+    /// That of an output that reaches these inputs.
+    pub(crate) fn new(
+        alloc: Global,
+        graph: &Graph,
+        output: u32,
+        inputs: Items<u32>,
+        columns: &[CubeColumn],
+    ) -> Result<Cone, AllocError> {
+        let values = values_of(alloc, graph, output, &inputs, columns)?;
+        let bits = bits_of(alloc, &values, inputs.len())?;
+        let vectors = vectors_of(alloc, inputs.len())?;
+        let broken = all_broken(alloc, &bits, &vectors, inputs.len())?;
+        let swaps = all_swaps(alloc, &bits, &vectors, inputs.len())?;
+        Ok(Cone {
+            inputs,
+            values,
+            bits,
+            broken,
+            swaps,
+        })
+    }
+
+    /// The place of an input.
+    pub(crate) fn place_of(&self, input: u32) -> Option<usize> {
+        self.inputs.iter().position(|other| *other == input)
+    }
+
+    /// Which claims of an input fail.
+    pub(crate) fn broken_at(&self, input: u32) -> u8 {
+        match self.place_of(input) {
+            Some(place) => at(&self.broken, place),
+            None => 0,
+        }
+    }
+
+    /// Which claims of two places fail.
+    pub(crate) fn swap_at(&self, one: usize, other: usize) -> u8 {
+        let row = one.saturating_mul(self.inputs.len());
+        at(&self.swaps, row.saturating_add(other))
+    }
+
+    /// On how many inputs the output depends, and in how many it is binate.
+    pub(crate) fn counts(&self) -> (usize, usize) {
+        let depends = self.broken.iter().filter(|broken| **broken != 0).count();
+        let binate = self.broken.iter().filter(|broken| **broken == 3).count();
+        (depends, binate)
+    }
+}
+
+// What an output has on all cubes of the inputs that it reaches.
+fn values_of(
+    alloc: Global,
+    graph: &Graph,
+    output: u32,
+    inputs: &[u32],
+    columns: &[CubeColumn],
+) -> Result<Items<u8>, AllocError> {
+    let cubes = power(inputs.len());
+    let mut values = Items::with_capacity(alloc, cubes)?;
+    for block in 0..blocks_of(cubes) {
+        let rails = rails_on(alloc, graph, output, inputs, columns, block)?;
+        for word in 0..8 {
+            let ones = word_at(rails.ones, word);
+            let zeros = word_at(rails.zeros, word);
+            push_values(&mut values, ones, zeros, cubes)?;
+        }
+    }
+    Ok(values)
+}
+
+// What an output has on 512 cubes.
+fn rails_on(
+    alloc: Global,
+    graph: &Graph,
+    output: u32,
+    inputs: &[u32],
+    columns: &[CubeColumn],
+    block: usize,
+) -> Result<Rails, AllocError> {
+    let mut sent = vec![in alloc; Rails::unknown(); graph.inputs() as usize]?;
+    send_all(inputs, columns, block, &mut sent);
+    let outputs = rails_eval(alloc, graph, &sent)?;
+    match outputs.get(output as usize) {
+        Some(rails) => Ok(*rails),
+        None => Ok(Rails::unknown()),
+    }
+}
+
+// Gives the inputs what they have on 512 cubes.
+fn send_all(inputs: &[u32], columns: &[CubeColumn], block: usize, sent: &mut [Rails])
+    ensures { length sent.new ≡ length sent.old }
+{
+    for (place, input) in inputs.iter().enumerate() {
+        send(*input, columns.get(place), block, sent);
+    }
+}
+
+fn send(input: u32, column: Option<&CubeColumn>, block: usize, sent: &mut [Rails])
+    ensures { length sent.new ≡ length sent.old }
+{
+    let Some(column) = column else {
+        return;
+    };
+    if (input as usize) < sent.len() {
+        sent[input as usize] = column.rails(block.saturating_mul(8));
+    }
+}
+
+// Adds the values of 64 cubes, as far as there are so many.
+fn push_values(
+    values: &mut Items<u8>,
+    ones: u64,
+    zeros: u64,
+    cubes: usize,
+) -> Result<(), AllocError> {
+    for lane in 0..64u32 {
+        if values.len() >= cubes {
+            return Ok(());
+        }
+        values.push(value_of((ones >> lane) % 2, (zeros >> lane) % 2))?;
+    }
+    Ok(())
+}
+
+fn value_of(one: u64, zero: u64) -> u8 {
+    if one == 1 {
+        1
+    } else if zero == 1 {
+        0
+    } else {
+        UNKNOWN
+    }
+}
+
+// Which bits an output has on vectors of each cube. Those of a cube are those of the two in which its first free place
+// has a bit, which stand before it.
+fn bits_of(alloc: Global, values: &[u8], inputs: usize) -> Result<Items<u8>, AllocError> {
+    let mut bits = Items::with_capacity(alloc, values.len())?;
+    for cube in 0..values.len() {
+        let found = match first_free(cube, inputs) {
+            None => bit_of(values[cube]),
+            Some(place) => both_bits(&bits, cube, power(place)),
+        };
+        bits.push(found)?;
+    }
+    Ok(bits)
+}
+
+fn bit_of(value: u8) -> u8 {
+    match value {
+        0 => 1,
+        1 => 2,
+        _ => 3,
+    }
+}
+
+fn both_bits(bits: &[u8], cube: usize, step: usize) -> u8 {
+    let one = cube.saturating_sub(step);
+    let zero = one.saturating_sub(step);
+    at(bits, one) | at(bits, zero)
+}
+
+// Which claims of each input fail.
+fn all_broken(
+    alloc: Global,
+    bits: &[u8],
+    vectors: &[usize],
+    inputs: usize,
+) -> Result<Items<u8>, AllocError> {
+    let mut broken = Items::with_capacity(alloc, inputs)?;
+    for place in 0..inputs {
+        broken.push(broken_in(bits, vectors, place))?;
+    }
+    Ok(broken)
+}
+
+fn broken_in(bits: &[u8], vectors: &[usize], place: usize) -> u8 {
+    let mut broken = 0;
+    for (number, cube) in vectors.iter().enumerate() {
+        if !has(number, place) {
+            let low = at(bits, *cube);
+            let high = at(bits, cube.saturating_add(power(place)));
+            broken |= change_of(low, high);
+        }
+    }
+    broken
+}
+
+// 1 where an output falls between two vectors, and 2 where it rises.
+fn change_of(low: u8, high: u8) -> u8 {
+    match (low, high) {
+        (2, 1) => 1,
+        (1, 2) => 2,
+        _ => 0,
+    }
+}
+
+// Which claims of each two inputs fail.
+fn all_swaps(
+    alloc: Global,
+    bits: &[u8],
+    vectors: &[usize],
+    inputs: usize,
+) -> Result<Items<u8>, AllocError> {
+    let mut swaps = Items::new(alloc);
+    for one in 0..inputs {
+        for other in 0..inputs {
+            swaps.push(swaps_in(bits, vectors, one, other))?;
+        }
+    }
+    Ok(swaps)
+}
+
+fn swaps_in(bits: &[u8], vectors: &[usize], one: usize, other: usize) -> u8 {
+    let mut failing = 0;
+    for (number, cube) in vectors.iter().enumerate() {
+        let from = has(number, one);
+        let with = has(number, other);
+        let changed = changed_at(changed_at(*cube, one, from), other, with);
+        if (at(bits, *cube) == 2) & (at(bits, changed) == 1) {
+            failing |= swap_bit(from, with);
+        }
+    }
+    failing
+}
+
+// The vector's cube where the input of a place, which has this bit, is inverted.
+fn changed_at(cube: usize, place: usize, one: bool) -> usize {
+    if one {
+        cube.saturating_sub(power(place))
+    } else {
+        cube.saturating_add(power(place))
+    }
+}
+
+/// The bit of a claim of two inputs that change from these bits.
+pub(crate) fn swap_bit(one: bool, other: bool) -> u8 {
+    match (one, other) {
+        (false, false) => 1,
+        (false, true) => 2,
+        (true, false) => 4,
+        (true, true) => 8,
+    }
+}

@@ -1,0 +1,150 @@
+//! Cubes of few inputs: the numbers below a power of three, of which each digit says what an input has. It is 0, 1, or
+//! 2 where the input may have either bit.
+
+use std::alloc::{AllocError, Global};
+use std::simd::prelude::*;
+use word_sim::Rails;
+
+/// How many inputs a cone may reach of which a table is made. There are 59,049 cubes of ten.
+pub(crate) const MOST_INPUTS: usize = 10;
+
+/// The digit of an input that may have either bit.
+pub(crate) const FREE: usize = 2;
+
+/// How many words are evaluated at once.
+const BLOCK: usize = 8;
+
+/// The powers of three.
+static POWERS: [usize; 11] = [1, 3, 9, 27, 81, 243, 729, 2_187, 6_561, 19_683, 59_049];
+
+/// What the digit of a place counts for, and how many cubes there are of so many inputs.
+pub(crate) fn power(place: usize) -> usize {
+    match POWERS.get(place) {
+        Some(power) => *power,
+        None => 0,
+    }
+}
+
+/// The set of one place. A set of places is a number, of which each bit says whether a place is in it.
+pub(crate) fn bit(place: usize) -> usize {
+    if place < 32 { 1usize << place } else { 0 }
+}
+
+/// Whether a place is in a set.
+pub(crate) fn has(set: usize, place: usize) -> bool {
+    set & bit(place) != 0
+}
+
+/// The element of a table at a place, 0 outside it.
+pub(crate) fn at(table: &[u8], place: usize) -> u8 {
+    match table.get(place) {
+        Some(element) => *element,
+        None => 0,
+    }
+}
+
+/// The first free place of a cube of so many inputs.
+pub(crate) fn first_free(cube: usize, inputs: usize) -> Option<usize> {
+    let mut rest = cube;
+    for place in 0..inputs {
+        if rest % 3 == FREE {
+            return Some(place);
+        }
+        rest /= 3;
+    }
+    None
+}
+
+/// The cubes without a free place, by the numbers of their vectors: bit p of a number is what the input of place p has.
+pub(crate) fn vectors_of(alloc: Global, inputs: usize) -> Result<Vec<usize>, AllocError> {
+    let mut cubes = vec![in alloc; 0usize; 1]?;
+    for place in 0..inputs {
+        add_with(&mut cubes, place)?;
+    }
+    Ok(cubes)
+}
+
+// Adds to cubes the same with 1 at a place.
+fn add_with(cubes: &mut Vec<usize>, place: usize) -> Result<(), AllocError> {
+    for number in 0..cubes.len() {
+        if let Some(cube) = cubes.get(number).copied() {
+            cubes.push(cube.saturating_add(power(place)))?;
+        }
+    }
+    Ok(())
+}
+
+/// What the input of a place has on all cubes of some inputs, 64 cubes in a word.
+#[derive(Drop)]
+pub(crate) struct CubeColumn {
+    zeros: Vec<u64>,
+    ones: Vec<u64>,
+}
+
+impl CubeColumn {
+    /// That of the first cubes.
+    pub(crate) fn new(alloc: Global, place: usize, cubes: usize) -> Result<CubeColumn, AllocError> {
+        let zeros = digit_words(alloc, place, cubes, 0)?;
+        let ones = digit_words(alloc, place, cubes, 1)?;
+        Ok(CubeColumn { zeros, ones })
+    }
+
+    /// That of the 512 cubes of eight words, X where the place is free.
+    pub(crate) fn rails(&self, word: usize) -> Rails {
+        Rails {
+            ones: block_at(&self.ones, word),
+            zeros: block_at(&self.zeros, word),
+        }
+    }
+}
+
+/// How many blocks of 512 cubes these take.
+pub(crate) fn blocks_of(cubes: usize) -> usize {
+    cubes.div_ceil(64 * BLOCK)
+}
+
+// A bit for each cube, which is 1 where the digit of a place is this one.
+fn digit_words(
+    alloc: Global,
+    place: usize,
+    cubes: usize,
+    digit: usize,
+) -> Result<Vec<u64>, AllocError> {
+    let words = blocks_of(cubes).saturating_mul(BLOCK);
+    let mut bits = vec![in alloc; 0u64; words]?;
+    let mut left = power(place);
+    let mut now = 0;
+    for cube in 0..cubes {
+        if now == digit {
+            mark(&mut bits, cube);
+        }
+        left = left.saturating_sub(1);
+        if left == 0 {
+            left = power(place);
+            now = next_digit(now);
+        }
+    }
+    Ok(bits)
+}
+
+fn next_digit(digit: usize) -> usize {
+    match digit {
+        0 => 1,
+        1 => FREE,
+        _ => 0,
+    }
+}
+
+fn mark(bits: &mut [u64], cube: usize) {
+    if let Some(word) = bits.get_mut(cube / 64) {
+        *word |= 1u64 << (cube % 64);
+    }
+}
+
+fn block_at(words: &[u64], word: usize) -> u64x8 {
+    if word.saturating_add(BLOCK) <= words.len() {
+        u64x8::from_slice(&words[word..])
+    } else {
+        u64x8::splat(0)
+    }
+}

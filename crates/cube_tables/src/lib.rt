@@ -1,0 +1,18 @@
+//! What outputs of few inputs have on cubes of these, and how that refuses a match. An error comes only when out of
+//! memory.
+#![tactic(auto)]
+
+mod column;
+mod cone;
+mod costs;
+mod cubes;
+mod halves;
+mod images;
+mod plan;
+mod primes;
+mod reached;
+mod shown;
+mod tables;
+
+pub use plan::Plan;
+pub use shown::Shown;

@@ -1,0 +1,245 @@
+//! What tables show of assigned pairs.
+
+use crate::column::Column;
+use crate::cone::Cone;
+use crate::cubes::{FREE, at, has, power};
+use crate::images::{Images, needed_bit};
+use crate::primes::Prime;
+use crate::tables::{TabledPair, Tables};
+use bit_list::Bits;
+use circuits::{Pair, PortKind};
+use items::Items;
+use std::alloc::{AllocError, Global};
+
+/// Assigned pairs that exclude each other, as tables show.
+#[derive(Debug, Drop)]
+pub struct Shown {
+    /// The one of outputs.
+    pub output: Pair,
+    /// All of them.
+    pub pairs: Items<Pair>,
+    /// Whether claims of two inputs show it.
+    pub by_swaps: bool,
+    /// A vector of the first circuit's inputs on which the partner is wrong; it is empty where claims show that the
+    /// pairs exclude each other.
+    pub vector: Bits,
+}
+
+/// What claims of one or two inputs show of an assigned pair beside others, by tables, if they show something.
+pub(crate) fn shown_by_claims(
+    alloc: Global,
+    tables: &Tables,
+    assigned: &[Pair],
+    latest: Pair,
+) -> Result<Option<Shown>, AllocError> {
+    if let Some(tabled) = tables.tabled(latest) {
+        return claims_of_output(alloc, &tabled, assigned);
+    }
+    for pair in assigned.iter() {
+        if let Some(tabled) = tables.tabled(*pair) {
+            if let Some(shown) = claims_of_input(alloc, &tabled, assigned, latest)? {
+                return Ok(Some(shown));
+            }
+        }
+    }
+    Ok(None)
+}
+
+// What claims show of a pair of outputs, alone and beside pairs of inputs.
+fn claims_of_output(
+    alloc: Global,
+    tabled: &TabledPair<'_>,
+    assigned: &[Pair],
+) -> Result<Option<Shown>, AllocError> {
+    if !tabled.has_even_counts() {
+        return Ok(Some(by_claims(alloc, tabled, &[])?));
+    }
+    for pair in assigned.iter() {
+        if let Some(shown) = claims_of_input(alloc, tabled, assigned, *pair)? {
+            return Ok(Some(shown));
+        }
+    }
+    Ok(None)
+}
+
+// What claims show of a pair of outputs and an input's pair, alone and beside another input's.
+fn claims_of_input(
+    alloc: Global,
+    tabled: &TabledPair<'_>,
+    assigned: &[Pair],
+    input: Pair,
+) -> Result<Option<Shown>, AllocError> {
+    if input.kind != PortKind::Input {
+        return Ok(None);
+    }
+    if tabled.is_unlike(input) {
+        return Ok(Some(by_claims(alloc, tabled, &[input])?));
+    }
+    for other in assigned.iter() {
+        if is_other_input(*other, input) & tabled.is_unlike_with(input, *other) {
+            return Ok(Some(by_claims(alloc, tabled, &[input, *other])?));
+        }
+    }
+    Ok(None)
+}
+
+fn is_other_input(other: Pair, input: Pair) -> bool {
+    (other.kind == PortKind::Input) & (other.to != input.to)
+}
+
+/// What primes show of an assigned pair beside others, by tables, if they show something.
+pub(crate) fn shown_by_primes(
+    alloc: Global,
+    tables: &Tables,
+    assigned: &[Pair],
+    latest: Pair,
+) -> Result<Option<Shown>, AllocError> {
+    if let Some(tabled) = tables.tabled(latest) {
+        return primes_of_output(alloc, &tabled, assigned);
+    }
+    for pair in assigned.iter() {
+        if let Some(tabled) = tables.tabled(*pair) {
+            if let Some(shown) = primes_of_input(alloc, &tabled, assigned, latest)? {
+                return Ok(Some(shown));
+            }
+        }
+    }
+    Ok(None)
+}
+
+fn primes_of_input(
+    alloc: Global,
+    tabled: &TabledPair<'_>,
+    assigned: &[Pair],
+    latest: Pair,
+) -> Result<Option<Shown>, AllocError> {
+    let images = Images::new(alloc, tabled, assigned)?;
+    let column = Column::new(alloc, *tabled, &images, assigned, latest.to)?;
+    match column.wrong_prime(latest) {
+        Some(number) => by_prime(alloc, tabled, &images, assigned, number),
+        None => Ok(None),
+    }
+}
+
+fn primes_of_output(
+    alloc: Global,
+    tabled: &TabledPair<'_>,
+    assigned: &[Pair],
+) -> Result<Option<Shown>, AllocError> {
+    let images = Images::new(alloc, tabled, assigned)?;
+    match wrong_prime(tabled, &images) {
+        Some(number) => by_prime(alloc, tabled, &images, assigned, number),
+        None => Ok(None),
+    }
+}
+
+/// The first prime by which a pair of outputs is excluded beside pairs of inputs.
+pub(crate) fn wrong_prime(tabled: &TabledPair<'_>, images: &Images) -> Option<usize> {
+    for (number, prime) in tabled.primes.iter().enumerate() {
+        if prime.fixed & !images.paired == 0 {
+            let cube = images.cube_of(prime, 0);
+            if at(&tabled.first.bits, cube) & needed_bit(tabled, prime) != 0 {
+                return Some(number);
+            }
+        }
+    }
+    None
+}
+
+// That claims differ, of one input's pair or of two.
+fn by_claims(alloc: Global, tabled: &TabledPair<'_>, inputs: &[Pair]) -> Result<Shown, AllocError> {
+    let mut pairs = Items::from_slice(alloc, inputs)?;
+    pairs.push(tabled.pair)?;
+    Ok(Shown {
+        output: tabled.pair,
+        pairs,
+        by_swaps: inputs.len() == 2,
+        vector: Bits::new(alloc),
+    })
+}
+
+// That the output's partner is wrong on a vector of the cube to which a prime is carried.
+fn by_prime(
+    alloc: Global,
+    tabled: &TabledPair<'_>,
+    images: &Images,
+    assigned: &[Pair],
+    number: usize,
+) -> Result<Option<Shown>, AllocError> {
+    let Some(prime) = tabled.primes.get(number) else {
+        return Ok(None);
+    };
+    let mut pairs = fixing(alloc, tabled, assigned, prime)?;
+    pairs.push(tabled.pair)?;
+    let cube = images.cube_of(prime, 0);
+    let vector = vector_in(alloc, tabled, cube, needed_bit(tabled, prime))?;
+    Ok(Some(Shown {
+        output: tabled.pair,
+        pairs,
+        by_swaps: false,
+        vector,
+    }))
+}
+
+// The assigned pairs of the inputs that a prime fixes.
+fn fixing(
+    alloc: Global,
+    tabled: &TabledPair<'_>,
+    assigned: &[Pair],
+    prime: &Prime,
+) -> Result<Items<Pair>, AllocError> {
+    let mut pairs = Items::new(alloc);
+    for pair in assigned.iter() {
+        if pair.kind == PortKind::Input {
+            if let Some(place) = tabled.second.place_of(pair.to) {
+                if has(prime.fixed, place) {
+                    pairs.push(*pair)?;
+                }
+            }
+        }
+    }
+    Ok(pairs)
+}
+
+// A vector of a cube on which an output has a bit that it has there. Inputs that the output doesn't reach are 0.
+fn vector_in(
+    alloc: Global,
+    tabled: &TabledPair<'_>,
+    cube: usize,
+    needed: u8,
+) -> Result<Bits, AllocError> {
+    let cone = tabled.first;
+    let mut cube = cube;
+    let mut rest = cube;
+    let mut vector = Bits::new(alloc);
+    for (place, input) in cone.inputs.iter().enumerate() {
+        extend_to(&mut vector, *input)?;
+        let mut digit = rest % 3;
+        rest /= 3;
+        if digit == FREE {
+            digit = digit_with(cone, cube, place, needed);
+            cube = cube.saturating_sub(FREE.saturating_sub(digit).saturating_mul(power(place)));
+        }
+        vector.push(digit == 1)?;
+    }
+    extend_to(&mut vector, tabled.inputs)?;
+    Ok(vector)
+}
+
+// The bit of a free place for which an output still has a bit on the cube.
+fn digit_with(cone: &Cone, cube: usize, place: usize, needed: u8) -> usize {
+    let zero = cube.saturating_sub(power(place).saturating_mul(2));
+    if at(&cone.bits, zero) & needed != 0 {
+        0
+    } else {
+        1
+    }
+}
+
+// Adds bits that are 0 up to an input.
+fn extend_to(vector: &mut Bits, input: u32) -> Result<(), AllocError> {
+    for _place in vector.len()..input as usize {
+        vector.push(false)?;
+    }
+    Ok(())
+}
