@@ -16,7 +16,7 @@ use Rattle.cnf_core.specs.declared.clause.Clause3.{Clause3}
 use Rattle.cnf_core.specs.declared.log.LogLine.{LogLine}
 use Rattle.cnf_core.specs.Clauses.{Formula, clause_at, literals_of, variable_of, AreKnown}
 use Rattle.cnf_core.specs.Derivations.{clauses_of}
-use Rattle.ask_core.specs.Renamings.{AreListed, AreMarks, AreNames, AreOver, ArePlaces, AreTurned, IsNamed, IsOver, IsRenaming, numbers_of, renamed}
+use Rattle.ask_core.specs.Renamings.{AreListed, AreMarks, AreNames, AreOver, ArePlaces, AreOverPlaces, IsNamed, IsOver, IsRenaming, numbers_of, renamed}
 use Rattle.bit_list.proofs.MarkLemmas.{marked_where}
 use Rattle.learn_solver.proofs.AnalysisLemmas.{unmarked_bit}
 use Rattle.circuits.proofs.Lists.{not_among}
@@ -73,8 +73,8 @@ place_at variables names places v are (k, within, is) =
     (omega (arith, place, within), ap (λ j. slice_index_or names j 0) place ∙ at_k)
 
 -- one clause more over the places
-pub turned_more : (names : List ℕ) (clauses : List Clause3) (i : ℕ) (dense new : List Clause3) (t : Clause3) (clause : List SatLit) (d : Clause3) → AreTurned names clauses dense i → i < length clauses → clause ≡ literals_of (slice_index_or clauses i d) → 1 ≤ length clause → map (renamed names) (literals_of t) ≡ clause → AreKnown (length names) (literals_of t) → 1 ≤ t.len → t.len ≤ 3 → new ≡ dense ++ t ∷ [] → AreTurned names clauses new (i + 1)
-turned_more names clauses i dense new t clause d is within clause_is filled back known some short new_is = subst (λ ts. AreTurned names clauses ts (i + 1)) (sym new_is) (record {
+pub over_places_more : (names : List ℕ) (clauses : List Clause3) (i : ℕ) (dense new : List Clause3) (t : Clause3) (clause : List SatLit) (d : Clause3) → AreOverPlaces names clauses dense i → i < length clauses → clause ≡ literals_of (slice_index_or clauses i d) → 1 ≤ length clause → map (renamed names) (literals_of t) ≡ clause → AreKnown (length names) (literals_of t) → 1 ≤ t.len → t.len ≤ 3 → new ≡ dense ++ t ∷ [] → AreOverPlaces names clauses new (i + 1)
+over_places_more names clauses i dense new t clause d is within clause_is filled back known some short new_is = subst (λ ts. AreOverPlaces names clauses ts (i + 1)) (sym new_is) (record {
   size = length-append dense (t ∷ []) ∙ ap (λ n. n + 1) is.size;
   over = All-push (IsOver (length names)) dense t is.over (record {
     some = some;
@@ -174,7 +174,7 @@ numbers_more ids numbers new count i is new_is =
     new_is ∙ (ap (λ ns. ns ++ (count + i) ∷ []) is ∙ (append_assoc ids rest ((count + i) ∷ []) ∙ ap (λ ns. ids ++ ns) (sym (map-range_with_len_more (λ j. count + j) 0 i i (omega arith)))))
 
 -- what was collected is over the names
-pub renaming_made : (full : Formula) (ids names numbers : List ℕ) (lemmas : List LogLine) (listed dense : List Clause3) → All (λ id. id < length full.clauses) ids → AreOver full.variables (map (clause_at full.clauses) ids ++ clauses_of lemmas) listed → AreNames full.variables names → AreTurned names listed dense (length listed) → numbers ≡ numbers_of ids (length full.clauses) (length lemmas) → IsRenaming (record { variables = length names; clauses = map literals_of dense }) names numbers full lemmas
+pub renaming_made : (full : Formula) (ids names numbers : List ℕ) (lemmas : List LogLine) (listed dense : List Clause3) → All (λ id. id < length full.clauses) ids → AreOver full.variables (map (clause_at full.clauses) ids ++ clauses_of lemmas) listed → AreNames full.variables names → AreOverPlaces names listed dense (length listed) → numbers ≡ numbers_of ids (length full.clauses) (length lemmas) → IsRenaming (record { variables = length names; clauses = map literals_of dense }) names numbers full lemmas
 renaming_made full ids names numbers lemmas listed dense low over are turned numbers_are = subst (λ ns. IsRenaming (record { variables = length names; clauses = map literals_of dense }) names ns full lemmas) (sym numbers_are) (record {
   names_are = are;
   variables = refl;
@@ -229,7 +229,7 @@ same_lists : (a b : List (List SatLit)) → length a ≡ length b → ((k : ℕ)
 same_lists a b size each = fill_by_all (clause_at b) a (length a) [] refl each ∙ sym (fill_by_all (clause_at b) b (length a) [] (sym size) (λ k below. refl))
 
 -- the clauses over names are all that were collected
-pub whole_made : (n : ℕ) (wanted : List (List SatLit)) (names : List ℕ) (listed dense : List Clause3) → AreOver n wanted listed → AreTurned names listed dense (length listed) → wanted ≡ map (map (renamed names)) (map literals_of dense)
+pub whole_made : (n : ℕ) (wanted : List (List SatLit)) (names : List ℕ) (listed dense : List Clause3) → AreOver n wanted listed → AreOverPlaces names listed dense (length listed) → wanted ≡ map (map (renamed names)) (map literals_of dense)
 whole_made n wanted names listed dense over turned =
     let none : Clause3 = record { lits = []; len = 0 } in
     let size = length-map listed literals_of in

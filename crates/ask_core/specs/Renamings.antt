@@ -76,16 +76,16 @@ pub record IsTable (names table : List ℕ) : Type 0 where
   pub known : All (λ v. v < length table) names
 
 -- how the places of names are found is right for these
-abbrev pub TellPlaces : List ℕ → Places → Type 0
-TellPlaces names (Table table) = IsTable names table.items
-TellPlaces names Bisected = IsNonDecreasing names
+abbrev pub ArePlacesOf : List ℕ → Places → Type 0
+ArePlacesOf names (Table table) = IsTable names table.items
+ArePlacesOf names Bisected = IsNonDecreasing names
 
 -- The first n of clauses, over the places of names.
-pub record AreTurned (names : List ℕ) (clauses turned : List Clause3) (count : ℕ) : Type 0 where
-  pub size : length turned ≡ count
-  pub over : All (IsOver (length names)) turned
+pub record AreOverPlaces (names : List ℕ) (clauses dense : List Clause3) (count : ℕ) : Type 0 where
+  pub size : length dense ≡ count
+  pub over : All (IsOver (length names)) dense
   pub back : (k : ℕ) (c d : Clause3) → k < count
-      → map (renamed names) (literals_of (slice_index_or turned k c)) ≡ literals_of (slice_index_or clauses k d)
+      → map (renamed names) (literals_of (slice_index_or dense k c)) ≡ literals_of (slice_index_or clauses k d)
 
 -- Clauses over names, and the numbers that they have.
 pub record Dense : Type 0 where

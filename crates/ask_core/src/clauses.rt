@@ -5,7 +5,7 @@ ghost use Rattle.std.specs.List.Sorted.{IsNonDecreasing};
 ghost use Rattle.cnf_core.specs.Clauses.{clause_at, literals_of, variable_of, AreKnown};
 ghost use Rattle.cnf_core.specs.Derivations.{clauses_of};
 ghost use Rattle.claim_core.specs.Formulas.{formula_of, query_clauses};
-ghost use Rattle.ask_core.specs.Renamings.{AreNames, AreOver, AreShort, AreTurned, IsNamed, IsOver, TellPlaces};
+ghost use Rattle.ask_core.specs.Renamings.{AreNames, AreOver, AreOverPlaces, ArePlacesOf, AreShort, IsNamed, IsOver};
 ghost use Rattle.ask_core.specs.Renamings.{renamed};
 
 use crate::places::{Places, places_for};
@@ -71,15 +71,15 @@ pub(crate) fn over_names(
     requires named { All (λ clause. IsNamed names.now (literals_of clause)) clauses.now }
     requires names { AreNames variables names.now }
     requires ascending { IsNonDecreasing names.now }
-    ensures { IfOk result (λ dense. AreTurned names.now clauses.now dense.items (length clauses.now)) }
+    ensures { IfOk result (λ dense. AreOverPlaces names.now clauses.now dense.items (length clauses.now)) }
 {
     let places = places_for(alloc, clauses.len(), names, variables)?;
-    let dense = all_turned(alloc, clauses, names, &places)?;
+    let dense = all_over_places(alloc, clauses, names, &places)?;
     Ok(dense)
 }
 
 // The clauses over the places of their variables.
-fn all_turned(
+fn all_over_places(
     alloc: Global,
     clauses: &[Clause3],
     names: &[u64],
@@ -88,22 +88,22 @@ fn all_turned(
     requires short { All (λ clause. clause.len ≤ 3) clauses.now }
     requires filled { All (λ clause. 1 ≤ length (literals_of clause)) clauses.now }
     requires named { All (λ clause. IsNamed names.now (literals_of clause)) clauses.now }
-    requires places { TellPlaces names.now places.now }
-    ensures { IfOk result (λ dense. AreTurned names.now clauses.now dense.items (length clauses.now)) }
+    requires places { ArePlacesOf names.now places.now }
+    ensures { IfOk result (λ dense. AreOverPlaces names.now clauses.now dense.items (length clauses.now)) }
 {
     let mut dense = Vec::new(alloc);
     for clause in clauses.iter() {
-        dense.push(turned(clause.literals(), names, places))?;
+        dense.push(over_places(clause.literals(), names, places))?;
     }
     Ok(dense)
 }
 
 // A clause over the places of its variables.
-fn turned(clause: &[SatLit], names: &[u64], places: &Places) -> Clause3
+fn over_places(clause: &[SatLit], names: &[u64], places: &Places) -> Clause3
     requires some { 1 ≤ length clause.now }
     requires short { length clause.now ≤ 3 }
     requires named { IsNamed names.now clause.now }
-    requires places { TellPlaces names.now places.now }
+    requires places { ArePlacesOf names.now places.now }
     ensures back { map (renamed names.now) (literals_of result) ≡ clause.now }
     ensures known { AreKnown (length names.now) (literals_of result) }
     ensures some { 1 ≤ result.len }
@@ -124,7 +124,7 @@ fn turned(clause: &[SatLit], names: &[u64], places: &Places) -> Clause3
 // A literal over the place of its variable.
 fn over_place(literal: SatLit, names: &[u64], places: &Places) -> SatLit
     requires named { Contains names.now (variable_of literal) }
-    requires places { TellPlaces names.now places.now }
+    requires places { ArePlacesOf names.now places.now }
     ensures back { renamed names.now result ≡ literal }
     ensures known { variable_of result < length names.now }
 {

@@ -38,8 +38,8 @@ impl<'a> QuestionGuide for GatePairs<'a> {
 
 /// What a search is to look at first. Where the cones of a query have few inputs, these are decided first, and nothing
 /// else is looked at. Else two candidates for each pair of gates that seem to be equal: that one is true and the other
-/// false; where both are sums of exclusive ors, parts of these before. `ids` are the numbers of the cones' clauses: after
-/// the first clause three for each gate.
+/// false; where both are sums of exclusive ors, parts of these before. `ids` are the numbers of the cones' clauses:
+/// after the first clause three for each gate.
 ///
 /// # Errors
 ///

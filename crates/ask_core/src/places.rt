@@ -2,7 +2,7 @@
 
 ghost use Rattle.std.specs.Prelude.{◌≡◌, ◌<◌, ◌^◌, All, Contains, IfOk, length, slice_index_or};
 ghost use Rattle.std.specs.List.Sorted.{IsNonDecreasing};
-ghost use Rattle.ask_core.specs.Renamings.{AreNames, ArePlaces, TellPlaces};
+ghost use Rattle.ask_core.specs.Renamings.{AreNames, ArePlaces, ArePlacesOf};
 
 use std::alloc::{AllocError, Global};
 
@@ -29,7 +29,7 @@ pub(crate) fn places_for(
 ) -> Result<Places, AllocError>
     requires names { AreNames variables names.now }
     requires ascending { IsNonDecreasing names.now }
-    ensures { IfOk result (TellPlaces names.now) }
+    ensures { IfOk result (ArePlacesOf names.now) }
 {
     if variables as usize / VARIABLES_A_CLAUSE > clauses {
         return Ok(Places::Bisected);
@@ -42,7 +42,7 @@ impl Places {
     /// The place of a name.
     pub(crate) fn of(&self, names: &[u64], name: u64) -> usize
         requires named { Contains names.now name }
-        requires places { TellPlaces names.now self.now }
+        requires places { ArePlacesOf names.now self.now }
         ensures there { result < length names.now }
         ensures is { slice_index_or names.now result 0 ≡ name }
     {

@@ -13,17 +13,19 @@ const MOST_XORS: usize = 64;
 /// How many variables a sum has at most. It is broken by half of their vectors.
 const WIDEST: usize = 12;
 
-/// How many parts a pair may have.
+/// How many parts a pair may have: each is a candidate that is decided before the pair. Four of the widest sums have as
+/// many.
 const MOST_PARTS: usize = 8192;
 
 /// In how many orders exclusive ors are added. By one alone a Hamming code of 57 bits takes 27,000 lines, and by the
 /// best of 20 it takes 8,600.
 const ORDERS: u64 = 20;
 
-/// With so few parts no other order is looked at.
+/// With so few parts no other order is looked at: there is little to save, and to plan one takes the cube of the
+/// exclusive ors.
 const FEW_PARTS: usize = 64;
 
-/// Of sums of one width any may come first: what says which is below this.
+/// Among sums of one width the order is drawn, below this.
 const SPREAD: u64 = 1024;
 
 /// Variables whose sum is a constant.
@@ -36,8 +38,8 @@ struct Equation {
     is_used: bool,
 }
 
-/// Adds the parts of a pair, if both its gates are sums of the same variables: those by which each sum of two of the
-/// exclusive ors between them would be broken. Of some orders in which they are added the one of the fewest parts.
+/// Adds the parts of a pair, if both its gates are sums of the same variables: an assignment each by which a sum of two
+/// would be broken, by the order with the fewest.
 pub(crate) fn add_parts(
     alloc: Global,
     xors: &Xors,
@@ -85,7 +87,7 @@ fn parts_by(
         let Some((left, right)) = nearest(&equations, salt) else {
             return Ok(parts);
         };
-        let Some(sum) = added(alloc, &mut equations, left, right, &mut parts)? else {
+        let Some(sum) = add_two(alloc, &mut equations, left, right, &mut parts)? else {
             return Ok(Vec::new(alloc));
         };
         equations.push(sum)?;
@@ -184,7 +186,7 @@ fn nearest_before(
 
 // Of how many variables the sum of two equations is, if they share one.
 fn width_of(one: &[u64], other: &[u64]) -> Option<usize> {
-    let shared = shared_by(one, other);
+    let shared = count_shared(one, other);
     if shared == 0 {
         return None;
     }
@@ -199,7 +201,7 @@ fn cost_of(width: usize, salt: u64, left: usize, right: usize) -> u64 {
 }
 
 // How many numbers two lists share.
-fn shared_by(one: &[u64], other: &[u64]) -> usize {
+fn count_shared(one: &[u64], other: &[u64]) -> usize {
     let mut count: usize = 0;
     for number in one.iter() {
         if has(other, *number) {
@@ -210,7 +212,7 @@ fn shared_by(one: &[u64], other: &[u64]) -> usize {
 }
 
 // The sum of two equations, whose parts are added. None where it is too wide.
-fn added(
+fn add_two(
     alloc: Global,
     equations: &mut Vec<Equation>,
     left: usize,
@@ -221,7 +223,7 @@ fn added(
         return Ok(None);
     };
     let variables = toggled(alloc, &one.variables, &other.variables)?;
-    let splits = shared(alloc, &one.variables, &other.variables)?;
+    let splits = shared_literals(alloc, &one.variables, &other.variables)?;
     let is_odd = one.is_odd ^ other.is_odd;
     if variables.len() > WIDEST {
         return Ok(None);
@@ -244,7 +246,7 @@ fn use_up(equations: &mut Vec<Equation>, place: usize) {
 }
 
 // The numbers that two lists share, as literals.
-fn shared(alloc: Global, one: &[u64], other: &[u64]) -> Result<Vec<SatLit>, AllocError> {
+fn shared_literals(alloc: Global, one: &[u64], other: &[u64]) -> Result<Vec<SatLit>, AllocError> {
     let mut literals = Vec::new(alloc);
     for number in one.iter() {
         if has(other, *number) {

@@ -14,9 +14,9 @@ use Rattle.trail_core.specs.declared.assigned.Assigned.{Assigned}
 use Rattle.trail_core.specs.Trails.{IsBack, IsTrail, Trailing, entry_at, literals}
 use Rattle.trail_core.proofs.BackLemmas.{front_at, front_within, kept_at, low_at}
 use Rattle.trail_core.proofs.TrailLemmas.{place_of_true, same_place}
-use Rattle.watch_lists.specs.Feet.{IsReached}
+use Rattle.watch_lists.specs.Attachments.{IsReached}
 use Rattle.watch_lists.specs.Propagations.{AreImplied, IsGrown, IsJustified, IsSound, before}
-use Rattle.watch_lists.specs.Watched.{Fits, IsCovered, IsPresent, IsRewatched, IsRooted, Watching, loose_watch, with_clause}
+use Rattle.watch_lists.specs.Watched.{Fits, IsCovered, IsPresent, IsRewatched, IsRooted, Watching, unattached_watch, with_clause}
 use Rattle.watch_lists.proofs.AttachLemmas.{attached_longer}
 use Rattle.watch_lists.proofs.EffectLemmas.{conflict_says, same_literal}
 use Rattle.watch_lists.proofs.GrowLemmas.{before_take, grown_at, sound_rewatched}
@@ -104,7 +104,7 @@ added_at w clause = get_or_at w.clauses clause [] [] (length w.clauses) refl
 -- what was covered before is covered after going back with one clause more
 pub back_covered : (w : Watching) (clause : List SatLit) (old back : Trailing) (level id : ℕ) → length w.watches ≡ 2 * length w.clauses → IsBack old back level → id < length w.clauses → IsCovered w old.entries id → IsCovered (with_clause clause w) back.entries id
 back_covered w clause old back level id size is there (inl attached) =
-    inl (attached_longer w.watches (loose_watch clause) (omega (arith, size)) (2 * id) (omega (arith, there, size)) attached)
+    inl (attached_longer w.watches (unattached_watch clause) (omega (arith, size)) (2 * id) (omega (arith, there, size)) attached)
 back_covered w clause old back level id size is there (inr rooted) =
     inr (subst (IsRooted back.entries) (sym (get_or_append_left w.clauses (clause ∷ []) [] id there)) (back_rooted old back level (clause_at w.clauses id) is rooted))
 

@@ -3,7 +3,7 @@ use Rattle.std.specs.Prelude.{◌≡◌, ℕ, ◌<◌, ◌++◌, ◌∷◌, fals
 use Rattle.cnf_core.specs.declared.literal.SatLit.{SatLit}
 use Rattle.trail_core.specs.Trails.{IsBack, Trailing, literals}
 use Rattle.watch_lists.specs.Propagations.{IsConflict, IsSound}
-use Rattle.watch_lists.specs.Watched.{AreLoose, Fits, IsCovered, IsPresent, Watching}
+use Rattle.watch_lists.specs.Watched.{AreUnattachedFrom, Fits, IsCovered, IsPresent, Watching}
 use Rattle.cnf_core.specs.Clauses.{Formula}
 use Rattle.learn_solver.specs.declared.search.Tools.{Tools}
 use Rattle.learn_solver.specs.Orders.{IsOrder}
@@ -18,12 +18,12 @@ pub record IsStarting (old now : Watching) (trail : Trailing) (count : ℕ) : Ty
   pub sound : IsSound now.clauses trail
   pub lowest : trail.level ≡ 0
   pub covered : (id : ℕ) → id < count → IsCovered now trail.entries id
-  pub loose : AreLoose now count
+  pub unattached : AreUnattachedFrom now count
 
 -- Nothing is attached, and nothing assigned.
 pub record AreIdle (watching : Watching) (trail : Trailing) : Type 0 where
   pub empty : trail ≡ record { variables = watching.variables; entries = []; level = 0; walked = 0 }
-  pub loose : AreLoose watching 0
+  pub unattached : AreUnattachedFrom watching 0
 
 -- The variables that are decided; a mark for each variable, none of which is set; and an order of the variables.
 pub record AreTools (formula : Formula) (ids : List ℕ) (tools : Tools) : Type 0 where

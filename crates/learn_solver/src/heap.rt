@@ -160,7 +160,8 @@ fn lift_from(keys: &[u64], numbers: &mut Vec<usize>, places: &mut Vec<usize>, pl
     requires inverse { AreInverse (length keys.now) numbers.old.items places.old.items }
     requires there { place < length keys.now }
     ensures inverse { AreInverse (length keys.now) numbers.new.items places.new.items }
-    ensures queued { (queued : ℕ) → place < queued → are_queued queued places.new.items ≡ are_queued queued places.old.items }
+    ensures queued { (queued : ℕ) → place < queued
+        → are_queued queued places.new.items ≡ are_queued queued places.old.items }
 {
     let mut place = place;
     while place > 0 {

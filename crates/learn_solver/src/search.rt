@@ -6,7 +6,7 @@ ghost use Rattle.cnf_core.specs.Derivations.{AreDerived, clauses_of, is_empty};
 ghost use Rattle.trail_core.specs.Trails.{IsBack, IsFree, literals};
 ghost use Rattle.learn_solver.specs.Searches.{CanReturn, CanTurn, HasReturned, HasTurned, IsAssigned};
 ghost use Rattle.watch_lists.specs.Propagations.{IsConflict, IsGrown, IsQuiet};
-ghost use Rattle.watch_lists.specs.Watched.{AreAllLoose};
+ghost use Rattle.watch_lists.specs.Watched.{AreUnattached};
 ghost use Rattle.cnf_core.specs.Clauses.{AreKnown};
 ghost use Rattle.learn_solver.specs.Starts.{AreIdle, IsBegun, IsFitting, IsStarting, IsStuck, StayTools};
 ghost use Rattle.learn_solver.specs.Orders.{IsOrder};
@@ -303,7 +303,7 @@ fn put_wanted<B: Base>(base: &B, ids: &[u64], watches: &mut Watches) -> Result<(
     requires ids { All (λ id. id < length (B.formula base.now).clauses) ids.now }
     requires empty { watches.old ≡ record { variables = (B.formula base.now).variables; clauses = []; watches = [] } }
     ensures put { OnOk result (ArePut (B.formula base.now) ids.now watches.new.clauses) }
-    ensures loose { OnOk result (AreAllLoose watches.new) }
+    ensures unattached { OnOk result (AreUnattached watches.new) }
     ensures variables { OnOk result (watches.new.variables ≡ watches.old.variables) }
 {
     for id in ids.iter() {
@@ -318,9 +318,9 @@ fn put_wanted<B: Base>(base: &B, ids: &[u64], watches: &mut Watches) -> Result<(
 fn put_lines(lines: &[LogLine], watches: &mut Watches) -> Result<(), AllocError>
     requires known { All (AreKnown watches.old.variables) (clauses_of lines.now) }
     requires filled { All (λ clause. is_empty clause ≡ false) (clauses_of lines.now) }
-    requires loose { AreAllLoose watches.old }
+    requires unattached { AreUnattached watches.old }
     ensures put { OnOk result (watches.new.clauses ≡ watches.old.clauses ++ clauses_of lines.now) }
-    ensures loose { OnOk result (AreAllLoose watches.new) }
+    ensures unattached { OnOk result (AreUnattached watches.new) }
     ensures variables { OnOk result (watches.new.variables ≡ watches.old.variables) }
 {
     for line in lines.iter() {

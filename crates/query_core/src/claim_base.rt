@@ -40,7 +40,8 @@ impl<'a> Model for ClaimBase<'a> {
 
     ghost view = { λ a. record { graphs = a.graphs.now; query = a.query; marked = a.cone.marked; whole = a.whole } };
 
-    ghost invariant = { λ a. IsPartialQuery a.graphs.now a.query a.left a.right a.cone.gates.items a.cone.marked a.whole };
+    ghost invariant = { λ a. IsPartialQuery a.graphs.now a.query a.left a.right a.cone.gates.items a.cone.marked
+        a.whole };
 }
 
 // By hand, so that each exit of a function has one call for it (docs/IDIOMS.md).

@@ -8,10 +8,10 @@ use Rattle.cnf_core.specs.Clauses.{clause_at, opposite, variable_of, AreKnown}
 use Rattle.cnf_core.specs.Derivations.{is_empty, is_true}
 use Rattle.trail_core.specs.declared.assigned.Assigned.{Assigned}
 use Rattle.trail_core.specs.Trails.{Trailing, entry_at}
-use Rattle.watch_lists.specs.Feet.{ArePair, IsSettled}
+use Rattle.watch_lists.specs.Attachments.{ArePair, IsSettled}
 use Rattle.watch_lists.specs.Propagations.{AreImplied, IsGrown}
 use Rattle.watch_lists.specs.Lists.{AreListed, ArePut, HaveRoom, IsAttached, IsIn, IsOnce, IsRoomier, Listed, list_at, list_of, literal_at, numbered, partner, put_in}
-use Rattle.watch_lists.specs.Watched.{AreKept, Fits, IsTrueBy, IsPresent, IsRewatched, Watching, loose_watch, with_clause}
+use Rattle.watch_lists.specs.Watched.{AreKept, Fits, IsTrueBy, IsPresent, IsRewatched, Watching, unattached_watch, with_clause}
 use Rattle.watch_lists.proofs.EffectLemmas.{known_at}
 use Rattle.watch_lists.proofs.KeepLemmas.{fits_assigned}
 use Rattle.watch_lists.proofs.GrowLemmas.{grown_none, grown_one, implied_none, implied_one, present_more}
@@ -45,11 +45,11 @@ pub attached_longer : (ws : List SatLit) (w : SatLit) → length ws % 2 ≡ 0 �
 attached_longer ws w even t old attached e =
     attached (sym (ap (λ (x : SatLit). x.0) (old_at ws (w ∷ w ∷ []) t old)) ∙ (e ∙ ap (λ (x : SatLit). x.0) (old_at ws (w ∷ w ∷ []) (partner t) (partner_within ws t even old))))
 
-first_known : (n : ℕ) (clause : List SatLit) → AreKnown n clause → is_empty clause ≡ false → variable_of (loose_watch clause) < n
+first_known : (n : ℕ) (clause : List SatLit) → AreKnown n clause → is_empty clause ≡ false → variable_of (unattached_watch clause) < n
 first_known n [] known e = absurd (false≢true (sym e))
 first_known n (l ∷ clause) known e = known 0 l (omega arith)
 
-pub kept_added : (variables : ℕ) (clauses put : List (List SatLit)) (ws new : List SatLit) (lists roomier : List Listed) (clause : List SatLit) → AreKept variables clauses ws lists → AreKnown variables clause → is_empty clause ≡ false → put ≡ clauses ++ clause ∷ [] → new ≡ ws ++ loose_watch clause ∷ loose_watch clause ∷ [] → length new < 2 ^ 64 → IsRoomier lists roomier clause (length clause) → AreKept variables put new roomier
+pub kept_added : (variables : ℕ) (clauses put : List (List SatLit)) (ws new : List SatLit) (lists roomier : List Listed) (clause : List SatLit) → AreKept variables clauses ws lists → AreKnown variables clause → is_empty clause ≡ false → put ≡ clauses ++ clause ∷ [] → new ≡ ws ++ unattached_watch clause ∷ unattached_watch clause ∷ [] → length new < 2 ^ 64 → IsRoomier lists roomier clause (length clause) → AreKept variables put new roomier
 kept_added variables clauses put ws new lists roomier clause is known filled put_is new_is few more =
     subst (λ cs. AreKept variables cs new roomier) (sym put_is) (subst (λ xs. AreKept variables (clauses ++ clause ∷ []) xs roomier) (sym new_is) (record {
       lists_are = more.size ∙ is.lists_are;
@@ -85,7 +85,7 @@ kept_added variables clauses put ws new lists roomier clause is known filled put
     }))
   where
     w : SatLit
-    w = loose_watch clause
+    w = unattached_watch clause
 
     even : length ws % 2 ≡ 0
     even = is.listed.even
@@ -118,18 +118,18 @@ has_list variables clauses ws lists id l is there holds =
     omega (arith, known_at variables (clause_at clauses id) l (is.known id [] there) holds, is.lists_are)
 
 -- which has room where the clause isn't attached
-pub loose_room : (variables : ℕ) (clauses : List (List SatLit)) (ws : List SatLit) (lists : List Listed) (id s : ℕ) (l : SatLit) → AreKept variables clauses ws lists → id < length clauses → s ≡ 2 * id → (IsAttached ws s → ⊥) → is_true (clause_at clauses id) l ≡ true → 0 < (list_at lists l.0).room
-loose_room variables clauses ws lists id s l is there s_is loose holds =
+pub unattached_room : (variables : ℕ) (clauses : List (List SatLit)) (ws : List SatLit) (lists : List Listed) (id s : ℕ) (l : SatLit) → AreKept variables clauses ws lists → id < length clauses → s ≡ 2 * id → (IsAttached ws s → ⊥) → is_true (clause_at clauses id) l ≡ true → 0 < (list_at lists l.0).room
+unattached_room variables clauses ws lists id s l is there s_is unattached holds =
     let low = has_list variables clauses ws lists id l is there holds in
     let half : s / 2 ≡ id = omega (arith, s_is) in
-    room_for clauses ws lists l.0 s is.listed is.of_clauses is.room low (omega (arith, half, there)) (ap (λ k. is_true (clause_at clauses k) l) half ∙ holds) (λ found. loose (is.listed.own l.0 s low found).attached) (λ found. loose (back (is.listed.own l.0 (partner s) low found).attached))
+    room_for clauses ws lists l.0 s is.listed is.of_clauses is.room low (omega (arith, half, there)) (ap (λ k. is_true (clause_at clauses k) l) half ∙ holds) (λ found. unattached (is.listed.own l.0 s low found).attached) (λ found. unattached (back (is.listed.own l.0 (partner s) low found).attached))
   where
     back : IsAttached ws (partner s) → IsAttached ws s
     back attached = subst (IsAttached ws) (partner_twice s) (attached_partner ws (partner s) attached)
 
 -- the watches that a clause got are its own
 pub kept_attached : (variables : ℕ) (clauses : List (List SatLit)) (ws new : List SatLit) (lists new_lists : List Listed) (id s : ℕ) (a b : SatLit) (entries : List Assigned) → AreKept variables clauses ws lists → id < length clauses → s ≡ 2 * id → (IsAttached ws s → ⊥) → ArePut ws new s a b → new_lists ≡ put_in b.0 (s + 1) (put_in a.0 s lists) → ArePair entries (clause_at clauses id) a b → AreKept variables clauses new new_lists
-kept_attached variables clauses ws new lists new_lists id s a b entries is there s_is loose put lists_is pair = record {
+kept_attached variables clauses ws new lists new_lists id s a b entries is there s_is unattached put lists_is pair = record {
   lists_are = ap length lists_is ∙ (put_size (put_in a.0 s lists) b.0 (s + 1) ∙ (put_size lists a.0 s ∙ is.lists_are));
   known = is.known;
   of_clauses = record {
@@ -142,7 +142,7 @@ kept_attached variables clauses ws new lists new_lists id s a b entries is there
       ]
     ];
   };
-  listed = subst (AreListed new) (sym lists_is) (both_listed ws new lists s a b is.listed put (omega (arith, there, s_is, is.of_clauses.size)) even loose low_a low_b pair.differ);
+  listed = subst (AreListed new) (sym lists_is) (both_listed ws new lists s a b is.listed put (omega (arith, there, s_is, is.of_clauses.size)) even unattached low_a low_b pair.differ);
   room = subst (HaveRoom clauses) (sym lists_is) (put_twice_room clauses lists a.0 b.0 s (s + 1) is.room low_a low_b first (omega (arith, second, put_other_room lists a.0 s b.0 (λ e. pair.differ (sym e)))));
 }
   where
@@ -156,18 +156,18 @@ kept_attached variables clauses ws new lists new_lists id s a b entries is there
     low_b = has_list variables clauses ws lists id b is there pair.second_there
 
     first : 0 < (list_at lists a.0).room
-    first = loose_room variables clauses ws lists id s a is there s_is loose pair.first_there
+    first = unattached_room variables clauses ws lists id s a is there s_is unattached pair.first_there
 
     second : 0 < (list_at lists b.0).room
-    second = loose_room variables clauses ws lists id s b is there s_is loose pair.second_there
+    second = unattached_room variables clauses ws lists id s b is there s_is unattached pair.second_there
 
--- no other clause is attached or loosened by it
+-- no other clause is attached or unattached_added by it
 pub put_rewatched : (old new : Watching) (id s : ℕ) (a b : SatLit) → s ≡ 2 * id → (IsAttached old.watches s → ⊥) → ArePut old.watches new.watches s a b → new.variables ≡ old.variables → new.clauses ≡ old.clauses → IsRewatched old new
-put_rewatched old new id s a b s_is loose put variables clauses = record {
+put_rewatched old new id s a b s_is unattached put variables clauses = record {
   variables = variables;
   clauses = clauses;
   attached = λ t within attached. elim (cases_eq (2 * t) s) [
-    | inl mine ↦ absurd (loose (subst (IsAttached old.watches) mine attached))
+    | inl mine ↦ absurd (unattached (subst (IsAttached old.watches) mine attached))
     | inr other ↦ put_after old.watches new.watches s a b (omega (arith, s_is)) put (2 * t) other (λ e. omega (arith, e, s_is)) attached
   ];
 }
@@ -216,7 +216,7 @@ fits_added watching clause t even fits = record {
   variables = fits.variables;
   watched = λ s within attached j early inside at.
       let ws = watching.watches in
-      let w = loose_watch clause in
+      let w = unattached_watch clause in
       let old = attached_added ws w even s (omega (arith, within, length-append ws (w ∷ w ∷ []))) attached in
       let own = old_at ws (w ∷ w ∷ []) s old.0 in
       let other = old_at ws (w ∷ w ∷ []) (partner s) (partner_within ws s even old.0) in

@@ -8,9 +8,9 @@ use Rattle.cnf_core.specs.Derivations.{is_false, is_true}
 use Rattle.trail_core.specs.declared.assigned.Assigned.{Assigned}
 use Rattle.trail_core.specs.Trails.{IsTrail, Trailing, entry_at, literals, nothing}
 use Rattle.trail_core.proofs.TrailLemmas.{place_of_true, same_place, true_at}
-use Rattle.watch_lists.specs.Looks.{IsBeside, IsHalfFalse, IsTarget}
+use Rattle.watch_lists.specs.WatchStates.{IsOtherNotFalse, IsHalfFalse, IsTarget}
 use Rattle.watch_lists.specs.Propagations.{AreImplied}
-use Rattle.watch_lists.specs.Lists.{IsAt, IsAttached, IsOwn, IsStep, Listed, list_at, list_of, literal_at, partner, put_in, taken_from, watch_at}
+use Rattle.watch_lists.specs.Lists.{IsAt, IsAttached, IsOwn, IsMove, Listed, list_at, list_of, literal_at, partner, put_in, taken_from, watch_at}
 use Rattle.watch_lists.specs.Watched.{IsTrueBy, IsPresent, IsWalking, StayAttached}
 use Rattle.watch_lists.proofs.EffectLemmas.{known_at}
 use Rattle.watch_lists.proofs.GrowLemmas.{implied_none, implied_one, low_level, present_more}
@@ -122,26 +122,26 @@ stayed clauses ws lists old new more f p is new_is trail present true_by = recor
     grown l n old_true_by = subst (λ es. IsTrueBy es l n) (sym entries) (true_by_further old.entries more l n old_true_by)
 
 -- the list of another literal of the clause has room
-pub beside_room : (clauses : List (List SatLit)) (ws : List SatLit) (lists : List Listed) (t : Trailing) (f l : SatLit) (p : ℕ) → IsWalking clauses ws lists t f (p + 1) → l.0 < length lists → l.0 ≢ f.0 → is_true (clause_at clauses (watch_at (list_of lists f.0) p / 2)) l ≡ true → l.0 ≢ (literal_at ws (partner (watch_at (list_of lists f.0) p))).0 → 0 < (list_at lists l.0).room
-beside_room clauses ws lists t f l p is low apart there differs =
+pub moved_to_room : (clauses : List (List SatLit)) (ws : List SatLit) (lists : List Listed) (t : Trailing) (f l : SatLit) (p : ℕ) → IsWalking clauses ws lists t f (p + 1) → l.0 < length lists → l.0 ≢ f.0 → is_true (clause_at clauses (watch_at (list_of lists f.0) p / 2)) l ≡ true → l.0 ≢ (literal_at ws (partner (watch_at (list_of lists f.0) p))).0 → 0 < (list_at lists l.0).room
+moved_to_room clauses ws lists t f l p is low apart there differs =
     let s = watch_at (list_of lists f.0) p in
     let own = next_own clauses ws lists t f p is in
     room_for clauses ws lists l.0 s is.listed is.of_clauses is.room low (omega (arith, own.within, is.of_clauses.size)) there (λ found. apart (sym (is.listed.own l.0 s low found).is ∙ own.is)) (λ found. differs (sym (is.listed.own l.0 (partner s) low found).is))
 
 -- a watch that moves to a literal that isn't false
-moved : (clauses : List (List SatLit)) (ws : List SatLit) (lists : List Listed) (t : Trailing) (f l : SatLit) (p : ℕ) → IsWalking clauses ws lists t f (p + 1) → l.0 < length lists → l.0 ≢ f.0 → IsBeside (literals t.entries) (clause_at clauses (watch_at (list_of lists f.0) p / 2)) (literal_at ws (partner (watch_at (list_of lists f.0) p))) l → IsWalking clauses (slice_set ws (watch_at (list_of lists f.0) p) l) (put_in l.0 (watch_at (list_of lists f.0) p) (taken_from f.0 p lists)) t f p
-moved clauses ws lists t f l p is low apart beside = record {
+moved : (clauses : List (List SatLit)) (ws : List SatLit) (lists : List Listed) (t : Trailing) (f l : SatLit) (p : ℕ) → IsWalking clauses ws lists t f (p + 1) → l.0 < length lists → l.0 ≢ f.0 → IsOtherNotFalse (literals t.entries) (clause_at clauses (watch_at (list_of lists f.0) p / 2)) (literal_at ws (partner (watch_at (list_of lists f.0) p))) l → IsWalking clauses (slice_set ws (watch_at (list_of lists f.0) p) l) (put_in l.0 (watch_at (list_of lists f.0) p) (taken_from f.0 p lists)) t f p
+moved clauses ws lists t f l p is low apart to = record {
   lists_are = lists_size ∙ is.lists_are;
   known = is.known;
   of_clauses = record {
     size = size ∙ is.of_clauses.size;
     of = λ k within attached. elim (cases_eq k (watch_at (list_of lists f.0) p)) [
-      | inl mine ↦ ap (is_true (clause_at clauses (k / 2))) (at_mine k mine) ∙ (ap (λ n. is_true (clause_at clauses (n / 2)) l) mine ∙ beside.there)
+      | inl mine ↦ ap (is_true (clause_at clauses (k / 2))) (at_mine k mine) ∙ (ap (λ n. is_true (clause_at clauses (n / 2)) l) mine ∙ to.there)
       | inr other ↦ ap (is_true (clause_at clauses (k / 2))) (literal_same ws (watch_at (list_of lists f.0) p) k l other) ∙ is.of_clauses.of k (omega (arith, within, size)) (before k other attached)
     ];
   };
-  listed = moved_listed ws lists f l p (watch_at (list_of lists f.0) p) is.listed is.literal_known low at apart beside.differs;
-  room = moved_room clauses lists f.0 l.0 p (watch_at (list_of lists f.0) p) is.room is.literal_known at.within low apart (beside_room clauses ws lists t f l p is low apart beside.there beside.differs);
+  listed = moved_listed ws lists f l p (watch_at (list_of lists f.0) p) is.listed is.literal_known low at apart to.differs;
+  room = moved_room clauses lists f.0 l.0 p (watch_at (list_of lists f.0) p) is.room is.literal_known at.within low apart (moved_to_room clauses ws lists t f l p is low apart to.there to.differs);
   is_trail = is.is_trail;
   present = is.present;
   there = is.there;
@@ -201,16 +201,16 @@ moved clauses ws lists t f l p is low apart beside = record {
     before k other attached = attached_before ws (watch_at (list_of lists f.0) p) k l own.within other own.attached attached
 
     not_false : (j : ℕ) → j < length t.entries → (entry_at t.entries j).literal.0 ≡ (opposite l).0 → ⊥
-    not_false j inside at_j = both_ways (is_false (literals t.entries) l) beside.not_false (true_at t.entries j (opposite l) inside at_j)
+    not_false j inside at_j = both_ways (is_false (literals t.entries) l) to.not_false (true_at t.entries j (opposite l) inside at_j)
 
 -- the literal that a watch moves to isn't the false one
-pub goes_apart : (clauses : List (List SatLit)) (ws : List SatLit) (lists : List Listed) (t : Trailing) (f l : SatLit) (left : ℕ) (clause : List SatLit) (other : SatLit) → IsWalking clauses ws lists t f left → IsBeside (literals t.entries) clause other l → l.0 ≢ f.0
-goes_apart clauses ws lists t f l left clause other is beside e =
+pub goes_apart : (clauses : List (List SatLit)) (ws : List SatLit) (lists : List Listed) (t : Trailing) (f l : SatLit) (left : ℕ) (clause : List SatLit) (other : SatLit) → IsWalking clauses ws lists t f left → IsOtherNotFalse (literals t.entries) clause other l → l.0 ≢ f.0
+goes_apart clauses ws lists t f l left clause other is to e =
     let same : l ≡ f = ap (λ n. record { 0 = n }) e in
-    both_ways (is_false (literals t.entries) l) beside.not_false (ap (is_false (literals t.entries)) same ∙ f_false clauses ws lists t f left is)
+    both_ways (is_false (literals t.entries) l) to.not_false (ap (is_false (literals t.entries)) same ∙ f_false clauses ws lists t f left is)
 
 -- what a look at a clause comes to
-pub looked : (clauses : List (List SatLit)) (ws new_ws : List SatLit) (lists new_lists : List Listed) (old new : Trailing) (f l : SatLit) (p : ℕ) → IsWalking clauses ws lists old f (p + 1) → IsTrail new → IsTarget old new (clause_at clauses (watch_at (list_of lists f.0) p / 2)) (watch_at (list_of lists f.0) p / 2) (literal_at ws (partner (watch_at (list_of lists f.0) p))) f l → IsStep ws new_ws lists new_lists f l p (watch_at (list_of lists f.0) p) → IsWalking clauses new_ws new_lists new f p
+pub looked : (clauses : List (List SatLit)) (ws new_ws : List SatLit) (lists new_lists : List Listed) (old new : Trailing) (f l : SatLit) (p : ℕ) → IsWalking clauses ws lists old f (p + 1) → IsTrail new → IsTarget old new (clause_at clauses (watch_at (list_of lists f.0) p / 2)) (watch_at (list_of lists f.0) p / 2) (literal_at ws (partner (watch_at (list_of lists f.0) p))) f l → IsMove ws new_ws lists new_lists f l p (watch_at (list_of lists f.0) p) → IsWalking clauses new_ws new_lists new f p
 looked clauses ws new_ws lists new_lists old new f l p is trail (inl true_by) step =
     let other = literal_at ws (partner (watch_at (list_of lists f.0) p)) in
     let nothing_more : record old { entries = old.entries ++ [] } ≡ old = ap (λ es. record old { entries = es }) (append-nil old.entries) in
@@ -234,10 +234,10 @@ looked clauses ws new_ws lists new_lists old new f l p is trail (inr (inr goes))
     let s = watch_at (list_of lists f.0) p in
     let id = s / 2 in
     let there : id < length clauses = omega (arith, (next_own clauses ws lists old f p is).within, is.of_clauses.size) in
-    let known = known_at old.variables (clause_at clauses id) l (is.known id [] there) goes.beside.there in
+    let known = known_at old.variables (clause_at clauses id) l (is.known id [] there) goes.replacement.there in
     let low : l.0 < length lists = omega (arith, known, is.lists_are) in
-    let apart = goes_apart clauses ws lists old f l (p + 1) (clause_at clauses id) (literal_at ws (partner s)) is goes.beside in
-    let walking = moved clauses ws lists old f l p is low apart goes.beside in
+    let apart = goes_apart clauses ws lists old f l (p + 1) (clause_at clauses id) (literal_at ws (partner s)) is goes.replacement in
+    let walking = moved clauses ws lists old f l p is low apart goes.replacement in
     subst (λ t. IsWalking clauses new_ws new_lists t f p) (sym goes.same) (subst (λ w. IsWalking clauses w new_lists old f p) (sym (step.moves_watch apart)) (subst (λ h. IsWalking clauses (slice_set ws s l) h old f p) (sym (step.moves_list apart)) walking))
 
 -- what it assigns is all that the clause left
@@ -253,22 +253,22 @@ target_known clauses ws lists old new f l p is (inr (inl made)) = omega (arith, 
 target_known clauses ws lists old new f l p is (inr (inr goes)) =
     let s = watch_at (list_of lists f.0) p in
     let there : s / 2 < length clauses = omega (arith, (next_own clauses ws lists old f p is).within, is.of_clauses.size) in
-    omega (arith, known_at old.variables (clause_at clauses (s / 2)) l (is.known (s / 2) [] there) goes.beside.there, is.lists_are)
+    omega (arith, known_at old.variables (clause_at clauses (s / 2)) l (is.known (s / 2) [] there) goes.replacement.there, is.lists_are)
 
 pub target_differs : (clauses : List (List SatLit)) (ws : List SatLit) (lists : List Listed) (old new : Trailing) (f l : SatLit) (p : ℕ) → IsWalking clauses ws lists old f (p + 1) → IsTarget old new (clause_at clauses (watch_at (list_of lists f.0) p / 2)) (watch_at (list_of lists f.0) p / 2) (literal_at ws (partner (watch_at (list_of lists f.0) p))) f l → l.0 ≢ (literal_at ws (partner (watch_at (list_of lists f.0) p))).0
 target_differs clauses ws lists old new f l p is (inl true_by) e = partner_differs clauses ws lists old f p is (ap (λ (x : SatLit). x.0) (sym true_by.stays) ∙ e)
 target_differs clauses ws lists old new f l p is (inr (inl made)) e = partner_differs clauses ws lists old f p is (ap (λ (x : SatLit). x.0) (sym made.stays) ∙ e)
-target_differs clauses ws lists old new f l p is (inr (inr goes)) e = goes.beside.differs e
+target_differs clauses ws lists old new f l p is (inr (inr goes)) e = goes.replacement.differs e
 
 -- and its list has room
 pub target_room : (clauses : List (List SatLit)) (ws : List SatLit) (lists : List Listed) (old new : Trailing) (f l : SatLit) (p : ℕ) → IsWalking clauses ws lists old f (p + 1) → IsTarget old new (clause_at clauses (watch_at (list_of lists f.0) p / 2)) (watch_at (list_of lists f.0) p / 2) (literal_at ws (partner (watch_at (list_of lists f.0) p))) f l → l.0 ≢ f.0 → 0 < (list_at lists l.0).room
 target_room clauses ws lists old new f l p is (inl true_by) apart = absurd (apart (ap (λ (x : SatLit). x.0) true_by.stays))
 target_room clauses ws lists old new f l p is (inr (inl made)) apart = absurd (apart (ap (λ (x : SatLit). x.0) made.stays))
 target_room clauses ws lists old new f l p is (inr (inr goes)) apart =
-    beside_room clauses ws lists old f l p is (target_known clauses ws lists old new f l p is (inr (inr goes))) apart goes.beside.there goes.beside.differs
+    moved_to_room clauses ws lists old f l p is (target_known clauses ws lists old new f l p is (inr (inr goes))) apart goes.replacement.there goes.replacement.differs
 
 -- what is attached stays so
-pub step_attached : (clauses : List (List SatLit)) (ws new_ws : List SatLit) (lists new_lists : List Listed) (old new : Trailing) (f l : SatLit) (p : ℕ) → IsWalking clauses ws lists old f (p + 1) → IsTarget old new (clause_at clauses (watch_at (list_of lists f.0) p / 2)) (watch_at (list_of lists f.0) p / 2) (literal_at ws (partner (watch_at (list_of lists f.0) p))) f l → IsStep ws new_ws lists new_lists f l p (watch_at (list_of lists f.0) p) → StayAttached ws new_ws
+pub step_attached : (clauses : List (List SatLit)) (ws new_ws : List SatLit) (lists new_lists : List Listed) (old new : Trailing) (f l : SatLit) (p : ℕ) → IsWalking clauses ws lists old f (p + 1) → IsTarget old new (clause_at clauses (watch_at (list_of lists f.0) p / 2)) (watch_at (list_of lists f.0) p / 2) (literal_at ws (partner (watch_at (list_of lists f.0) p))) f l → IsMove ws new_ws lists new_lists f l p (watch_at (list_of lists f.0) p) → StayAttached ws new_ws
 step_attached clauses ws new_ws lists new_lists old new f l p is target step = elim (cases_eq l.0 f.0) [
   | inl same ↦ subst (StayAttached ws) (sym (step.stays same).0) (λ s within attached. attached)
   | inr apart ↦

@@ -6,15 +6,15 @@ use Rattle.trail_core.specs.declared.assigned.Assigned.{Assigned}
 use Rattle.trail_core.specs.Trails.{IsBack, Trailing, nothing, with_assigned, with_decision}
 use Rattle.trail_core.proofs.BackLemmas.{front_at, front_within, kept_at, low_at}
 use Rattle.watch_lists.specs.Lists.{literal_at, partner}
-use Rattle.watch_lists.specs.Watched.{AreAllLoose, Fits, IsTrueBy, Watching}
+use Rattle.watch_lists.specs.Watched.{AreUnattached, Fits, IsTrueBy, Watching}
 use Rattle.watch_lists.proofs.FitLemmas.{true_by_further}
 use Rattle.watch_lists.proofs.ListLemmas.{attached_half}
 
 -- watches of which none is of an attached clause fit each trail
-pub fits_loose : (watching : Watching) (trail : Trailing) → AreAllLoose watching → trail.variables ≡ watching.variables → Fits watching trail
-fits_loose watching trail loose variables = record {
+pub fits_unattached : (watching : Watching) (trail : Trailing) → AreUnattached watching → trail.variables ≡ watching.variables → Fits watching trail
+fits_unattached watching trail unattached variables = record {
   variables = variables;
-  watched = λ s within attached. absurd (loose (s / 2) (omega arith) (attached_half watching.watches s attached));
+  watched = λ s within attached. absurd (unattached (s / 2) (omega arith) (attached_half watching.watches s attached));
 }
 
 -- one literal more changes nothing before it

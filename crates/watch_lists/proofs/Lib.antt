@@ -5,6 +5,6 @@ pub mod SpanLemmas
 pub mod RoomLemmas
 pub mod FitLemmas
 pub mod PassLemmas
-pub mod FootLemmas
+pub mod WatchPairLemmas
 pub mod AttachLemmas
 pub mod KeepLemmas

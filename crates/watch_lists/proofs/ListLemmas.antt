@@ -349,7 +349,7 @@ put_after old new s a b even put t not_s not_next attached e =
 
 -- they are put into the lists of two literals
 pub both_listed : (ws new : List SatLit) (lists : List Listed) (s : ℕ) (a b : SatLit) → AreListed ws lists → ArePut ws new s a b → s + 1 < length ws → s % 2 ≡ 0 → (IsAttached ws s → ⊥) → a.0 < length lists → b.0 < length lists → a.0 ≢ b.0 → AreListed new (put_in b.0 (s + 1) (put_in a.0 s lists))
-both_listed ws new lists s a b is put there even loose low_a low_b differ = record {
+both_listed ws new lists s a b is put there even unattached low_a low_b differ = record {
   even = ap (λ n. n % 2) put.size ∙ is.even;
   few = omega (arith, is.few, put.size);
   known = λ t inside. elim (cases_eq t s) [
@@ -417,11 +417,11 @@ both_listed ws new lists s a b is put there even loose low_a low_b differ = reco
     partner_next : partner (s + 1) ≡ s
     partner_next = omega (arith, even)
 
-    loose_next : IsAttached ws (s + 1) → ⊥
-    loose_next attached = loose (λ e. attached (ap (λ k. (literal_at ws k).0) (sym partner_s) ∙ (sym e ∙ ap (λ k. (literal_at ws k).0) (sym partner_next))))
+    unattached_next : IsAttached ws (s + 1) → ⊥
+    unattached_next attached = unattached (λ e. attached (ap (λ k. (literal_at ws k).0) (sym partner_s) ∙ (sym e ∙ ap (λ k. (literal_at ws k).0) (sym partner_next))))
 
     apart_from : (t : ℕ) → IsAttached ws t → (t ≢ s) × (t ≢ s + 1)
-    apart_from t attached = ((λ e. loose (subst (IsAttached ws) e attached)), (λ e. loose_next (subst (IsAttached ws) e attached)))
+    apart_from t attached = ((λ e. unattached (subst (IsAttached ws) e attached)), (λ e. unattached_next (subst (IsAttached ws) e attached)))
 
     attached_next : IsAttached new (s + 1)
     attached_next e = put_attached ws new s a b even put differ (ap (λ k. (literal_at new k).0) (sym partner_next) ∙ (sym e ∙ ap (λ k. (literal_at new k).0) (sym partner_s)))

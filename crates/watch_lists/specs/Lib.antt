@@ -1,5 +1,5 @@
-pub mod Feet
-pub mod Looks
+pub mod Attachments
+pub mod WatchStates
 pub mod Arenas
 pub mod Propagations
 pub mod Lists

@@ -120,7 +120,7 @@ pub record ArePut (old new : List SatLit) (s : ℕ) (first second : SatLit) : Ty
   pub others : (t : ℕ) → t ≢ s → t ≢ s + 1 → literal_at new t ≡ literal_at old t
 
 -- A watch at a place of a literal's list watches another literal now, or the same one.
-pub record IsStep (ws new_ws : List SatLit) (lists new_lists : List Listed) (f l : SatLit) (place s : ℕ) : Type 0 where
+pub record IsMove (ws new_ws : List SatLit) (lists new_lists : List Listed) (f l : SatLit) (place s : ℕ) : Type 0 where
   pub stays : l.0 ≡ f.0 → (new_ws ≡ ws) × (new_lists ≡ lists)
   pub moves_watch : l.0 ≢ f.0 → new_ws ≡ slice_set ws s l
   pub moves_list : l.0 ≢ f.0 → new_lists ≡ put_in l.0 s (taken_from f.0 place lists)

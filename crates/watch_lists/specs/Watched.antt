@@ -15,14 +15,14 @@ pub record Watching : Type 0 where
   pub watches : List SatLit
 
 -- a watch of a clause that isn't attached
-abbrev pub loose_watch : List SatLit → SatLit
-loose_watch clause = slice_index_or clause 0 (numbered 0)
+abbrev pub unattached_watch : List SatLit → SatLit
+unattached_watch clause = slice_index_or clause 0 (numbered 0)
 
 -- one clause more, which isn't attached
 abbrev pub with_clause : List SatLit → Watching → Watching
 with_clause clause watching = record watching {
   clauses = watching.clauses ++ clause ∷ [];
-  watches = watching.watches ++ loose_watch clause ∷ loose_watch clause ∷ [];
+  watches = watching.watches ++ unattached_watch clause ∷ unattached_watch clause ∷ [];
 }
 
 -- A literal is true, at a level that isn't greater.
@@ -49,12 +49,12 @@ pub record Fits (watching : Watching) (trail : Trailing) : Type 0 where
       → IsWatched watching.watches trail.entries trail.walked s
 
 -- no clause from this number on is attached
-abbrev pub AreLoose : Watching → ℕ → Type 0
-AreLoose watching from = (id : ℕ) → from ≤ id → IsAttached watching.watches (2 * id) → ⊥
+abbrev pub AreUnattachedFrom : Watching → ℕ → Type 0
+AreUnattachedFrom watching from = (id : ℕ) → from ≤ id → IsAttached watching.watches (2 * id) → ⊥
 
 -- no clause is attached
-abbrev pub AreAllLoose : Watching → Type 0
-AreAllLoose watching = AreLoose watching 0
+abbrev pub AreUnattached : Watching → Type 0
+AreUnattached watching = AreUnattachedFrom watching 0
 
 -- what isn't walked is of the present level
 pub record IsPresent (trail : Trailing) : Type 0 where

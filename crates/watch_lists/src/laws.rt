@@ -4,12 +4,12 @@ ghost use Rattle.std.specs.Prelude.{◌≡◌, ◌≤◌, ℕ, List, length};
 ghost use Rattle.cnf_core.specs.declared.literal.SatLit.{SatLit};
 ghost use Rattle.trail_core.specs.Trails.{IsBack, Trailing, with_assigned, with_decision};
 ghost use Rattle.watch_lists.specs.Propagations.{AreImplied, IsGrown, IsSound};
-ghost use Rattle.watch_lists.specs.Watched.{AreAllLoose, Fits, Watching};
+ghost use Rattle.watch_lists.specs.Watched.{AreUnattached, Fits, Watching};
 
 /// Where no clause is attached, watches fit each trail over as many variables.
-pub fn loose_watches_fit()
+pub fn unattached_watches_fit()
     ensures { (watching : Watching) (trail : Trailing)
-        → AreAllLoose watching
+        → AreUnattached watching
         → trail.variables ≡ watching.variables
         → Fits watching trail }
 {}

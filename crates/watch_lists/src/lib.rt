@@ -6,7 +6,7 @@ mod arena;
 pub mod laws;
 mod list_store;
 mod lists;
-mod looking;
+mod watch_choice;
 mod watches;
 
 pub use watches::Watches;

@@ -15,7 +15,7 @@ use std::alloc::{AllocError, Global};
 #[derive(Drop)]
 pub(crate) struct Lists {
     pub(crate) watches: Vec<SatLit>,
-    pub(crate) lists: ListStore,
+    pub(crate) store: ListStore,
 }
 
 /// The other watch of the same clause.
@@ -29,55 +29,55 @@ pub(crate) fn partner(watch: usize) -> usize
 impl Lists {
     /// How many watches a literal has.
     pub(crate) fn count(&self, literal: SatLit) -> usize
-        requires { literal.0 < length self.now.lists }
-        ensures { result ≡ length (list_of self.now.lists literal.0) }
+        requires { literal.0 < length self.now.store }
+        ensures { result ≡ length (list_of self.now.store literal.0) }
     {
-        self.lists.count(literal)
+        self.store.count(literal)
     }
 
     /// The watch at a place of a literal's list.
     pub(crate) fn at(&self, literal: SatLit, place: usize) -> usize
-        requires known { literal.0 < length self.now.lists }
-        requires there { place < length (list_of self.now.lists literal.0) }
-        ensures { result ≡ watch_at (list_of self.now.lists literal.0) place }
+        requires known { literal.0 < length self.now.store }
+        requires there { place < length (list_of self.now.store literal.0) }
+        ensures { result ≡ watch_at (list_of self.now.store literal.0) place }
     {
-        self.lists.at(literal, place)
+        self.store.at(literal, place)
     }
 
     // Takes the watch at a place of a literal's list out.
     fn take_out(&mut self, literal: SatLit, place: usize)
-        requires known { literal.0 < length self.old.lists }
-        requires there { place < length (list_of self.old.lists literal.0) }
+        requires known { literal.0 < length self.old.store }
+        requires there { place < length (list_of self.old.store literal.0) }
         ensures watches { self.new.watches ≡ self.old.watches }
-        ensures lists { self.new.lists ≡ taken_from literal.0 place self.old.lists }
+        ensures lists { self.new.store ≡ taken_from literal.0 place self.old.store }
     {
-        self.lists.take_out(literal, place);
+        self.store.take_out(literal, place);
     }
 
     // Has a watch, which is in no list, watch a literal.
     fn put(&mut self, watch: usize, literal: SatLit)
         requires there { watch < length self.old.watches.items }
-        requires known { literal.0 < length self.old.lists }
-        requires room { 0 < (list_at self.old.lists literal.0).room }
+        requires known { literal.0 < length self.old.store }
+        requires room { 0 < (list_at self.old.store literal.0).room }
         ensures watches { self.new.watches.items ≡ slice_set self.old.watches.items watch literal }
-        ensures lists { self.new.lists ≡ put_in literal.0 watch self.old.lists }
+        ensures lists { self.new.store ≡ put_in literal.0 watch self.old.store }
     {
         self.watches[watch] = literal;
-        self.lists.push(literal, watch);
+        self.store.push(literal, watch);
     }
 
     /// Moves the watch at a place of a literal's list to that of another literal. Where it is the same one nothing
     /// changes.
-    pub(crate) fn step(&mut self, literal: SatLit, place: usize, watch: usize, moved: SatLit)
+    pub(crate) fn move_watch(&mut self, literal: SatLit, place: usize, watch: usize, moved: SatLit)
         requires there { watch < length self.old.watches.items }
-        requires known { literal.0 < length self.old.lists }
-        requires within { place < length (list_of self.old.lists literal.0) }
-        requires moved { moved.0 < length self.old.lists }
-        requires room { moved.0 ≢ literal.0 → 0 < (list_at self.old.lists moved.0).room }
+        requires known { literal.0 < length self.old.store }
+        requires within { place < length (list_of self.old.store literal.0) }
+        requires moved { moved.0 < length self.old.store }
+        requires room { moved.0 ≢ literal.0 → 0 < (list_at self.old.store moved.0).room }
         ensures stays { moved.0 ≡ literal.0 → self.new ≡ self.old }
         ensures watches { moved.0 ≢ literal.0 → self.new.watches.items ≡ slice_set self.old.watches.items watch moved }
-        ensures lists { moved.0 ≢ literal.0 → self.new.lists
-            ≡ put_in moved.0 watch (taken_from literal.0 place self.old.lists) }
+        ensures lists { moved.0 ≢ literal.0 → self.new.store
+            ≡ put_in moved.0 watch (taken_from literal.0 place self.old.store) }
     {
         if moved == literal {
             return;
@@ -89,13 +89,13 @@ impl Lists {
     /// Puts the two watches of a clause, which are in no list, into the lists of two literals.
     pub(crate) fn attach(&mut self, watch: usize, first: SatLit, second: SatLit)
         requires there { watch + 1 < length self.old.watches.items }
-        requires first { first.0 < length self.old.lists }
-        requires second { second.0 < length self.old.lists }
+        requires first { first.0 < length self.old.store }
+        requires second { second.0 < length self.old.store }
         requires differ { first.0 ≢ second.0 }
-        requires first_room { 0 < (list_at self.old.lists first.0).room }
-        requires second_room { 0 < (list_at self.old.lists second.0).room }
+        requires first_room { 0 < (list_at self.old.store first.0).room }
+        requires second_room { 0 < (list_at self.old.store second.0).room }
         ensures put { ArePut self.old.watches.items self.new.watches.items watch first second }
-        ensures lists { self.new.lists ≡ put_in second.0 (watch + 1) (put_in first.0 watch self.old.lists) }
+        ensures lists { self.new.store ≡ put_in second.0 (watch + 1) (put_in first.0 watch self.old.store) }
     {
         self.put(watch, first);
         self.put(watch + 1, second);
@@ -103,11 +103,11 @@ impl Lists {
 
     /// Makes room for a watch more of each literal of a clause. A refusal leaves all that is watched.
     pub(crate) fn make_room(&mut self, clause: &[SatLit]) -> Result<(), AllocError>
-        requires { All (λ literal. literal.0 < length self.old.lists) clause.now }
+        requires { All (λ literal. literal.0 < length self.old.store) clause.now }
         ensures watches { self.new.watches ≡ self.old.watches }
-        ensures roomier { OnOk result (IsRoomier self.old.lists self.new.lists clause.now
+        ensures roomier { OnOk result (IsRoomier self.old.store self.new.store clause.now
             (length clause.now)) }
-        ensures refused { OnErr result (IsRoomier self.old.lists self.new.lists clause.now 0) }
+        ensures refused { OnErr result (IsRoomier self.old.store self.new.store clause.now 0) }
     {
         for literal in clause.iter() {
             self.make_one(*literal)?;
@@ -117,20 +117,20 @@ impl Lists {
 
     // Makes room for one watch more of a literal. A refusal changes nothing.
     fn make_one(&mut self, literal: SatLit) -> Result<(), AllocError>
-        requires { literal.0 < length self.old.lists }
+        requires { literal.0 < length self.old.store }
         ensures watches { self.new.watches ≡ self.old.watches }
-        ensures made { OnOk result (self.new.lists ≡ roomier_at literal.0 self.old.lists) }
-        ensures refused { OnErr result (self.new.lists ≡ self.old.lists) }
+        ensures made { OnOk result (self.new.store ≡ roomier_at literal.0 self.old.store) }
+        ensures refused { OnErr result (self.new.store ≡ self.old.store) }
     {
-        self.lists.make_room(literal)
+        self.store.make_room(literal)
     }
 
     /// Adds the two watches of a clause, for which there is room, and which are in no list.
-    pub(crate) fn loosen(&mut self, literal: SatLit)
+    pub(crate) fn push_unattached(&mut self, literal: SatLit)
         requires room { vec_len self.old.watches + 2 ≤ vec_capacity self.old.watches }
         ensures watches { self.new.watches.items ≡ self.old.watches.items ++ literal ∷ literal ∷ [] }
         ensures few { length self.new.watches.items < 2 ^ 64 }
-        ensures lists { self.new.lists ≡ self.old.lists }
+        ensures lists { self.new.store ≡ self.old.store }
     {
         self.watches.push_reserved(literal);
         self.watches.push_reserved(literal);

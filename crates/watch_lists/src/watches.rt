@@ -6,7 +6,7 @@ ghost use Rattle.cnf_core.specs.Clauses.{clause_at, opposite, AreKnown};
 ghost use Rattle.cnf_core.specs.Derivations.{is_empty};
 ghost use Rattle.trail_core.specs.Trails.{entry_at, literals};
 ghost use Rattle.watch_lists.specs.Propagations.{AreImplied, IsConflict, IsGrown};
-ghost use Rattle.watch_lists.specs.Feet.{IsReached};
+ghost use Rattle.watch_lists.specs.Attachments.{IsReached};
 ghost use Rattle.watch_lists.specs.Lists.{IsAttached};
 ghost use Rattle.watch_lists.specs.Watched.{AreQuiet, Fits, IsCovered, IsPresent, IsReady, IsRewatched, IsWalking};
 ghost use Rattle.watch_lists.specs.Watched.{StayAttached, with_clause};
@@ -14,7 +14,7 @@ ghost use Rattle.watch_lists.specs.Watched.{StayAttached, with_clause};
 use crate::arena::Arena;
 use crate::list_store::ListStore;
 use crate::lists::{Lists, partner};
-use crate::looking::{Foot, find_foot, target};
+use crate::watch_choice::{Attachment, find_watches, target};
 use cnf_core::{ClauseStore, SatLit};
 use std::alloc::{AllocError, Global};
 use std::marker::Model;
@@ -51,7 +51,7 @@ impl Model for Watches {
       watches = a.lists.watches.items;
     } };
 
-    ghost invariant = { λ a. AreKept a.variables a.clauses.clauses a.lists.watches.items a.lists.lists };
+    ghost invariant = { λ a. AreKept a.variables a.clauses.clauses a.lists.watches.items a.lists.store };
 }
 
 impl Watches {
@@ -62,7 +62,7 @@ impl Watches {
     {
         let lists = Lists {
             watches: Vec::new(alloc),
-            lists: ListStore::new(alloc, 2 * variables as usize)?,
+            store: ListStore::new(alloc, 2 * variables as usize)?,
         };
         Ok(Watches {
             variables,
@@ -83,7 +83,7 @@ impl Watches {
         self.lists.watches.reserve(2)?;
         self.lists.make_room(clause)?;
         let id = self.clauses.put(clause)?;
-        self.lists.loosen(clause[0]);
+        self.lists.push_unattached(clause[0]);
         Ok(id)
     }
 
@@ -115,7 +115,7 @@ impl Watches {
     /// Some, with its number: all its literals are false, it isn't attached, and nothing changes. It takes no memory.
     pub fn attach(&mut self, id: u64, trail: &mut Trail) -> Option<u64>
         requires there { id < length self.old.clauses }
-        requires loose { IsAttached self.old.watches (2 * id) → ⊥ }
+        requires unattached { IsAttached self.old.watches (2 * id) → ⊥ }
         requires fits { Fits self.old trail.old }
         requires present { IsPresent trail.old }
         requires reached { IsReached trail.old (clause_at self.old.clauses id) }
@@ -133,13 +133,13 @@ impl Watches {
     {
         // no more literals are walked than there are
         let _walked = trail.walked();
-        match find_foot(trail, self.clauses.get(id), id) {
-            Foot::Two(first, second) => {
+        match find_watches(trail, self.clauses.get(id), id) {
+            Attachment::Two(first, second) => {
                 self.lists.attach(2 * id as usize, first, second);
                 None
             }
-            Foot::Rooted => None,
-            Foot::Conflict => Some(id),
+            Attachment::Rooted => None,
+            Attachment::Conflict => Some(id),
         }
     }
 
@@ -177,9 +177,9 @@ fn visit(
     literal: SatLit,
     place: usize,
 ) -> Option<u64>
-    requires walking { IsWalking clauses.now.clauses lists.old.watches.items lists.old.lists trail.old literal
+    requires walking { IsWalking clauses.now.clauses lists.old.watches.items lists.old.store trail.old literal
         (place + 1) }
-    ensures walking { IfNone result (IsWalking clauses.now.clauses lists.new.watches.items lists.new.lists
+    ensures walking { IfNone result (IsWalking clauses.now.clauses lists.new.watches.items lists.new.store
         trail.new literal place) }
     ensures grown { IfNone result (IsGrown trail.old trail.new) }
     ensures implied { IfNone result (AreImplied clauses.now.clauses trail.old trail.new) }
@@ -198,7 +198,7 @@ fn visit(
     };
     // it brings in that this is a trail
     let _walked = trail.walked();
-    lists.step(literal, place, watch, moved);
+    lists.move_watch(literal, place, watch, moved);
     None
 }
 
@@ -206,13 +206,13 @@ fn visit(
 // first: what takes the place of a watch that moves was looked at. Some: an attached clause all of whose literals are
 // false.
 fn walk(clauses: &Arena, lists: &mut Lists, trail: &mut Trail, literal: SatLit) -> Option<u64>
-    requires ready { IsReady clauses.now.clauses lists.old.watches.items lists.old.lists trail.old }
+    requires ready { IsReady clauses.now.clauses lists.old.watches.items lists.old.store trail.old }
     requires there { trail.old.walked < length trail.old.entries }
     requires falsity { (entry_at trail.old.entries trail.old.walked).literal.0 ≡ (opposite literal).0 }
-    requires known { literal.0 < length lists.old.lists }
-    ensures none { IfNone result (IsReady clauses.now.clauses lists.new.watches.items lists.new.lists
+    requires known { literal.0 < length lists.old.store }
+    ensures none { IfNone result (IsReady clauses.now.clauses lists.new.watches.items lists.new.store
         (record trail.new { walked = trail.new.walked + 1 })) }
-    ensures some { IfSome result (λ _. IsReady clauses.now.clauses lists.new.watches.items lists.new.lists
+    ensures some { IfSome result (λ _. IsReady clauses.now.clauses lists.new.watches.items lists.new.store
         trail.new) }
     ensures conflict { IfSome result (IsConflict clauses.now.clauses (literals trail.new.entries)) }
     ensures of_attached { IfSome result (λ id. IsAttached lists.new.watches.items (2 * id)) }
@@ -233,8 +233,8 @@ fn walk(clauses: &Arena, lists: &mut Lists, trail: &mut Trail, literal: SatLit) 
 
 // Walks all literals of a trail that aren't walked. Some: an attached clause all of whose literals are false.
 fn walk_all(clauses: &Arena, lists: &mut Lists, trail: &mut Trail) -> Option<u64>
-    requires ready { IsReady clauses.now.clauses lists.old.watches.items lists.old.lists trail.old }
-    ensures ready { IsReady clauses.now.clauses lists.new.watches.items lists.new.lists trail.new }
+    requires ready { IsReady clauses.now.clauses lists.old.watches.items lists.old.store trail.old }
+    ensures ready { IsReady clauses.now.clauses lists.new.watches.items lists.new.store trail.new }
     ensures walked { IfNone result (trail.new.walked ≡ length trail.new.entries) }
     ensures conflict { IfSome result (IsConflict clauses.now.clauses (literals trail.new.entries)) }
     ensures of_attached { IfSome result (λ id. IsAttached lists.new.watches.items (2 * id)) }

@@ -5,8 +5,8 @@ use Rattle.cnf_core.specs.declared.literal.SatLit.{SatLit}
 use Rattle.cnf_core.specs.Clauses.{clause_at}
 use Rattle.trail_core.specs.Trails.{Trailing, literals}
 use Rattle.watch_lists.specs.declared.lists.Lists.{Lists}
-use Rattle.watch_lists.specs.Looks.{IsHalfFalse, IsTarget}
-use Rattle.watch_lists.specs.Lists.{IsAttached, IsStep, Listed, list_of, literal_at, numbered, partner, put_in, taken_from, watch_at}
+use Rattle.watch_lists.specs.WatchStates.{IsHalfFalse, IsTarget}
+use Rattle.watch_lists.specs.Lists.{IsAttached, IsMove, Listed, list_of, literal_at, numbered, partner, put_in, taken_from, watch_at}
 use Rattle.watch_lists.specs.Watched.{IsWalking}
 use Rattle.watch_lists.proofs.FitLemmas.{half_false, looked, next_own, step_attached, target_implied, target_known, target_room}
 use Rattle.watch_lists.proofs.ListLemmas.{attached_half, partner_within}
@@ -30,11 +30,11 @@ clause_there {clauses = clauses} {ws = ws} {lists = lists} {t = t} {f = f} place
 watch_there : {clauses : List (List SatLit)} {ws : List SatLit} {lists : List Listed} {t : Trailing} {f : SatLit} {w : ℕ} (place : ℕ) → IsWalking clauses ws lists t f (place + 1) → w ≡ watch_at (list_of lists f.0) place → w < length ws
 watch_there {clauses = clauses} {ws = ws} {lists = lists} {t = t} {f = f} place is w_is = omega (arith, w_is, (next_own clauses ws lists t f place is).within)
 
-step_is : {old new : Lists} {f l : SatLit} {place w : ℕ} → w ≡ watch_at (list_of old.lists f.0) place → (l.0 ≡ f.0 → new ≡ old) → (l.0 ≢ f.0 → new.watches.items ≡ slice_set old.watches.items w l) → (l.0 ≢ f.0 → new.lists ≡ put_in l.0 w (taken_from f.0 place old.lists)) → IsStep old.watches.items new.watches.items old.lists new.lists f l place (watch_at (list_of old.lists f.0) place)
+step_is : {old new : Lists} {f l : SatLit} {place w : ℕ} → w ≡ watch_at (list_of old.store f.0) place → (l.0 ≡ f.0 → new ≡ old) → (l.0 ≢ f.0 → new.watches.items ≡ slice_set old.watches.items w l) → (l.0 ≢ f.0 → new.store ≡ put_in l.0 w (taken_from f.0 place old.store)) → IsMove old.watches.items new.watches.items old.store new.store f l place (watch_at (list_of old.store f.0) place)
 step_is {old = old} {new = new} {f = f} {l = l} {place = place} {w = w} w_is stays watches lists = record {
-  stays = λ e. (ap (λ (x : Lists). x.watches.items) (stays e), ap (λ (x : Lists). x.lists) (stays e));
+  stays = λ e. (ap (λ (x : Lists). x.watches.items) (stays e), ap (λ (x : Lists). x.store) (stays e));
   moves_watch = λ e. watches e ∙ ap (λ k. slice_set old.watches.items k l) w_is;
-  moves_list = λ e. lists e ∙ ap (λ k. put_in l.0 k (taken_from f.0 place old.lists)) w_is;
+  moves_list = λ e. lists e ∙ ap (λ k. put_in l.0 k (taken_from f.0 place old.store)) w_is;
 }
 
 pub at-watch-requires-clause-there : goal.at-watch-requires-clause-there
@@ -65,7 +65,7 @@ target-requires-clause-half c =
     let made = literals c.args.trail.now.entries in
     let clauses = c.args.clauses.now.clauses in
     let half = half_false _ _ _ _ _ c.args.place is in
-    subst (λ (l : SatLit). IsHalfFalse made (clause_at clauses (c.at-watch.result / 2)) l) (sym other) (subst (λ k. IsHalfFalse made (clause_at clauses (k / 2)) (literal_at c.args.lists.now.watches.items (partner (watch_at (list_of c.args.lists.now.lists c.args.literal.0) c.args.place)))) (sym w_is) half)
+    subst (λ (l : SatLit). IsHalfFalse made (clause_at clauses (c.at-watch.result / 2)) l) (sym other) (subst (λ k. IsHalfFalse made (clause_at clauses (k / 2)) (literal_at c.args.lists.now.watches.items (partner (watch_at (list_of c.args.lists.now.store c.args.literal.0) c.args.place)))) (sym w_is) half)
 
 pub returns-in_default-clause-conflict : goal.returns-in_default-clause-conflict
 returns-in_default-clause-conflict c = record {
@@ -78,19 +78,19 @@ returns-in_default-clause-of_attached c =
     let own = next_own _ _ _ _ _ c.args.place c.requires.walking in
     attached_half c.args.lists.now.watches.items c.at-watch.result (subst (λ k. IsAttached c.args.lists.now.watches.items k) (sym c.at-watch.ensures) own.attached)
 
-pub step-requires-clause-there : goal.step-requires-clause-there
-step-requires-clause-there c = watch_there c.args.place c.requires.walking c.at-watch.ensures
+pub move_watch-requires-clause-there : goal.move_watch-requires-clause-there
+move_watch-requires-clause-there c = watch_there c.args.place c.requires.walking c.at-watch.ensures
 
-pub step-requires-clause-within : goal.step-requires-clause-within
-step-requires-clause-within c = omega (arith, c.requires.walking.few)
+pub move_watch-requires-clause-within : goal.move_watch-requires-clause-within
+move_watch-requires-clause-within c = omega (arith, c.requires.walking.few)
 
-pub step-requires-clause-moved : goal.step-requires-clause-moved
-step-requires-clause-moved c =
+pub move_watch-requires-clause-moved : goal.move_watch-requires-clause-moved
+move_watch-requires-clause-moved c =
     let is = c.requires.walking in
     target_known _ _ _ _ _ _ _ c.args.place is (target_is c.args.place is c.at-watch.ensures c.partner.ensures c.index-other.ensures c.in-Some.ensures.target)
 
-pub step-requires-clause-room : goal.step-requires-clause-room
-step-requires-clause-room c =
+pub move_watch-requires-clause-room : goal.move_watch-requires-clause-room
+move_watch-requires-clause-room c =
     let is = c.requires.walking in
     target_room _ _ _ _ _ _ _ c.args.place is (target_is c.args.place is c.at-watch.ensures c.partner.ensures c.index-other.ensures c.in-Some.ensures.target)
 
@@ -98,14 +98,14 @@ pub returns-clause-walking : goal.returns-clause-walking
 returns-clause-walking c =
     let is = c.requires.walking in
     let target = target_is c.args.place is c.at-watch.ensures c.partner.ensures c.index-other.ensures c.in-Some.ensures.target in
-    let step = step_is {old = c.args.lists.now} {new = c.step.new.self} c.at-watch.ensures c.step.ensures.stays c.step.ensures.watches c.step.ensures.lists in
+    let step = step_is {old = c.args.lists.now} {new = c.move_watch.new.self} c.at-watch.ensures c.move_watch.ensures.stays c.move_watch.ensures.watches c.move_watch.ensures.lists in
     looked _ _ _ _ _ _ _ _ _ c.args.place is c.walked-walked.ensures.trail target step
 
 pub returns-clause-attached : goal.returns-clause-attached
 returns-clause-attached c =
     let is = c.requires.walking in
     let target = target_is c.args.place is c.at-watch.ensures c.partner.ensures c.index-other.ensures c.in-Some.ensures.target in
-    let step = step_is {old = c.args.lists.now} {new = c.step.new.self} c.at-watch.ensures c.step.ensures.stays c.step.ensures.watches c.step.ensures.lists in
+    let step = step_is {old = c.args.lists.now} {new = c.move_watch.new.self} c.at-watch.ensures c.move_watch.ensures.stays c.move_watch.ensures.watches c.move_watch.ensures.lists in
     step_attached _ _ _ _ _ _ _ _ _ c.args.place is target step
 
 pub returns-clause-implied : goal.returns-clause-implied

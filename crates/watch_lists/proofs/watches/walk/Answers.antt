@@ -10,25 +10,25 @@ use Rattle.watch_lists.proofs.watches.walk.Goals as goal
 
 pub loop-left-init : goal.loop-left-init
 loop-left-init c =
-    way_start c.args.clauses.now.clauses c.args.lists.now.watches.items c.args.lists.now.lists c.args.trail.now c.args.literal c.requires.ready c.requires.there c.requires.falsity c.requires.known c.count-left.result c.count-left.ensures
+    way_start c.args.clauses.now.clauses c.args.lists.now.watches.items c.args.lists.now.store c.args.trail.now c.args.literal c.requires.ready c.requires.there c.requires.falsity c.requires.known c.count-left.result c.count-left.ensures
 
 pub visit-requires : goal.visit-requires
 visit-requires c =
     let l = c.loop-left in
     let last : l.left ≡ l.left - 1 + 1 = omega (arith, c.loop-left-test.true) in
-    record { walking = subst (IsWalking c.args.clauses.now.clauses l.lists.watches.items l.lists.lists l.trail c.args.literal) last l.invariant.walking }
+    record { walking = subst (IsWalking c.args.clauses.now.clauses l.lists.watches.items l.lists.store l.trail c.args.literal) last l.invariant.walking }
 
 pub returns-clause-none : goal.returns-clause-none
 returns-clause-none c =
     let l = c.loop-left in
-    way_end c.args.clauses.now.clauses c.args.lists.now.watches.items l.lists.watches.items l.lists.lists c.args.trail.now l.trail c.args.literal l.left l.invariant (omega (arith, c.loop-left-test.false))
+    way_end c.args.clauses.now.clauses c.args.lists.now.watches.items l.lists.watches.items l.lists.store c.args.trail.now l.trail c.args.literal l.left l.invariant (omega (arith, c.loop-left-test.false))
 
 pub returns-in-Some-clause-some : goal.returns-in-Some-clause-some
 returns-in-Some-clause-some c =
     let l = c.loop-left in
     let clauses = c.args.clauses.now.clauses in
-    let ready = walk_stopped clauses c.args.lists.now.watches.items l.lists.watches.items l.lists.lists c.args.trail.now l.trail c.args.literal l.left l.invariant in
-    subst (λ (t : Trailing). IsReady clauses c.visit.new.lists.watches.items c.visit.new.lists.lists t) (sym c.in-Some.ensures.same_trail) (subst (λ (x : Lists). IsReady clauses x.watches.items x.lists l.trail) (sym c.in-Some.ensures.same_lists) ready)
+    let ready = walk_stopped clauses c.args.lists.now.watches.items l.lists.watches.items l.lists.store c.args.trail.now l.trail c.args.literal l.left l.invariant in
+    subst (λ (t : Trailing). IsReady clauses c.visit.new.lists.watches.items c.visit.new.lists.store t) (sym c.in-Some.ensures.same_trail) (subst (λ (x : Lists). IsReady clauses x.watches.items x.store l.trail) (sym c.in-Some.ensures.same_lists) ready)
 
 pub returns-in-Some-clause-attached : goal.returns-in-Some-clause-attached
 returns-in-Some-clause-attached c =

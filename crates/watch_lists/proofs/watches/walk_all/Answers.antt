@@ -16,7 +16,7 @@ loop-trail-preserved c =
     let step = c.step.ensures in
     let lists = c.walk.new.lists in
     let walked = c.walk.new.trail in
-    under_way_step c.args.clauses.now.clauses c.args.lists.now.watches.items l.lists.watches.items lists.watches.items l.lists.lists lists.lists c.args.trail.now l.trail walked c.step.new.self l.invariant (subst (IsReady c.args.clauses.now.clauses lists.watches.items lists.lists) (sym step) c.in_default.ensures.none) c.walk.ensures.grown c.walk.ensures.implied step c.walk.ensures.attached
+    under_way_step c.args.clauses.now.clauses c.args.lists.now.watches.items l.lists.watches.items lists.watches.items l.lists.store lists.store c.args.trail.now l.trail walked c.step.new.self l.invariant (subst (IsReady c.args.clauses.now.clauses lists.watches.items lists.store) (sym step) c.in_default.ensures.none) c.walk.ensures.grown c.walk.ensures.implied step c.walk.ensures.attached
 
 pub returns-in-Some-clause-implied : goal.returns-in-Some-clause-implied
 returns-in-Some-clause-implied c =

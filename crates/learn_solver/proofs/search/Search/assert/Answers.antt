@@ -5,7 +5,7 @@ use Rattle.cnf_core.specs.declared.effect.Effect.TheVariants.{Conflict}
 use Rattle.cnf_core.specs.Clauses.{clause_at}
 use Rattle.cnf_core.specs.Derivations.{effect_of}
 use Rattle.trail_core.specs.Trails.{Trailing, literals}
-use Rattle.watch_lists.specs.Feet.{IsReached}
+use Rattle.watch_lists.specs.Attachments.{IsReached}
 use Rattle.watch_lists.specs.Propagations.{AreImplied}
 use Rattle.watch_lists.specs.Watched.{Fits, IsCovered, IsRewatched, Watching, with_clause}
 use Rattle.watch_lists.proofs.AttachLemmas.{fits_added}

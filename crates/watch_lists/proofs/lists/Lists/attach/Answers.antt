@@ -12,11 +12,11 @@ put-requires-2-clause-there c =
 
 pub put-requires-2-clause-known : goal.put-requires-2-clause-known
 put-requires-2-clause-known c =
-    omega (arith, c.requires.second, ap length c.put.ensures.lists, put_size c.args.self.now.lists c.args.first.0 c.args.watch)
+    omega (arith, c.requires.second, ap length c.put.ensures.lists, put_size c.args.self.now.store c.args.first.0 c.args.watch)
 
 pub put-requires-2-clause-room : goal.put-requires-2-clause-room
 put-requires-2-clause-room c =
-    let same = put_other_room c.args.self.now.lists c.args.first.0 c.args.watch c.args.second.0 (λ e. c.requires.differ (sym e)) in
+    let same = put_other_room c.args.self.now.store c.args.first.0 c.args.watch c.args.second.0 (λ e. c.requires.differ (sym e)) in
     omega (arith, c.requires.second_room, same, ap (λ (x : List Listed). (list_at x c.args.second.0).room) c.put.ensures.lists)
 
 pub returns-clause-put : goal.returns-clause-put

@@ -10,5 +10,5 @@ loop-literal-preserved c =
     let clause = c.args.clause.now in
     let k = l.literal-index in
     let low = c.requires k (numbered 0) c.loop-literal-test.true in
-    let more = roomier_more c.args.self.now.lists l.self.lists clause k (slice_index_or clause k (numbered 0)) refl (omega (arith, low, l.invariant.0.size)) l.invariant.0 in
-    (subst (λ (x : List Listed). IsRoomier c.args.self.now.lists x clause (k + 1)) (sym c.in_ok-make_one.ensures.made) more, c.make_one.ensures.watches ∙ l.invariant.1)
+    let more = roomier_more c.args.self.now.store l.self.store clause k (slice_index_or clause k (numbered 0)) refl (omega (arith, low, l.invariant.0.size)) l.invariant.0 in
+    (subst (λ (x : List Listed). IsRoomier c.args.self.now.store x clause (k + 1)) (sym c.in_ok-make_one.ensures.made) more, c.make_one.ensures.watches ∙ l.invariant.1)

@@ -7,7 +7,7 @@ use Rattle.cnf_core.specs.Derivations.{is_false, is_true}
 use Rattle.trail_core.specs.Trails.{IsTrail, Trailing, entry_at, literals, value_in}
 use Rattle.trail_core.proofs.TrailLemmas.{not_false, place_of_true, same_place}
 use Rattle.watch_lists.proofs.EffectLemmas.{value_false}
-use Rattle.watch_lists.proofs.looking.is_false.Goals as goal
+use Rattle.watch_lists.proofs.watch_choice.is_false.Goals as goal
 
 value_true : (made : List SatLit) (l : SatLit) → value_in made l ≡ Some true → is_true made l ≡ true
 value_true made l e = by_tests (is_true made l) (is_false made l) e

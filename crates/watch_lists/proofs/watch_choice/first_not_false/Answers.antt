@@ -3,7 +3,7 @@ use Rattle.std.proofs.lemmas.List.{take_all}
 use Rattle.std.proofs.lemmas.List.Elements.{All-more}
 use Rattle.cnf_core.specs.Derivations.{is_false}
 use Rattle.trail_core.specs.Trails.{literals}
-use Rattle.watch_lists.proofs.looking.open.Goals as goal
+use Rattle.watch_lists.proofs.watch_choice.first_not_false.Goals as goal
 use Rattle.cnf_core.proofs.LiteralLemmas.{no_literal}
 
 pub loop-literal-preserved : goal.loop-literal-preserved

@@ -7,12 +7,12 @@ use Rattle.cnf_core.specs.Clauses.{opposite, variable_of}
 use Rattle.cnf_core.specs.Derivations.{effect_of, is_false, is_true}
 use Rattle.trail_core.specs.declared.assigned.Assigned.{Assigned}
 use Rattle.trail_core.specs.Trails.{IsFree, IsPlace, Trailing, entry_at, literals, with_assigned}
-use Rattle.watch_lists.specs.declared.looking.Foot.{Foot}
-use Rattle.watch_lists.specs.declared.looking.Foot.TheVariants.{Two, Rooted, Conflict}
+use Rattle.watch_lists.specs.declared.watch_choice.Attachment.{Attachment}
+use Rattle.watch_lists.specs.declared.watch_choice.Attachment.TheVariants.{Two, Rooted, Conflict}
 use Rattle.watch_lists.specs.Watched.{IsTrueBy, IsRooted}
 
 -- A literal of a clause that isn't false.
-pub record IsOpen (made clause : List SatLit) (literal : SatLit) : Type 0 where
+pub record IsNotFalseOf (made clause : List SatLit) (literal : SatLit) : Type 0 where
   pub there : is_true clause literal ≡ true
   pub not_false : is_false made literal ≡ false
 
@@ -28,8 +28,8 @@ IsNotAtTop trail variable = (place : ℕ)
     → IsPlace trail.entries variable place
     → (entry_at trail.entries place).level ≢ trail.level
 
--- A literal of a clause, beside another one, that was assigned at the present level.
-pub record IsFallen (trail : Trailing) (clause : List SatLit) (first literal : SatLit) : Type 0 where
+-- A literal of a clause, other than `first`, that was assigned at the present level.
+pub record IsOtherOfLevel (trail : Trailing) (clause : List SatLit) (first literal : SatLit) : Type 0 where
   pub there : is_true clause literal ≡ true
   pub differs : literal.0 ≢ first.0
   pub top : IsAtTop trail (variable_of literal)
@@ -69,10 +69,10 @@ pub record ArePair (entries : List Assigned) (clause : List SatLit) (first secon
   pub first_guarded : IsGuarded entries first second
   pub second_guarded : IsGuarded entries second first
 
-abbrev pub IsFoot : Trailing → Trailing → List SatLit → Foot → Type 0
-IsFoot old new clause (Two first second) = ArePair new.entries clause first second
-IsFoot old new clause Rooted = IsRooted new.entries clause
-IsFoot old new clause Conflict = (effect_of (literals old.entries) clause ≡ AllFalse) × (new ≡ old)
+abbrev pub IsAttachment : Trailing → Trailing → List SatLit → Attachment → Type 0
+IsAttachment old new clause (Two first second) = ArePair new.entries clause first second
+IsAttachment old new clause Rooted = IsRooted new.entries clause
+IsAttachment old new clause Conflict = (effect_of (literals old.entries) clause ≡ AllFalse) × (new ≡ old)
 
 -- a trail stays, or what a clause leaves was assigned by it
 abbrev pub IsSettled : Trailing → Trailing → List SatLit → ℕ → Type 0

@@ -5,22 +5,22 @@ use Rattle.cnf_core.specs.declared.effect.Effect.TheVariants.{Makes}
 use Rattle.cnf_core.specs.declared.effect.Effect.TheVariants.{Conflict as AllFalse}
 use Rattle.cnf_core.specs.Derivations.{effect_of, is_false, is_true}
 use Rattle.trail_core.specs.Trails.{IsFree, Trailing, literals, with_assigned}
-use Rattle.watch_lists.specs.declared.looking.Look.{Look}
-use Rattle.watch_lists.specs.declared.looking.Look.TheVariants.{Holds, Open, Unit, Conflict}
+use Rattle.watch_lists.specs.declared.watch_choice.WatchState.{WatchState}
+use Rattle.watch_lists.specs.declared.watch_choice.WatchState.TheVariants.{Satisfied, Replacement, Unit, Conflict}
 
 -- A literal of a clause that isn't false and isn't this other one.
-pub record IsBeside (made clause : List SatLit) (other literal : SatLit) : Type 0 where
+pub record IsOtherNotFalse (made clause : List SatLit) (other literal : SatLit) : Type 0 where
   pub there : is_true clause literal ≡ true
   pub not_false : is_false made literal ≡ false
   pub differs : literal.0 ≢ other.0
 
 -- a literal is false, or is this other one
-abbrev pub IsOut : List SatLit → SatLit → SatLit → Type 0
-IsOut made other literal = (is_false made literal ≡ true) ⊎ (other.0 ≡ literal.0)
+abbrev pub IsFalseOrOther : List SatLit → SatLit → SatLit → Type 0
+IsFalseOrOther made other literal = (is_false made literal ≡ true) ⊎ (other.0 ≡ literal.0)
 
 -- it is neither
-abbrev pub IsIn : List SatLit → SatLit → SatLit → Type 0
-IsIn made other literal = (is_false made literal ≡ false) × (literal.0 ≢ other.0)
+abbrev pub IsNeither : List SatLit → SatLit → SatLit → Type 0
+IsNeither made other literal = (is_false made literal ≡ false) × (literal.0 ≢ other.0)
 
 -- A clause has this literal and another one, which is false.
 pub record IsHalfFalse (made clause : List SatLit) (other : SatLit) : Type 0 where
@@ -35,11 +35,11 @@ pub record IsLeft (trail : Trailing) (clause : List SatLit) (literal : SatLit) :
   pub makes : effect_of (literals trail.entries) clause ≡ Makes literal
   pub free : IsFree trail literal
 
-abbrev pub IsLook : Trailing → List SatLit → SatLit → Look → Type 0
-IsLook trail clause other Holds = is_true (literals trail.entries) other ≡ true
-IsLook trail clause other (Open literal) = IsBeside (literals trail.entries) clause other literal
-IsLook trail clause other Unit = IsLeft trail clause other
-IsLook trail clause other Conflict = effect_of (literals trail.entries) clause ≡ AllFalse
+abbrev pub IsWatchState : Trailing → List SatLit → SatLit → WatchState → Type 0
+IsWatchState trail clause other Satisfied = is_true (literals trail.entries) other ≡ true
+IsWatchState trail clause other (Replacement literal) = IsOtherNotFalse (literals trail.entries) clause other literal
+IsWatchState trail clause other Unit = IsLeft trail clause other
+IsWatchState trail clause other Conflict = effect_of (literals trail.entries) clause ≡ AllFalse
 
 -- The watch stays, since the other one is true.
 pub record IsSatisfied (old new : Trailing) (other falsified literal : SatLit) : Type 0 where
@@ -56,7 +56,7 @@ pub record IsMadeBy (old new : Trailing) (clause : List SatLit) (id : ℕ) (othe
 -- The watch moves to a literal that isn't false.
 pub record IsMovedTo (old new : Trailing) (clause : List SatLit) (other literal : SatLit) : Type 0 where
   pub same : new ≡ old
-  pub beside : IsBeside (literals old.entries) clause other literal
+  pub replacement : IsOtherNotFalse (literals old.entries) clause other literal
 
 -- what is watched in place of a literal that became false
 abbrev pub IsTarget : Trailing → Trailing → List SatLit → ℕ → SatLit → SatLit → SatLit → Type 0

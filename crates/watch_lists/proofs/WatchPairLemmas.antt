@@ -13,23 +13,23 @@ use Rattle.cnf_core.specs.Derivations.{effect_of, is_false, is_true}
 use Rattle.trail_core.specs.declared.assigned.Assigned.{Assigned}
 use Rattle.trail_core.specs.Trails.{IsTrail, Trailing, entry_at, literals, nothing}
 use Rattle.trail_core.proofs.TrailLemmas.{not_true, same_place, true_at}
-use Rattle.watch_lists.specs.Feet.{ArePair, IsElsewhere, IsFallen, IsGuarded, IsMade, IsOpen, IsReached, IsSettled}
-use Rattle.watch_lists.specs.Looks.{IsBeside, IsOut}
+use Rattle.watch_lists.specs.Attachments.{ArePair, IsElsewhere, IsOtherOfLevel, IsGuarded, IsMade, IsNotFalseOf, IsReached, IsSettled}
+use Rattle.watch_lists.specs.WatchStates.{IsOtherNotFalse, IsFalseOrOther}
 use Rattle.watch_lists.specs.Watched.{IsTrueBy, IsRooted}
 use Rattle.watch_lists.proofs.EffectLemmas.{IsMaker, all_but, conflict_from, makes_from, same_literal}
 use Rattle.watch_lists.proofs.FitLemmas.{consistent, true_by_here, true_not_false}
 
 -- a literal that isn't false is guarded by any other
-open_guarded : (es : List Assigned) (l other : SatLit) → is_false (literals es) l ≡ false → IsGuarded es l other
-open_guarded es l other free j within at = absurd (both_ways (is_false (literals es) l) free (true_at es j (opposite l) within at))
+not_false_guarded : (es : List Assigned) (l other : SatLit) → is_false (literals es) l ≡ false → IsGuarded es l other
+not_false_guarded es l other free j within at = absurd (both_ways (is_false (literals es) l) free (true_at es j (opposite l) within at))
 
-pub pair_open : (t : Trailing) (clause : List SatLit) (first second : SatLit) → IsOpen (literals t.entries) clause first → IsBeside (literals t.entries) clause first second → ArePair t.entries clause first second
-pair_open t clause first second open_one beside = record {
+pub pair_not_false : (t : Trailing) (clause : List SatLit) (first second : SatLit) → IsNotFalseOf (literals t.entries) clause first → IsOtherNotFalse (literals t.entries) clause first second → ArePair t.entries clause first second
+pair_not_false t clause first second open_one other_one = record {
   first_there = open_one.there;
-  second_there = beside.there;
-  differ = λ e. beside.differs (sym e);
-  first_guarded = open_guarded t.entries first second open_one.not_false;
-  second_guarded = open_guarded t.entries second first beside.not_false;
+  second_there = other_one.there;
+  differ = λ e. other_one.differs (sym e);
+  first_guarded = not_false_guarded t.entries first second open_one.not_false;
+  second_guarded = not_false_guarded t.entries second first other_one.not_false;
 }
 
 -- the literal that was made true is true
@@ -40,7 +40,7 @@ made_true old new l id (inr (free, is)) =
     let entries : new.entries ≡ old.entries ++ e ∷ [] = ap (λ (t : Trailing). t.entries) is in
     true_at new.entries (length old.entries) l (omega (arith, ap length entries, length-append old.entries (e ∷ []))) (ap (λ es. (entry_at es (length old.entries)).literal.0) entries ∙ ap (λ (x : Assigned). x.literal.0) (get_or_at old.entries e [] nothing (length old.entries) refl))
 
-pub made_settled : (old new : Trailing) (clause : List SatLit) (l : SatLit) (id : ℕ) → is_true clause l ≡ true → All (IsOut (literals old.entries) l) clause → is_false (literals old.entries) l ≡ false → IsMade old new l id → IsSettled old new clause id
+pub made_settled : (old new : Trailing) (clause : List SatLit) (l : SatLit) (id : ℕ) → is_true clause l ≡ true → All (IsFalseOrOther (literals old.entries) l) clause → is_false (literals old.entries) l ≡ false → IsMade old new l id → IsSettled old new clause id
 made_settled old new clause l id there others free (inl (same, holds)) = inl same
 made_settled old new clause l id there others free (inr (unassigned, is)) =
     let maker : IsMaker (literals old.entries) clause l = record {
@@ -68,22 +68,22 @@ reached_after old new clause l id reached (inr (free, is)) = λ above.
     }
 
 -- a true literal, and one that was assigned at the present level
-pub pair_fallen : (t : Trailing) → IsTrail t → (clause : List SatLit) (first second : SatLit) → is_true clause first ≡ true → is_true (literals t.entries) first ≡ true → IsFallen t clause first second → ArePair t.entries clause first second
-pair_fallen t trail clause first second there holds fallen = record {
+pub pair_of_level : (t : Trailing) → IsTrail t → (clause : List SatLit) (first second : SatLit) → is_true clause first ≡ true → is_true (literals t.entries) first ≡ true → IsOtherOfLevel t clause first second → ArePair t.entries clause first second
+pair_of_level t trail clause first second there holds other_one = record {
   first_there = there;
-  second_there = fallen.there;
-  differ = λ e. fallen.differs (sym e);
-  first_guarded = open_guarded t.entries first second (true_not_false t trail first holds);
+  second_there = other_one.there;
+  differ = λ e. other_one.differs (sym e);
+  first_guarded = not_false_guarded t.entries first second (true_not_false t trail first holds);
   second_guarded = λ j within at.
-      let p = fallen.top.place in
-      let same : variable_of (entry_at t.entries j).literal ≡ variable_of (entry_at t.entries p).literal = omega (arith, at, fallen.top.is_place.there) in
-      let here = same_place t trail j p within fallen.top.is_place.within same in
-      subst (λ n. IsTrueBy t.entries first n) (sym (ap (λ k. (entry_at t.entries k).level) here ∙ fallen.top.level)) (true_by_here t trail first holds);
+      let p = other_one.top.place in
+      let same : variable_of (entry_at t.entries j).literal ≡ variable_of (entry_at t.entries p).literal = omega (arith, at, other_one.top.is_place.there) in
+      let here = same_place t trail j p within other_one.top.is_place.within same in
+      subst (λ n. IsTrueBy t.entries first n) (sym (ap (λ k. (entry_at t.entries k).level) here ∙ other_one.top.level)) (true_by_here t trail first holds);
 }
 
--- a true literal that stands alone is true at level 0
-pub rooted_alone : (old t : Trailing) (id : ℕ) → IsTrail t → (clause : List SatLit) (first : SatLit) → IsReached old clause → IsMade old t first id → is_true clause first ≡ true → All (IsElsewhere t first) clause → IsRooted t.entries clause
-rooted_alone old t id trail clause first reached_old made there elsewhere =
+-- the true literal of a clause that was assigned where no other one was is true at level 0
+pub rooted_unit : (old t : Trailing) (id : ℕ) → IsTrail t → (clause : List SatLit) (first : SatLit) → IsReached old clause → IsMade old t first id → is_true clause first ≡ true → All (IsElsewhere t first) clause → IsRooted t.entries clause
+rooted_unit old t id trail clause first reached_old made there elsewhere =
     let holds = made_true old t first id made in
     let reached = reached_after old t clause first id reached_old made in
     let true_by = true_by_here t trail first holds in
@@ -106,14 +106,14 @@ rooted_alone old t id trail clause first reached_old made there elsewhere =
     }
 
 -- a clause all of whose literals are false
-pub none_open : (made clause : List SatLit) → All (λ y. is_false made y ≡ true) clause → effect_of made clause ≡ AllFalse
-none_open made clause all = conflict_from made clause (and_from_places (list_all (is_false made)) (is_false made) refl (λ _ _. refl) clause (record { 0 = 0 }) (λ k within. all k (record { 0 = 0 }) within))
+pub none_not_false : (made clause : List SatLit) → All (λ y. is_false made y ≡ true) clause → effect_of made clause ≡ AllFalse
+none_not_false made clause all = conflict_from made clause (and_from_places (list_all (is_false made)) (is_false made) refl (λ _ _. refl) clause (record { 0 = 0 }) (λ k within. all k (record { 0 = 0 }) within))
 
--- what is found beside it, or not
-pub found_fallen : (old new : Trailing) (clause : List SatLit) (first : SatLit) (id : ℕ) (found : Option SatLit) → IsTrail new → is_true clause first ≡ true → IsMade old new first id → IfSome found (IsFallen new clause first) → IfSome found (ArePair new.entries clause first)
-found_fallen old new clause first id None trail there made fallen = tt
-found_fallen old new clause first id (Some second) trail there made fallen = pair_fallen new trail clause first second there (made_true old new first id made) fallen
+-- whether another one is found, or none
+pub found_of_level : (old new : Trailing) (clause : List SatLit) (first : SatLit) (id : ℕ) (found : Option SatLit) → IsTrail new → is_true clause first ≡ true → IsMade old new first id → IfSome found (IsOtherOfLevel new clause first) → IfSome found (ArePair new.entries clause first)
+found_of_level old new clause first id None trail there made other_one = tt
+found_of_level old new clause first id (Some second) trail there made other_one = pair_of_level new trail clause first second there (made_true old new first id made) other_one
 
-pub none_fallen : (old new : Trailing) (clause : List SatLit) (first : SatLit) (id : ℕ) (found : Option SatLit) → IsTrail new → IsReached old clause → is_true clause first ≡ true → IsMade old new first id → IfNone found (All (IsElsewhere new first) clause) → IfNone found (IsRooted new.entries clause)
-none_fallen old new clause first id None trail reached there made elsewhere = rooted_alone old new id trail clause first reached made there elsewhere
-none_fallen old new clause first id (Some second) trail reached there made elsewhere = tt
+pub none_of_level : (old new : Trailing) (clause : List SatLit) (first : SatLit) (id : ℕ) (found : Option SatLit) → IsTrail new → IsReached old clause → is_true clause first ≡ true → IsMade old new first id → IfNone found (All (IsElsewhere new first) clause) → IfNone found (IsRooted new.entries clause)
+none_of_level old new clause first id None trail reached there made elsewhere = rooted_unit old new id trail clause first reached made there elsewhere
+none_of_level old new clause first id (Some second) trail reached there made elsewhere = tt

@@ -1,8 +1,8 @@
--- A binary clause has no literal beside its two watched ones.
+-- A binary clause has no literal but its two watched ones.
 use Rattle.cnf_core.specs.Clauses.{clause_at}
 use Rattle.trail_core.specs.Trails.{literals}
 use Rattle.watch_lists.proofs.EffectLemmas.{binary_out}
-use Rattle.watch_lists.proofs.looking.third.Goals as goal
+use Rattle.watch_lists.proofs.watch_choice.replacement.Goals as goal
 
 pub returns-then-is_binary-clause-none : goal.returns-then-is_binary-clause-none
 returns-then-is_binary-clause-none c =
