@@ -75,7 +75,8 @@ fn ban_of<O: Oracle>(
     }
 }
 
-/// The ban that claims of one input show of some pairs, among them that of an output. They are decided for both outputs.
+/// The ban that claims of one input show of some pairs, among them that of an output. They are decided for both
+/// outputs.
 pub(crate) fn ban_by_claims<O: Oracle>(
     graphs: &PairableGraphs<'_>,
     asker: &mut Asker<'_, O>,

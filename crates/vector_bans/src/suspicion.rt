@@ -138,8 +138,8 @@ fn ban_of<O: Oracle>(
     }
 }
 
-// The ban of suspected pairs by the vector, if the output's partner is wrong on it, whatever the inputs have that aren't
-// paired.
+// The ban of suspected pairs by the vector, if the output's partner is wrong on it, whatever the inputs have that
+// aren't paired.
 fn ban_by_vector(
     alloc: Global,
     graphs: &PairableGraphs<'_>,
