@@ -1,4 +1,4 @@
-use crate::broken_claims::BrokenClaims;
+use broken_claims::BrokenClaims;
 use oracle_core::Oracle;
 use query_core::Ledger;
 use std::alloc::Global;

@@ -8,9 +8,9 @@ ghost use Rattle.ban_book.specs.DecidedClaims.{AddsFact, IsDecidedAs};
 ghost use Rattle.fact_bans.specs.Asking.{AreSame, ServesBy, loans};
 
 use crate::asker::Asker;
-use crate::broken_claims::BrokenClaims;
 use account_core::Fact;
 use ban_book::DecidedClaim;
+use broken_claims::BrokenClaims;
 use claim_core::Claim;
 use cnf_core::Stop;
 use items::Items;

@@ -9,10 +9,10 @@ ghost use Rattle.fact_bans.specs.Carrying.{AreSwapPairs, all_of};
 ghost use Rattle.fact_bans.specs.Asking.{AreSame, MakesBy, MayMakeBy, loans};
 
 use crate::asker::Asker;
-use crate::broken_claims::BrokenClaims;
 use crate::mismatched::keep_carried;
 use account_core::PairableGraphs;
 use ban_book::{BanBook, Carried, two_inputs};
+use broken_claims::BrokenClaims;
 use circuits::Pair;
 use claim_core::{Claim, Shape, moved_value};
 use cnf_core::Stop;

@@ -10,10 +10,10 @@ ghost use Rattle.fact_bans.specs.Carrying.{IsPairOf};
 ghost use Rattle.fact_bans.specs.Asking.{AreSame, MakesBy, MayMakeBy, ServesBy, loans};
 
 use crate::asker::Asker;
-use crate::broken_claims::BrokenClaims;
 use crate::mismatched::{keep_carried, unlike_by};
 use account_core::PairableGraphs;
 use ban_book::{BanBook, Unlike, carry};
+use broken_claims::BrokenClaims;
 use circuits::Pair;
 use claim_core::moved_value;
 use cnf_core::Stop;
@@ -55,7 +55,7 @@ pub fn mismatch<O: Oracle>(
 /// # Errors
 ///
 /// As for `mismatch`.
-pub fn tell_apart<O: Oracle>(
+pub fn ask_difference<O: Oracle>(
     asker: &mut Asker<'_, O>,
     input: Pair,
     output: Pair,

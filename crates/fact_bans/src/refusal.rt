@@ -1,24 +1,22 @@
 //! A refusal by counts alone: outputs that all must go to others with which they don't fit.
 
-ghost use Rattle.std.specs.Prelude.{◌∷◌, [], All, IfOk, IfSome};
+ghost use Rattle.std.specs.Prelude.{All, IfOk, IfSome};
 ghost use Rattle.circuits.specs.declared.port.PortKind.TheVariants.{Output};
 ghost use Rattle.account_core.specs.Shown.{IsEmptyBan};
 ghost use Rattle.account_core.specs.Ports.{ports_in};
-ghost use Rattle.ban_book.specs.Covering.{Covers};
 ghost use Rattle.fact_bans.specs.Carrying.{IsPairOf};
 ghost use Rattle.fact_bans.specs.Referred.{AreReferred};
 ghost use Rattle.fact_bans.specs.Asking.{AreSame, MakesBy, MayAskBy, MayMakeBy, ServesBy, loans};
 ghost use Rattle.ban_book.specs.Ways.{IsBlock, ways_in};
 
 use crate::asker::Asker;
-use crate::broken_claims::BrokenClaims;
-use crate::classes::Classes;
 use crate::settling::settle;
 use crate::tallies::tally;
 use account_core::PairableGraphs;
 use ban_book::BanBook;
 use ban_book::block::{Block, marked, ways_in};
 use ban_book::cover::keep_cover;
+use broken_claims::{BrokenClaims, Classes};
 use circuits::{Pair, PortKind};
 use cnf_core::Stop;
 use items::Items;
@@ -180,29 +178,15 @@ fn bans_of<O: Oracle>(
 {
     let mut refs = Items::new(asker.alloc);
     for pair in ways.iter() {
-        let Some(number) = ban_of(graphs, asker, *pair, book)? else {
+        // made already, as by an earlier try
+        if let Some(known) = book.covering(&[*pair]) {
+            refs.push(Some(known))?;
+            continue;
+        }
+        let Some(number) = tally(graphs, asker, *pair, book)? else {
             return Ok(None);
         };
         refs.push(Some(number))?;
     }
     Ok(Some(refs))
-}
-
-// A ban of one way, made already, as by an earlier try, or by a tally.
-fn ban_of<O: Oracle>(
-    graphs: &PairableGraphs<'_>,
-    asker: &mut Asker<'_, O>,
-    pair: Pair,
-    book: &mut BanBook,
-) -> Result<Option<u64>, Stop>
-    requires may { MayMakeBy graphs.now (loans O.known asker.old) book.old }
-    requires outputs { IsPairOf graphs.now Output pair }
-    ensures same { AreSame (loans O.known asker.old) (loans O.known asker.new) }
-    ensures makes { MakesBy graphs.now (loans O.known asker.old) (loans O.known asker.new) book.old book.new result }
-    ensures covers { IfOk result (λ found. IfSome found (Covers book.new (pair ∷ []))) }
-{
-    if let Some(number) = book.covering(&[pair]) {
-        return Ok(Some(number));
-    }
-    tally(graphs, asker, pair, book)
 }

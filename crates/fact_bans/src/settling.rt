@@ -1,16 +1,15 @@
-//! Claims of one input that are open: neither vectors break them, nor do the paths from inputs to outputs show that they
-//! hold.
+//! Claims of one input that are open: neither vectors break them, nor do the paths from inputs to outputs show that
+//! they hold.
 
 ghost use Rattle.std.specs.Prelude.{IfSome};
 ghost use Rattle.claim_core.specs.Claims.{IsClaim};
 ghost use Rattle.fact_bans.specs.Asking.{AreSame, MayAskBy, ServesBy, loans};
 
 use crate::asker::Asker;
-use crate::broken_claims::{BrokenClaims, OneInput};
 use crate::deciding::decide;
-use crate::sampling::Sample;
 use account_core::{Evidence, Fact, PairableGraphs};
 use ban_book::one_input;
+use broken_claims::{BrokenClaims, OneInput, Sample};
 use claim_core::Claim;
 use cnf_core::Stop;
 use net_core::Side;
@@ -20,7 +19,7 @@ use std::alloc::{AllocError, Global};
 /// How many lines may be learned before no more claims are asked: about half a second's.
 const MOST_LINES: u64 = 20_000;
 
-/// By what vectors near others are drawn. Questions gave these, so that one seed serves all runs.
+/// The seed of the vectors near those that questions gave. It may be the same in each run.
 const SEED: u64 = 1;
 
 /// Has the claims of one input decided that are open, one output after the other, until many lines are learned. Where

@@ -11,7 +11,7 @@ ghost use Rattle.fact_bans.specs.Asking.{AreSame, MakesBy, MayAskBy, MayMakeBy, 
 
 use crate::asker::Asker;
 use crate::lists::{Wanted, list};
-use crate::plan::Plan;
+use crate::tally_plan::TallyPlan;
 use account_core::{PairableGraphs, other_side, port_on};
 use ban_book::{BanBook, Lists, tally_ban};
 use circuits::Pair;
@@ -39,7 +39,7 @@ pub fn tally<O: Oracle>(
     ensures covers { IfOk result (λ found. IfSome found (Covers book.new (pair ∷ []))) }
 {
     let inputs = graphs.first().inputs();
-    let Some(plan) = Plan::new(asker.alloc, pair, inputs, asker.broken)? else {
+    let Some(plan) = TallyPlan::new(asker.alloc, pair, inputs, asker.broken)? else {
         return Ok(None);
     };
     tally_by(graphs, asker, pair, &plan, book)
@@ -50,7 +50,7 @@ fn tally_by<O: Oracle>(
     graphs: &PairableGraphs<'_>,
     asker: &mut Asker<'_, O>,
     pair: Pair,
-    plan: &Plan,
+    plan: &TallyPlan,
     book: &mut BanBook,
 ) -> Result<Option<u64>, Stop>
     requires may { MayMakeBy graphs.now (loans O.known asker.old) book.old }
@@ -76,7 +76,7 @@ fn ask<O: Oracle>(
     graphs: &PairableGraphs<'_>,
     asker: &mut Asker<'_, O>,
     pair: Pair,
-    plan: &Plan,
+    plan: &TallyPlan,
 ) -> Result<Option<Lists>, Stop>
     requires may { MayAskBy graphs.now (loans O.known asker.old) }
     requires outputs { IsPairOf graphs.now Output pair }

@@ -12,10 +12,11 @@ ghost use Rattle.match_search.specs.States.{Deletes, GoesOn, MayGoOn, MayStep, S
 use crate::asking::input_and_output;
 use crate::session::Session;
 use account_core::{PairableGraphs, port_on};
+use broken_claims::BrokenClaims;
 use circuits::{Pair, PortKind};
 use class_refine::{Domains, Reason};
 use cnf_core::Stop;
-use fact_bans::{BrokenClaims, Unlike, tell_apart};
+use fact_bans::{Unlike, ask_difference};
 use net_core::Side;
 use oracle_core::Oracle;
 use pair_search::is_open;
@@ -206,5 +207,5 @@ fn unlike_beside<O: Oracle>(
     let Some((input, output)) = input_and_output(pair, way) else {
         return Ok(None);
     };
-    tell_apart(&mut session.asker, input, output)
+    ask_difference(&mut session.asker, input, output)
 }

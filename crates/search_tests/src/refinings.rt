@@ -14,10 +14,11 @@ use crate::sample_circuits::{
 };
 use account_core::{Ban, PairableGraphs};
 use ban_book::BanBook;
+use broken_claims::BrokenClaims;
 use circuits::{Pair, PortKind};
 use class_refine::{Cause, Domains, Refined, refine};
 use cnf_core::Stop;
-use fact_bans::{Asker, BrokenClaims};
+use fact_bans::Asker;
 use net_core::{Graphs, Side};
 use oracle_core::Oracle;
 use pair_search::{Deletion, Mismatches, deletion_of, is_open};

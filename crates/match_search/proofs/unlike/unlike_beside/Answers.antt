@@ -12,19 +12,19 @@ use Rattle.match_search.proofs.unlike.unlike_beside.Goals as goal
 pub returns-in_default-clause-goes_on : goal.returns-in_default-clause-goes_on
 returns-in_default-clause-goes_on g c = goes_ok (gone_none c.requires.may)
 
-pub tell_apart-requires : goal.tell_apart-requires
-tell_apart-requires g c =
+pub ask_difference-requires : goal.ask_difference-requires
+ask_difference-requires g c =
     let both = both_pairs c.requires.may.graphs_are (rw c.in-Some.is at c.input_and_output.ensures) c.requires.known c.requires.way in
     record { suits = c.requires.may.suits; input = both.0; output = both.1 }
 
 pub returns : goal.returns
 returns g c =
     let both = rw c.in-Some.is at c.input_and_output.ensures in
-    let facts = map decided_by (g.O.Oracle.known c.tell_apart.new.asker.oracle.now).facts in
+    let facts = map decided_by (g.O.Oracle.known c.ask_difference.new.asker.oracle.now).facts in
     let known = (g.O.Oracle.known c.args.session.now.asker.oracle.now).graphs in
     record {
-      goes_on = goes_told c.requires.may c.tell_apart.ensures.same c.tell_apart.ensures.serves;
+      goes_on = goes_told c.requires.may c.ask_difference.ensures.same c.ask_difference.ensures.serves;
       shown =
-          subst (λ (gr : Graphs). IfOk c.tell_apart.result (λ found. IfSome found (λ unlike. IsGrounded gr facts c.args.way (Deleted (Mismatch c.args.pair unlike.fails unlike.holds))))) (sym c.requires.may.graphs_are)
-          (shown_of known facts c.args.pair c.args.way _ c.tell_apart.result (in_order_of both) c.tell_apart.ensures.shown);
+          subst (λ (gr : Graphs). IfOk c.ask_difference.result (λ found. IfSome found (λ unlike. IsGrounded gr facts c.args.way (Deleted (Mismatch c.args.pair unlike.fails unlike.holds))))) (sym c.requires.may.graphs_are)
+          (shown_of known facts c.args.pair c.args.way _ c.ask_difference.result (in_order_of both) c.ask_difference.ensures.shown);
     }

@@ -1,5 +1,5 @@
 use Rattle.fact_bans.proofs.CarryLemmas.{carry_one}
-use Rattle.fact_bans.proofs.mismatches.tell_apart.Goals as goal
+use Rattle.fact_bans.proofs.mismatches.ask_difference.Goals as goal
 
 pub unlike_by-requires-clause-claim : goal.unlike_by-requires-clause-claim
 unlike_by-requires-clause-claim g c =

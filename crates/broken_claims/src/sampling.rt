@@ -17,26 +17,36 @@ const MOST_BLOCKS: u64 = 64;
 /// The fewest: an input of a wide gate isn't seen on fewer.
 const LEAST_BLOCKS: u64 = 4;
 
-/// How many of the first blocks tell what vectors commonly show: as many vectors as claims are tried on before they are
+/// How many of the first blocks show what vectors commonly show: as many vectors as claims are tried on before they are
 /// asked (`fact_tests`).
 const COMMON_BLOCKS: u64 = 2;
 
-/// How many words of gates may be computed on vectors near those that showed something new.
+/// How many words of gates may be computed on vectors near those that showed something new: four times as many as on
+/// drawn ones, about half a second, since each claim that they break is a question less.
 const MOST_NEAR_WORDS: u64 = 1 << 27;
 
-/// How many blocks these are at most.
+/// How many blocks these are at most, a million vectors. One of each four shows something new, so that only circuits
+/// with more than a thousand claims come so far.
 const MOST_NEAR_BLOCKS: u32 = 4_096;
 
-/// How many of them may show nothing new one after the other.
+/// How many of them may show nothing new one after the other: two near others and two drawn ones. With more of them
+/// time is spent on claims that hold, and with fewer more claims that fail are left to questions.
 const MOST_QUIET: u32 = 4;
 
-/// How many blocks are looked at near a vector that a question gave.
+/// How many blocks are looked at near a vector that a question gave. More of them take longer after each such question,
+/// and leave fewer claims to be asked.
 const BLOCKS_OF_ANSWER: u32 = 2;
+
+/// The bit of the claim that an output never falls where an input goes up, where a number has both claims of the input.
+const UP: u8 = 1;
+
+/// The bit of the claim that it never falls where the input goes down.
+const DOWN: u8 = 2;
 
 /// What is known of an input of an output: by which paths it reaches the output, and whether a vector breaks the claim
 /// that the output never falls where the input goes up, or down.
 #[derive(Clone, Copy, Debug, Drop)]
-pub(crate) struct Flips {
+pub struct Flips {
     paths: Paths,
     breaks_up: bool,
     breaks_down: bool,
@@ -73,8 +83,8 @@ impl Flips {
     /// Bit 0 says that a vector breaks the claim for the input going up, bit 1 that one breaks the claim for it going
     /// down.
     pub(crate) fn broken(self) -> u8 {
-        let up = if self.breaks_up { 1 } else { 0 };
-        let down = if self.breaks_down { 2 } else { 0 };
+        let up = if self.breaks_up { UP } else { 0 };
+        let down = if self.breaks_down { DOWN } else { 0 };
         up | down
     }
 
@@ -93,7 +103,7 @@ impl Flips {
     }
 
     /// Whether the output is known to depend on the input, or to be binate in it.
-    pub(crate) fn is_of(self, kind: Tallied) -> bool {
+    pub fn is_of(self, kind: Tallied) -> bool {
         match kind {
             Tallied::Support => self.breaks_up | self.breaks_down,
             Tallied::Binate => self.breaks_up & self.breaks_down,
@@ -101,7 +111,7 @@ impl Flips {
     }
 
     /// Whether the output can't be of a kind in the input, by the paths from the input to it.
-    pub(crate) fn is_never(self, kind: Tallied) -> bool {
+    pub fn is_never(self, kind: Tallied) -> bool {
         match kind {
             Tallied::Support => !self.reaches(),
             Tallied::Binate => !(self.paths.even & self.paths.odd),
@@ -109,17 +119,17 @@ impl Flips {
     }
 
     /// Whether vectors commonly show that the output depends on the input, or is binate in it.
-    pub(crate) fn is_commonly(self, kind: Tallied) -> bool {
+    pub fn is_commonly(self, kind: Tallied) -> bool {
         match kind {
             Tallied::Support => self.common > 0,
-            Tallied::Binate => self.common == 3,
+            Tallied::Binate => self.common == UP | DOWN,
         }
     }
 
     /// The value of a claim of the input that fails, if one does: one that vectors commonly break where there is one.
-    pub(crate) fn failing_value(self) -> bool {
+    pub fn failing_value(self) -> bool {
         if self.common > 0 {
-            self.common == 2
+            self.common == DOWN
         } else {
             !self.breaks_up
         }
@@ -127,7 +137,7 @@ impl Flips {
 
     /// The value of a claim of the input that may hold, of which one isn't broken: one that holds by paths where there
     /// is one.
-    pub(crate) fn holding_value(self) -> bool {
+    pub fn holding_value(self) -> bool {
         if self.breaks_up {
             true
         } else {
@@ -211,7 +221,7 @@ fn unseen_row(alloc: Global, paths: &[Paths]) -> Result<Vec<Flips>, AllocError> 
 }
 
 /// A circuit on vectors that are drawn, or are near those that showed something.
-pub(crate) struct Sample<'a> {
+pub struct Sample<'a> {
     simulator: FlipSim<'a>,
     mutants: Mutants,
 }
@@ -227,12 +237,12 @@ impl Drop for Sample<'_> {
 }
 
 impl<'a> Sample<'a> {
-    /// Nothing is drawn yet.
-    pub(crate) fn new(
-        alloc: Global,
-        graph: &'a Graph,
-        seed: u64,
-    ) -> Result<Sample<'a>, AllocError> {
+    /// Nothing is drawn yet; the seed says what will be.
+    ///
+    /// # Errors
+    ///
+    /// Only when out of memory.
+    pub fn new(alloc: Global, graph: &'a Graph, seed: u64) -> Result<Sample<'a>, AllocError> {
         Ok(Sample {
             simulator: FlipSim::new(alloc, graph)?,
             mutants: Mutants::new(alloc, seed),
@@ -249,7 +259,7 @@ impl<'a> Sample<'a> {
                 mark_common(rows);
             }
             let is_all = blocks == all;
-            put_block(&mut self.simulator, block, is_all, &mut self.mutants.draws);
+            send_block(&mut self.simulator, block, is_all, &mut self.mutants.draws);
             self.look(rows)?;
         }
         Ok(blocks == all)
@@ -264,9 +274,9 @@ impl<'a> Sample<'a> {
                 return Ok(());
             }
             if (turn % 2 == 0) & !self.mutants.is_empty() {
-                self.mutants.put(&mut self.simulator);
+                self.mutants.send(&mut self.simulator);
             } else {
-                put_block(&mut self.simulator, 0, false, &mut self.mutants.draws);
+                send_block(&mut self.simulator, 0, false, &mut self.mutants.draws);
             }
             let is_new = self.look(rows)?;
             quiet = if is_new { 0 } else { quiet.saturating_add(1) };
@@ -283,7 +293,7 @@ impl<'a> Sample<'a> {
         self.mutants.clear();
         self.mutants.keep(vector)?;
         for _ in 0..BLOCKS_OF_ANSWER {
-            self.mutants.put(&mut self.simulator);
+            self.mutants.send(&mut self.simulator);
             self.look(rows)?;
         }
         Ok(())
@@ -362,7 +372,7 @@ fn note_output(row: &mut [Flips], simulator: &FlipSim<'_>, output: u32, input: u
 }
 
 /// Gives the inputs a block of all vectors, or a drawn one.
-pub(crate) fn put_block(simulator: &mut FlipSim<'_>, block: u64, is_all: bool, draws: &mut Draws) {
+pub(crate) fn send_block(simulator: &mut FlipSim<'_>, block: u64, is_all: bool, draws: &mut Draws) {
     for input in 0..simulator.graph().inputs() {
         let lanes = if is_all {
             all_lanes(input, block)

@@ -1,6 +1,6 @@
 //! Claims of two inputs that vectors break.
 
-use crate::sampling::put_block;
+use crate::sampling::send_block;
 use claim_core::Shape;
 use net_core::Graph;
 use port_cells::{Draws, FlipSim, Lanes, blocks_of_all, ones_in};
@@ -358,7 +358,7 @@ pub(crate) fn swaps_seen(
     let mut draws = Draws::new(seed);
     let is_all = blocks == blocks_of_all(graph.inputs());
     for block in 0..blocks {
-        put_block(&mut simulator, block, is_all, &mut draws);
+        send_block(&mut simulator, block, is_all, &mut draws);
         simulator.run();
         swaps.add(&simulator, &mut other);
     }

@@ -1,15 +1,14 @@
 //! Which claims a tally of two outputs asks.
 
-use crate::broken_claims::BrokenClaims;
-use crate::sampling::Flips;
 use account_core::{Tallied, other_side, port_on};
+use broken_claims::{BrokenClaims, Flips};
 use circuits::Pair;
 use net_core::Side;
 use std::alloc::{AllocError, Global};
 
 /// Which claims a tally asks: of one output, that of a side, one claim of each of some inputs, which should hold, or
 /// fail; of the other output both claims of each of some inputs, which should do the opposite.
-pub(crate) struct Plan {
+pub(crate) struct TallyPlan {
     pub(crate) side: Side,
     pub(crate) holds: bool,
     /// For each input the value of the claim that is asked, if one is.
@@ -19,9 +18,9 @@ pub(crate) struct Plan {
 }
 
 // By hand, so that each exit of a function has one call for it (docs/IDIOMS.md).
-impl Drop for Plan {
+impl Drop for TallyPlan {
     fn drop(self) {
-        let Plan {
+        let TallyPlan {
             side: _side,
             holds: _holds,
             one: _one,
@@ -30,7 +29,7 @@ impl Drop for Plan {
     }
 }
 
-impl Plan {
+impl TallyPlan {
     /// What is worth asking of a pair of outputs of n inputs: None where vectors don't show that one of them depends on
     /// more inputs, or is binate in more.
     pub(crate) fn new(
@@ -38,7 +37,7 @@ impl Plan {
         pair: Pair,
         inputs: u32,
         broken: &BrokenClaims,
-    ) -> Result<Option<Plan>, AllocError> {
+    ) -> Result<Option<TallyPlan>, AllocError> {
         let support = Tallied::Support;
         if let Some(side) = more_on(pair, support, broken) {
             return Ok(Some(by_kind(alloc, pair, side, support, inputs, broken)?));
@@ -64,10 +63,10 @@ fn more_on(pair: Pair, kind: Tallied, broken: &BrokenClaims) -> Option<Side> {
     }
 }
 
-// Plans the tally of one kind: inputs in the support, or binate ones. Of the output that has more of the kind inputs are
-// asked that vectors show to be of it, by the claims that they break; of the other output inputs that aren't known to
-// be of the kind, not to be it: one more in all than there are inputs. Where vectors show inputs of the one rarely, a
-// question for each, they are left out, as many as the other one has inputs more that can't be of the kind by paths.
+// Plans the tally of one kind: inputs in the support, or binate ones. Of the output with more such inputs, those are
+// asked that vectors show; of the other one, those that aren't known to be such. Together one more than there are
+// inputs. An input that vectors show rarely takes a question, and one that can't be of the kind by paths takes none:
+// where the other output has enough of these, rare ones are left out.
 fn by_kind(
     alloc: Global,
     pair: Pair,
@@ -75,7 +74,7 @@ fn by_kind(
     kind: Tallied,
     inputs: u32,
     broken: &BrokenClaims,
-) -> Result<Plan, AllocError> {
+) -> Result<TallyPlan, AllocError> {
     let other = other_side(side);
     let having = broken.row(side, port_on(side, pair));
     let lacking = broken.row(other, port_on(other, pair));
@@ -84,17 +83,17 @@ fn by_kind(
     let all = broken.count(side, port_on(side, pair), kind);
     let needed = inputs.saturating_add(1).saturating_sub(never);
     let asked = needed.max(common).min(all);
-    let have = with(alloc, having, kind, asked)?;
+    let have = failing_values(alloc, having, kind, asked)?;
     let wanted = inputs.saturating_add(1).saturating_sub(asked);
-    let lack = without(alloc, lacking, kind, wanted)?;
+    let lack = unbroken_values(alloc, lacking, kind, wanted)?;
     match kind {
-        Tallied::Support => Ok(Plan {
+        Tallied::Support => Ok(TallyPlan {
             side,
             holds: false,
             one: have,
             both: lack,
         }),
-        Tallied::Binate => Ok(Plan {
+        Tallied::Binate => Ok(TallyPlan {
             side: other,
             holds: true,
             one: lack,
@@ -127,7 +126,7 @@ fn count_common(row: &[Flips], kind: Tallied) -> u32 {
 
 // For that many inputs that are of a kind the value of a claim that fails: first for those of which vectors commonly
 // show it.
-fn with(
+fn failing_values(
     alloc: Global,
     row: &[Flips],
     kind: Tallied,
@@ -136,19 +135,33 @@ fn with(
     let mut values = vec![in alloc; None; row.len()]?;
     let mut left = wanted;
     for is_common in [true, false] {
-        for (flips, value) in row.iter().zip(values.iter_mut()) {
-            if (left > 0) & (flips.is_commonly(kind) == is_common) & flips.is_of(kind) {
-                *value = Some(flips.failing_value());
-                left = left.saturating_sub(1);
-            }
-        }
+        left = set_failing(&mut values, row, kind, is_common, left);
     }
     Ok(values)
 }
 
+// Sets the values of that many inputs at most that are of a kind, of those of which vectors commonly show it, or of the
+// others. Answers how many values are still wanted.
+fn set_failing(
+    values: &mut [Option<bool>],
+    row: &[Flips],
+    kind: Tallied,
+    is_common: bool,
+    wanted: u32,
+) -> u32 {
+    let mut left = wanted;
+    for (flips, value) in row.iter().zip(values.iter_mut()) {
+        if (left > 0) & (flips.is_commonly(kind) == is_common) & flips.is_of(kind) {
+            *value = Some(flips.failing_value());
+            left = left.saturating_sub(1);
+        }
+    }
+    left
+}
+
 // For that many inputs that aren't known to be of a kind the value of a claim that no vector breaks: first for those
 // that can't be of it by paths, whose claims hold by structure or nearly so; then for others.
-fn without(
+fn unbroken_values(
     alloc: Global,
     row: &[Flips],
     kind: Tallied,
@@ -157,12 +170,26 @@ fn without(
     let mut values = vec![in alloc; None; row.len()]?;
     let mut left = wanted;
     for is_never in [true, false] {
-        for (flips, value) in row.iter().zip(values.iter_mut()) {
-            if (left > 0) & (flips.is_never(kind) == is_never) & !flips.is_of(kind) {
-                *value = Some(flips.holding_value());
-                left = left.saturating_sub(1);
-            }
-        }
+        left = set_unbroken(&mut values, row, kind, is_never, left);
     }
     Ok(values)
+}
+
+// Sets the values of that many inputs at most that aren't known to be of a kind, of those that can't be of it by paths,
+// or of the others. Answers how many values are still wanted.
+fn set_unbroken(
+    values: &mut [Option<bool>],
+    row: &[Flips],
+    kind: Tallied,
+    is_never: bool,
+    wanted: u32,
+) -> u32 {
+    let mut left = wanted;
+    for (flips, value) in row.iter().zip(values.iter_mut()) {
+        if (left > 0) & (flips.is_never(kind) == is_never) & !flips.is_of(kind) {
+            *value = Some(flips.holding_value());
+            left = left.saturating_sub(1);
+        }
+    }
+    left
 }

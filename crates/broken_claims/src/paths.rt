@@ -3,6 +3,9 @@
 use net_core::{Graph, Lit};
 use std::alloc::{AllocError, Global};
 
+/// Of how many inputs the paths are computed at once, one a bit of a word.
+const WORD: u32 = 64;
+
 /// By which paths an input reaches an output through gates. Where all have an even number of negations the output never
 /// falls as the input goes up, and where all have an odd one it never falls as the input goes down.
 #[derive(Clone, Copy, Debug, Drop)]
@@ -42,8 +45,8 @@ impl PathWords {
     // Those of one of the inputs.
     fn of(self, place: u32) -> Paths {
         Paths {
-            even: (self.even >> (place % 64)) % 2 == 1,
-            odd: (self.odd >> (place % 64)) % 2 == 1,
+            even: (self.even >> (place % WORD)) % 2 == 1,
+            odd: (self.odd >> (place % WORD)) % 2 == 1,
         }
     }
 }
@@ -53,12 +56,18 @@ pub(crate) fn paths_to_outputs(
     alloc: Global,
     graph: &Graph,
 ) -> Result<Vec<Vec<Paths>>, AllocError> {
-    let mut rows = Vec::new(alloc);
-    for _ in 0..graph.outputs().len() {
-        rows.push(Vec::new(alloc))?;
+    let mut rows = empty_rows(alloc, graph.outputs().len())?;
+    for block in 0..graph.inputs().div_ceil(WORD) {
+        add_inputs(alloc, graph, block.saturating_mul(WORD), &mut rows)?;
     }
-    for block in 0..graph.inputs().div_ceil(64) {
-        add_inputs(alloc, graph, block.saturating_mul(64), &mut rows)?;
+    Ok(rows)
+}
+
+// So many rows without an entry.
+fn empty_rows(alloc: Global, count: usize) -> Result<Vec<Vec<Paths>>, AllocError> {
+    let mut rows = Vec::with_capacity(alloc, count)?;
+    for _ in 0..count {
+        rows.push(Vec::new(alloc))?;
     }
     Ok(rows)
 }
@@ -71,7 +80,7 @@ fn add_inputs(
     rows: &mut [Vec<Paths>],
 ) -> Result<(), AllocError> {
     let words = words_of(alloc, graph, first)?;
-    let count = graph.inputs().saturating_sub(first).min(64);
+    let count = graph.inputs().saturating_sub(first).min(WORD);
     for (row, literal) in rows.iter_mut().zip(graph.outputs().iter()) {
         add_to(row, of_literal(&words, *literal), count)?;
     }
@@ -87,13 +96,19 @@ fn add_to(row: &mut Vec<Paths>, words: PathWords, count: u32) -> Result<(), Allo
 
 // By which paths the 64 inputs from one on reach each signal.
 fn words_of(alloc: Global, graph: &Graph, first: u32) -> Result<Vec<PathWords>, AllocError> {
+    let mut words = words_of_inputs(alloc, graph, first)?;
+    for gate in graph.gates().iter() {
+        words.push(of_literal(&words, gate.a).or(of_literal(&words, gate.b)))?;
+    }
+    Ok(words)
+}
+
+// By which paths the 64 inputs from one on reach the constant and each input, with room for all signals.
+fn words_of_inputs(alloc: Global, graph: &Graph, first: u32) -> Result<Vec<PathWords>, AllocError> {
     let mut words = Vec::with_capacity(alloc, graph.signals())?;
     words.push(PathWords::none())?;
     for input in 0..graph.inputs() {
         words.push(of_input(input.wrapping_sub(first)))?;
-    }
-    for gate in graph.gates().iter() {
-        words.push(of_literal(&words, gate.a).or(of_literal(&words, gate.b)))?;
     }
     Ok(words)
 }
@@ -101,7 +116,7 @@ fn words_of(alloc: Global, graph: &Graph, first: u32) -> Result<Vec<PathWords>, 
 // An input reaches itself. Those that aren't among the 64 have no bit.
 fn of_input(place: u32) -> PathWords {
     PathWords {
-        even: if place < 64 { 1 << (place % 64) } else { 0 },
+        even: if place < WORD { 1 << (place % WORD) } else { 0 },
         odd: 0,
     }
 }

@@ -3,11 +3,16 @@
 use port_cells::{Draws, FlipSim, Lanes, VECTORS, bit_of, port_at, with_bit};
 use std::alloc::{AllocError, Global};
 
-/// How many vectors are kept at most.
+/// How many vectors are kept at most, so that each is in a block of 256 at least twice, with other inputs inverted. With
+/// fewer each has more mutants, but vectors of fewer claims are kept.
 const MOST_PARENTS: usize = 128;
 
-/// How many inputs of a mutant are inverted at most.
+/// How many inputs of a mutant are inverted at most. That a carry goes one place further takes one or two; with more
+/// inverted ones most mutants lose what their parent showed.
 const MOST_INVERTED: usize = 3;
+
+/// How many vectors are in a word, one a bit.
+const WORD: usize = 64;
 
 /// Vectors that showed something, and what is drawn near them: where few vectors break a claim, as those on which a
 /// carry goes far, the next ones are near those that are known.
@@ -76,11 +81,9 @@ impl Mutants {
 
     /// Gives a simulator's inputs 256 vectors that are kept, one after the other and again, each with one to three
     /// inputs inverted, but for the first.
-    pub(crate) fn put(&mut self, simulator: &mut FlipSim<'_>) {
+    pub(crate) fn send(&mut self, simulator: &mut FlipSim<'_>) {
         let first = self.draws.below(self.parents.len());
-        for input in 0..simulator.graph().inputs() {
-            simulator.set_input(input, column_of(&self.parents, first, input));
-        }
+        send_parents(&self.parents, first, simulator);
         for vector in 1..VECTORS {
             let count = self.draws.below(MOST_INVERTED).saturating_add(1);
             self.invert(simulator, vector, count);
@@ -112,21 +115,28 @@ fn vector_of(
     Ok(bits)
 }
 
+// Gives a simulator's inputs 256 of the vectors, from one on.
+fn send_parents(parents: &[Vec<bool>], first: usize, simulator: &mut FlipSim<'_>) {
+    for input in 0..simulator.graph().inputs() {
+        simulator.set_input(input, column_of(parents, first, input));
+    }
+}
+
 // What an input has on 256 of the vectors, from one on.
 fn column_of(parents: &[Vec<bool>], first: usize, input: u32) -> Lanes {
     Lanes::from_array([
         word_of(parents, first, input),
-        word_of(parents, first.saturating_add(64), input),
-        word_of(parents, first.saturating_add(128), input),
-        word_of(parents, first.saturating_add(192), input),
+        word_of(parents, first.saturating_add(WORD), input),
+        word_of(parents, first.saturating_add(2 * WORD), input),
+        word_of(parents, first.saturating_add(3 * WORD), input),
     ])
 }
 
 fn word_of(parents: &[Vec<bool>], first: usize, input: u32) -> u64 {
     let mut word = 0u64;
-    for place in 0..64usize {
+    for place in 0..WORD {
         if bit_at(parents, first.saturating_add(place), input) {
-            word |= 1u64 << (place % 64);
+            word |= 1u64 << (place % WORD);
         }
     }
     word

@@ -41,11 +41,11 @@ impl Drop for BrokenClaims {
 
 /// A claim of one input: it goes up from false, and down from true.
 #[derive(Clone, Copy, Debug, Drop)]
-pub(crate) struct OneInput {
-    pub(crate) side: Side,
-    pub(crate) output: u32,
-    pub(crate) input: u32,
-    pub(crate) value: bool,
+pub struct OneInput {
+    pub side: Side,
+    pub output: u32,
+    pub input: u32,
+    pub value: bool,
 }
 
 /// What vectors showed of claims of two inputs.
@@ -78,6 +78,7 @@ impl BrokenClaims {
     ) -> Result<BrokenClaims, AllocError> {
         let inputs = graphs.first().inputs() as usize;
         let outputs = graphs.first().outputs().len();
+        // two claims of each input, and two circuits
         let claims = inputs.saturating_mul(outputs).saturating_mul(4);
         Ok(BrokenClaims {
             first: sampled(alloc, graphs.first(), seed)?,
@@ -91,7 +92,11 @@ impl BrokenClaims {
     }
 
     /// Looks for claims of two inputs that vectors break, unless that was done. Of large circuits nothing is seen.
-    pub(crate) fn look_at_swaps(
+    ///
+    /// # Errors
+    ///
+    /// Only when out of memory.
+    pub fn look_at_swaps(
         &mut self,
         alloc: Global,
         graphs: &PairableGraphs<'_>,
@@ -102,8 +107,12 @@ impl BrokenClaims {
         Ok(())
     }
 
-    /// Looks at a vector of a circuit, a bit for each input, and at others near it.
-    pub(crate) fn look_near(
+    /// Looks at a vector of a circuit, a bit for each input, and at others near it; the sample is of the circuit too.
+    ///
+    /// # Errors
+    ///
+    /// Only when out of memory.
+    pub fn look_near(
         &mut self,
         side: Side,
         sample: &mut Sample<'_>,
@@ -117,7 +126,7 @@ impl BrokenClaims {
     }
 
     /// What vectors show of each input at an output of a circuit.
-    pub(crate) fn row(&self, side: Side, output: u32) -> &[Flips] {
+    pub fn row(&self, side: Side, output: u32) -> &[Flips] {
         let rows = match side {
             Side::First => &self.first,
             Side::Second => &self.second,
@@ -138,7 +147,7 @@ impl BrokenClaims {
     }
 
     /// Whether a vector breaks the claim of an input with a value.
-    pub(crate) fn is_broken(&self, side: Side, output: u32, input: u32, value: bool) -> bool {
+    pub fn is_broken(&self, side: Side, output: u32, input: u32, value: bool) -> bool {
         match self.row(side, output).get(input as usize) {
             Some(flips) => flips.is_broken(value),
             None => false,
@@ -146,7 +155,7 @@ impl BrokenClaims {
     }
 
     /// Whether a vector breaks a claim of two inputs. It is None where nothing is known of these.
-    pub(crate) fn is_swap_broken(&self, claim: Claim) -> Option<bool> {
+    pub fn is_swap_broken(&self, claim: Claim) -> Option<bool> {
         let swaps = self.swaps.as_ref()?;
         let side = match claim.side {
             Side::First => &swaps.first,
@@ -157,7 +166,7 @@ impl BrokenClaims {
 
     /// Whether a claim of two inputs holds by unateness, as far as vectors show: the output falls neither where the one
     /// input changes nor where the other one does.
-    pub(crate) fn is_by_unateness(&self, claim: Claim) -> bool {
+    pub fn is_by_unateness(&self, claim: Claim) -> bool {
         let Shape::Swap { i, j, a, b } = claim.shape else {
             return false;
         };
@@ -166,7 +175,7 @@ impl BrokenClaims {
     }
 
     /// In how many inputs an output is of a kind.
-    pub(crate) fn count(&self, side: Side, output: u32, kind: Tallied) -> u32 {
+    pub fn count(&self, side: Side, output: u32, kind: Tallied) -> u32 {
         let mut count = 0u32;
         for flips in self.row(side, output).iter() {
             if flips.is_of(kind) {
@@ -177,7 +186,7 @@ impl BrokenClaims {
     }
 
     /// The number that was noted of a claim's fact.
-    pub(crate) fn number(&self, claim: Claim) -> Option<u64> {
+    pub fn number(&self, claim: Claim) -> Option<u64> {
         let number = *self.numbers.get(self.place(claim)?)?;
         if number == NOT_NOTED {
             return None;
@@ -186,13 +195,13 @@ impl BrokenClaims {
     }
 
     /// How many claims of one input there are, of both circuits.
-    pub(crate) fn claims(&self) -> usize {
+    pub fn claims(&self) -> usize {
         self.numbers.len()
     }
 
     /// The claim of one input that stands at a place, if it isn't decided, and neither vectors break it nor the paths
     /// from the input to the output show that it holds.
-    pub(crate) fn open_claim(&self, place: usize) -> Option<OneInput> {
+    pub fn open_claim(&self, place: usize) -> Option<OneInput> {
         if *self.numbers.get(place)? != NOT_NOTED {
             return None;
         }
@@ -232,7 +241,7 @@ impl BrokenClaims {
     }
 
     /// Notes what was decided of a claim, by the number of its fact: vectors break it where it fails.
-    pub(crate) fn note(&mut self, claim: Claim, number: u64, holds: bool) {
+    pub fn note(&mut self, claim: Claim, number: u64, holds: bool) {
         if self.number(claim) == Some(number) {
             return;
         }

@@ -1,6 +1,6 @@
 //! Outputs that don't fit together by counts of their inputs.
 
-use crate::broken_claims::BrokenClaims;
+use crate::claims::BrokenClaims;
 use account_core::Tallied;
 use net_core::Side;
 use std::alloc::{AllocError, Global};
@@ -11,6 +11,9 @@ const MOST_BYTES: usize = 200_000_000;
 /// What a ban takes without the numbers of facts.
 const BAN: usize = 270;
 
+/// What the numbers of up to two facts take, of 8 bytes each.
+const NUMBERS_OF_INPUT: usize = 16;
+
 /// How many inputs an output depends on, and in how many it is binate, as far as is seen.
 #[derive(Clone, Copy, Debug, Drop, PartialEq)]
 struct Key {
@@ -19,10 +22,10 @@ struct Key {
 }
 
 /// Outputs of the first circuit and of the second, more together than a circuit has, none of which fits with one of the
-/// others, as far as is seen.
-pub(crate) struct Classes {
-    pub(crate) from: Vec<bool>,
-    pub(crate) to: Vec<bool>,
+/// others, as far as is seen. Each output of a circuit is marked, or isn't.
+pub struct Classes {
+    pub from: Vec<bool>,
+    pub to: Vec<bool>,
 }
 
 // By hand, so that each exit of a function has one call for it (docs/IDIOMS.md).
@@ -36,10 +39,14 @@ impl Drop for Classes {
 }
 
 impl Classes {
-    /// Those outputs of two circuits that have one key, and those that don't, where the other circuit
-    /// has fewer of the key: of all such keys the one with the fewest ways. None where each key is as frequent in both
-    /// circuits.
-    pub(crate) fn new(
+    /// Those outputs of the one circuit that depend on so many inputs and are binate in so many, and those of the other
+    /// one that don't, where it has fewer such outputs: by the two counts with the fewest ways to pair them. None where
+    /// each two counts are as frequent in both circuits.
+    ///
+    /// # Errors
+    ///
+    /// Only when out of memory.
+    pub fn new(
         alloc: Global,
         outputs: u32,
         inputs: u32,
@@ -76,7 +83,9 @@ fn keys(
 
 // The most ways, plain ones, of which bans are made of circuits with n inputs: each has two tallies.
 fn most_ways(inputs: u32) -> usize {
-    let tally = (inputs as usize).saturating_mul(16).saturating_add(BAN);
+    let tally = (inputs as usize)
+        .saturating_mul(NUMBERS_OF_INPUT)
+        .saturating_add(BAN);
     MOST_BYTES / tally.saturating_mul(2).max(1)
 }
 
