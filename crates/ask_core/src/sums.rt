@@ -214,7 +214,7 @@ fn count_shared(one: &[u64], other: &[u64]) -> usize {
 // The sum of two equations, whose parts are added. None where it is too wide.
 fn add_two(
     alloc: Global,
-    equations: &mut Vec<Equation>,
+    equations: &mut [Equation],
     left: usize,
     right: usize,
     parts: &mut Vec<Part>,
@@ -239,7 +239,7 @@ fn add_two(
 }
 
 // Notes that an equation was added to another one.
-fn use_up(equations: &mut Vec<Equation>, place: usize) {
+fn use_up(equations: &mut [Equation], place: usize) {
     if let Some(equation) = equations.get_mut(place) {
         equation.is_used = true;
     }
@@ -256,7 +256,7 @@ fn shared_literals(alloc: Global, one: &[u64], other: &[u64]) -> Result<Vec<SatL
     Ok(literals)
 }
 
-// Adds a part for each vector of some variables by which their sum isn't what it is to be.
+// Adds a part for each vector of some variables by which their sum isn't what it is to be. No wider sum is made.
 fn add_broken(
     alloc: Global,
     variables: &[u64],
@@ -264,8 +264,9 @@ fn add_broken(
     splits: &[SatLit],
     parts: &mut Vec<Part>,
 ) -> Result<(), AllocError> {
-    for code in 0..1u64 << WIDEST {
-        if is_broken(code, variables.len(), is_odd) {
+    let count = variables.len().min(WIDEST);
+    for code in 0..1u64 << count {
+        if is_broken(code, count, is_odd) {
             let literals = literals_at(alloc, variables, code)?;
             let splits = splits.to_vec(alloc)?;
             parts.push(Part { literals, splits })?;
@@ -274,7 +275,7 @@ fn add_broken(
     Ok(())
 }
 
-// Whether a number is a vector of n bits whose sum isn't what it is to be.
+// Whether the sum of a vector of n bits, by its number, isn't what it is to be.
 fn is_broken(code: u64, count: usize, is_odd: bool) -> bool {
     let mut left = code;
     let mut sum = false;
@@ -282,7 +283,7 @@ fn is_broken(code: u64, count: usize, is_odd: bool) -> bool {
         sum ^= left % 2 == 1;
         left /= 2;
     }
-    (left == 0) & (sum != is_odd)
+    sum != is_odd
 }
 
 // The literals by which variables have the bits of a number.

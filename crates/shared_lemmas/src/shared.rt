@@ -165,32 +165,9 @@ fn ask_cones<W: Watch>(
         → OnOk result
         (All (IsPaid question.now.graphs.now question.now.query.now ledger.new.asked) stock.new.lines.items) }
 {
-    match refute(alloc, question.cones)? {
-        Some(refutation) => answer_by(alloc, question, refutation, ledger),
-        None => ask_by_stock(alloc, question, stock, ledger, watch),
+    if let Some(refutation) = refute(alloc, question.cones)? {
+        return answer_by(alloc, question, refutation, ledger);
     }
-}
-
-// Answers a query by a stock that holds under its feeds, and adds to it.
-fn ask_by_stock<W: Watch>(
-    alloc: Global,
-    question: &Question<'_>,
-    stock: &mut Stock,
-    ledger: &mut Ledger,
-    watch: &W,
-) -> Result<Answer, Stop>
-    requires question { IsQuestion question.now }
-    requires hold { HoldUnder question.now.graphs.now question.now.query.now stock.old.lines.items }
-    requires not_spent { ledger.old.spent ≡ false }
-    ensures last_query { stock.new.last_query ≡ stock.old.last_query }
-    ensures hold { HoldUnder question.now.graphs.now question.now.query.now stock.new.lines.items }
-    ensures asks { Asks (IsAskedBy (λ asked.
-        All (IsPaid question.now.graphs.now question.now.query.now asked) stock.old.lines.items))
-        question.now.graphs.now question.now.query.now ledger.old ledger.new result }
-    ensures paid { All (IsPaid question.now.graphs.now question.now.query.now ledger.old.asked) stock.old.lines.items
-        → OnOk result
-        (All (IsPaid question.now.graphs.now question.now.query.now ledger.new.asked) stock.new.lines.items) }
-{
     let base = QueryBase::new(alloc, question.graphs, question.query)?;
     let lemmas = lemmas_for(alloc, question.cones, &base, stock)?;
     let given = lemmas.lines.len() as u64;
