@@ -17,8 +17,8 @@ const MOST_BLOCKS: u64 = 64;
 /// The fewest: an input of a wide gate isn't seen on fewer.
 const LEAST_BLOCKS: u64 = 4;
 
-/// How many of the first blocks show what vectors commonly show: as many vectors as claims are tried on before they are
-/// asked (`fact_tests`).
+/// How many of the first blocks show which claims vectors commonly break: as many vectors as claims are tried on before
+/// they are asked (`fact_tests`).
 const COMMON_BLOCKS: u64 = 2;
 
 /// How many words of gates may be computed on vectors near those that showed something new: four times as many as on
