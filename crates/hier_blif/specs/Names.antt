@@ -4,7 +4,8 @@ use Rattle.std.specs.Prelude.{ℕ, Bool, List, [], ◌∷◌, ◌++◌, map, fil
 use Rattle.std.specs.List.{flat_map, list_any, position_or_len}
 use Rattle.std.specs.Str.{bytes_eq}
 use Rattle.text_core.specs.Piece.{Piece}
-use Rattle.circuits.specs.declared.port.PortKind.TheVariants as port
+use Rattle.circuits.specs.declared.port.PortKind.{PortKind}
+use Rattle.circuits.specs.declared.port.PortKind.TheVariants.{Input, Output}
 use Rattle.blif_reader.specs.declared.survey.PortWord.{PortWord}
 use Rattle.blif_reader.specs.Names.{named_ports}
 use Rattle.hier_blif.specs.declared.model.CoverLine.{CoverLine}
@@ -32,8 +33,8 @@ outputs_of model = flat_map outputs_on model.lines
 
 -- ports of both kinds
 abbrev pub ports_on : ModelLine → List PortWord
-ports_on (Inputs words) = named_ports port.Input words
-ports_on (Outputs words) = named_ports port.Output words
+ports_on (Inputs words) = named_ports Input words
+ports_on (Outputs words) = named_ports Output words
 ports_on other = []
 
 abbrev pub ports_of : BlifModel → List PortWord
@@ -70,7 +71,15 @@ abbrev pub model_of : List BlifModel → InstanceLine → BlifModel
 model_of models line =
     slice_index_or models (position_or_len (has_name line.model.bytes) models) (empty_model 0 no_name)
 
--- whether a word binds an input of the model, or an output
+-- the names of the ports of a kind
+abbrev pub ports_of_kind : PortKind → BlifModel → List Piece
+ports_of_kind Input model = inputs_of model
+ports_of_kind Output model = outputs_of model
+
+-- whether a word binds a port of a kind of the model: an input, or an output
+abbrev pub binds_port : PortKind → List BlifModel → InstanceLine → Piece → Bool
+binds_port kind models line word = is_among (formal_of word.bytes) (ports_of_kind kind (model_of models line))
+
 abbrev pub binds_input : List BlifModel → InstanceLine → Piece → Bool
 binds_input models line word = is_among (formal_of word.bytes) (inputs_of (model_of models line))
 

@@ -1,4 +1,4 @@
-//! The names of models, checked kind by kind: each check tells the first fault of its kind, or that there is none.
+//! The names of models, checked kind by kind: each check answers the first fault of its kind, or that there is none.
 
 ghost use Rattle.std.specs.Prelude.{◌≡◌, ◌&&◌, ◌∷◌, ◌++◌, ℕ, Bool, List, [], Some, not, if◌then◌else◌};
 ghost use Rattle.std.specs.Prelude.{map, filter, slice_get, position, IfOk, OnOk};
@@ -12,7 +12,7 @@ ghost use Rattle.blif_reader.specs.Numbers.{names_of, IsRepeatedPort};
 ghost use Rattle.hier_blif.specs.Bindings.{formal_of};
 ghost use Rattle.hier_blif.specs.Stops.{IsStopBy, first_of, Finds};
 ghost use Rattle.hier_blif.specs.declared.fault.HierKind.TheVariants as wrong;
-ghost use Rattle.hier_blif.specs.Names.{actual, binds_input, binds_output, ports_on, inputs_of, outputs_of};
+ghost use Rattle.hier_blif.specs.Names.{actual, binds_port, ports_of_kind, ports_on, inputs_of, outputs_of};
 ghost use Rattle.hier_blif.specs.Names.{instances_on, all_instances, is_among, has_name, defined_on, defined_in};
 ghost use Rattle.hier_blif.specs.Names.{read_on, read_in};
 ghost use Rattle.hier_blif.specs.NameFaults.{at_words, where_wrong, found_in, binds_again};
@@ -252,6 +252,18 @@ impl<'m, 'a> Scope<'m, 'a> {
         }
     }
 
+    // Whether what a word binds is a port of a kind of the model at a place.
+    fn is_port(&self, kind: PortKind, place: usize, word: &Span<'_>) -> bool
+        requires { IsScope self.now }
+        ensures { result ≡ is_among (formal_of word.now.bytes)
+            (ports_of_kind kind (model_at self.now.models.now place)) }
+    {
+        match kind {
+            PortKind::Input => self.is_input(place, word),
+            PortKind::Output => self.is_output(place, word),
+        }
+    }
+
     // Checks what instances name, and then what models define and read.
     fn check(&self, alloc: Global) -> Result<(), HierStop>
         requires { IsScope self.now }
@@ -395,24 +407,25 @@ impl<'m, 'a> Scope<'m, 'a> {
     {
         match line {
             ModelLine::Cover(cover) => Ok(words.push(Word::whole(&cover.defined))?),
-            ModelLine::Instance(instance) => self.add_outputs(instance, words),
+            ModelLine::Instance(instance) => self.add_bound(PortKind::Output, instance, words),
             _ => Ok(()),
         }
     }
 
-    // The names to which outputs are bound.
-    fn add_outputs(
+    // The names to which ports of a kind are bound.
+    fn add_bound(
         &self,
+        kind: PortKind,
         line: &InstanceLine<'a>,
         words: &mut Vec<Word<'a>>,
     ) -> Result<(), AllocError>
         requires { IsScope self.now }
         ensures { OnOk result (words.new.items ≡ words.old.items
-            ++ map actual (filter (binds_output self.now.models.now line.now) line.now.bindings)) }
+            ++ map actual (filter (binds_port kind self.now.models.now line.now) line.now.bindings)) }
     {
         let place = self.place_of(line);
         for word in line.bindings.iter() {
-            add_if(self.is_output(place, word), word, words)?;
+            add_if(self.is_port(kind, place, word), word, words)?;
         }
         Ok(())
     }
@@ -436,26 +449,9 @@ impl<'m, 'a> Scope<'m, 'a> {
         match line {
             ModelLine::Outputs(outputs) => add_words(outputs, words),
             ModelLine::Cover(cover) => add_words(&cover.operands, words),
-            ModelLine::Instance(instance) => self.add_inputs(instance, words),
+            ModelLine::Instance(instance) => self.add_bound(PortKind::Input, instance, words),
             ModelLine::Inputs(_) => Ok(()),
         }
-    }
-
-    // The names to which inputs are bound.
-    fn add_inputs(
-        &self,
-        line: &InstanceLine<'a>,
-        words: &mut Vec<Word<'a>>,
-    ) -> Result<(), AllocError>
-        requires { IsScope self.now }
-        ensures { OnOk result (words.new.items ≡ words.old.items
-            ++ map actual (filter (binds_input self.now.models.now line.now) line.now.bindings)) }
-    {
-        let place = self.place_of(line);
-        for word in line.bindings.iter() {
-            add_if(self.is_input(place, word), word, words)?;
-        }
-        Ok(())
     }
 
     // The names of each model. No input of a model is defined, and no name twice.
