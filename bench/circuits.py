@@ -281,8 +281,7 @@ def adders():
         found[-1] = made.wire(f"~{found[-1]}")
         add(f"subtract{n}", "adder", f"input [{n - 1}:0] a, b, output [{n}:0] y", brent_kung="assign y = a - b;", ripple=made.done("y", found))
     for n in (8, 24):
-        add(f"addsub{n}", "adder", f"input [{n - 1}:0] a, b, input s, output [{n - 1}:0] y", chosen="assign y = s ? a - b : a + b;",
-            shared=f"assign y = a + (b ^ {{{n}{{s}}}}) + s;")
+        add_addsub(n)
     for n in (8, 32, 128):
         made = Wires()
         found, carry = ["~a[0]"], "a[0]"
@@ -301,6 +300,11 @@ def adders():
             right = [f"a{w}[{k}]" if k < n else "1'b0" for k in range(len(total))]
             total = chain.ripple(total, right)
         add(f"add{words}x{n}", "adder", ports, compressed=made.done("y", found), chained=chain.done("y", total[: n + 2]))
+
+
+def add_addsub(n):
+    add(f"addsub{n}", "adder", f"input [{n - 1}:0] a, b, input s, output [{n - 1}:0] y", chosen="assign y = s ? a - b : a + b;",
+        shared=f"assign y = a + (b ^ {{{n}{{s}}}}) + s;")
 
 
 # ---- multipliers, dividers, square roots
@@ -333,10 +337,14 @@ def multipliers():
     for n in (4, 7, 10):
         add(f"square{n}", "multiplier", f"input [{n - 1}:0] a, output [{2 * n - 1}:0] y", array=array_product(n, "a", "a"), wallace=wallace_product(n, "a", "a"))
     for n in (4, 6):
-        add(f"multiply_add{n}", "multiplier", f"input [{n - 1}:0] a, b, input [{2 * n - 1}:0] c, output [{2 * n}:0] y", yosys="assign y = a * b + c;",
-            wallace=multiply_add(n))
+        add_multiply_add(n)
     add("times_seven8", "multiplier", "input [7:0] a, output [10:0] y", shifted="assign y = (a << 3) - a;", added="assign y = (a << 2) + ((a << 1) + a);")
     add("times_hundred12", "multiplier", "input [11:0] a, output [18:0] y", yosys="assign y = a * 7'd100;", added="assign y = (a << 6) + ((a << 5) + (a << 2));")
+
+
+def add_multiply_add(n):
+    add(f"multiply_add{n}", "multiplier", f"input [{n - 1}:0] a, b, input [{2 * n - 1}:0] c, output [{2 * n}:0] y", yosys="assign y = a * b + c;",
+        wallace=multiply_add(n))
 
 
 def multiply_add(n):
@@ -510,17 +518,7 @@ def codes():
         chained, treed = rows_of_sums(rows)
         add(f"hamming_encode{data}", "code", f"input [{data - 1}:0] a, output [{checks - 1}:0] y", chained=chained, treed=treed)
     for data in (4, 11, 26, 57):
-        places = hamming_places(data)
-        checks = places[-1].bit_length()
-
-        def corrected(join, match):
-            made = Wires()
-            sums = [getattr(made, join)("^", [f"a[{d}]" for d, place in enumerate(places) if place >> c & 1] + [f"c[{c}]"]) for c in range(checks)]
-            return made, [made.wire(match(sums, d, place)) for d, place in enumerate(places)]
-
-        one, first = corrected("chain", lambda s, d, place: f"a[{d}] ^ (" + " & ".join(("" if place >> c & 1 else "~") + s[c] for c in range(checks)) + ")")
-        two, second = corrected("tree", lambda s, d, place: f"({{{', '.join(reversed(s))}}} == {checks}'d{place}) ? ~a[{d}] : a[{d}]")
-        add(f"hamming_correct{data}", "code", f"input [{data - 1}:0] a, input [{checks - 1}:0] c, output [{data - 1}:0] y", chained=one.done("y", first), treed=two.done("y", second))
+        add_correcting(data)
     # a (15, 7) BCH code's remainder by its generator
     chained, treed = rows_of_sums(crc_rows(7, 8, 0b111010001))
     add("bch15_7", "code", "input [6:0] a, output [7:0] y", chained=chained, treed=treed)
@@ -530,6 +528,44 @@ def codes():
         add(f"crc{width}_of{data}", "crc", f"input [{data - 1}:0] a, output [{width - 1}:0] y", treed=treed,
             serial=f"reg [{width - 1}:0] t; reg f; integer i; always @* begin t = 0; for (i = {data - 1}; i >= 0; i = i - 1) begin f = t[{width - 1}] ^ a[i]; "
                    f"t = {{t[{width - 2}:0], 1'b0}} ^ ({{{width}{{f}}}} & {width}'d{polynomial & (1 << width) - 1}); end end assign y = t;")
+
+
+def add_correcting(data):
+    """A circuit that corrects an error in one data bit of a Hamming code."""
+    places = hamming_places(data)
+    checks = places[-1].bit_length()
+
+    def corrected(join, match):
+        made = Wires()
+        sums = [getattr(made, join)("^", [f"a[{d}]" for d, place in enumerate(places) if place >> c & 1] + [f"c[{c}]"]) for c in range(checks)]
+        return made, [made.wire(match(sums, d, place)) for d, place in enumerate(places)]
+
+    one, first = corrected("chain", lambda s, d, place: f"a[{d}] ^ ({is_number(s, place)})")
+    two, second = corrected("tree", lambda s, d, place: f"({{{', '.join(reversed(s))}}} == {checks}'d{place}) ? ~a[{d}] : a[{d}]")
+    add(f"hamming_correct{data}", "code", f"input [{data - 1}:0] a, input [{checks - 1}:0] c, output [{data - 1}:0] y", chained=one.done("y", first), treed=two.done("y", second))
+
+
+def is_number(bits_of, number):
+    """That bits are those of a number, as an AND."""
+    return " & ".join(("" if number >> c & 1 else "~") + bit for c, bit in enumerate(bits_of))
+
+
+def add_detecting(data):
+    """The same of a Hamming code with a bit more, the parity of all: two errors are told from one, and the last output says so (SEC-DED)."""
+    places = hamming_places(data)
+    checks = places[-1].bit_length()
+
+    def corrected(join, match):
+        made = Wires()
+        joined = lambda items: getattr(made, join)("^", items)
+        sums = [joined([f"a[{d}]" for d, place in enumerate(places) if place >> c & 1] + [f"c[{c}]"]) for c in range(checks)]
+        odd = joined(bits("a", data) + bits("c", checks) + ["p"])
+        found = [made.wire(match(sums, odd, d, place)) for d, place in enumerate(places)]
+        return made.done("y", found + [made.wire(f"({' | '.join(sums)}) & ~{odd}")])
+
+    one = corrected("chain", lambda s, odd, d, place: f"a[{d}] ^ ({odd} & {is_number(s, place)})")
+    two = corrected("tree", lambda s, odd, d, place: f"({odd} && {{{', '.join(reversed(s))}}} == {checks}'d{place}) ? ~a[{d}] : a[{d}]")
+    add(f"secded{data}", "code", f"input [{data - 1}:0] a, input [{checks - 1}:0] c, input p, output [{data}:0] y", chained=one, treed=two)
 
 
 def crc_rows(data, width, polynomial):
@@ -860,7 +896,49 @@ def others():
     add("products_of_ten", "other", "input [99:0] a, output y", gates="assign y = " + " | ".join(f"&a[{10 * k + 9}:{10 * k}]" for k in range(10)) + ";")
 
 
-for made in (cells, multiplexers, decoders, encoders, comparators, adders, multipliers, dividers, roots, shifters, symmetric, codes, boxes, units, arbiters, crossbars, graphs, others):
+# ---- more of some families, at the end, so that each fourth circuit stays the same
+
+def plane(q):
+    """The points of each line of the projective plane over the field of q elements, a prime."""
+    points = [(1, b, c) for b in range(q) for c in range(q)] + [(0, 1, c) for c in range(q)] + [(0, 0, 1)]
+    return [[k for k, point in enumerate(points) if sum(x * y for x, y in zip(point, line)) % q == 0] for line in points]
+
+
+def add_plane(q, kind, operator):
+    rows = plane(q)
+    chained, treed = Wires(), Wires()
+    add(f"plane{len(rows)}_{kind}", "plane", f"input [{len(rows) - 1}:0] a, output [{len(rows) - 1}:0] y",
+        chained=chained.done("y", [chained.chain(operator, [f"a[{k}]" for k in row]) for row in rows]),
+        treed=treed.done("y", [treed.tree(operator, [f"a[{k}]" for k in reversed(row)]) for row in rows]))
+
+
+def add_present(size, rounds):
+    """Rounds of PRESENT on a smaller block, each with a key of its own among the inputs."""
+    boxes_of = [f"function [3:0] s(input [3:0] x); case (x) {' '.join(f'{k}: s = {v};' for k, v in enumerate(PRESENT))} default: s = 0; endcase endfunction"]
+    word = "a"
+    for r in range(rounds):
+        parts = ", ".join(f"s(u{r}[{k + 3}:{k}])" for k in range(size - 4, -1, -4))
+        # bit i goes to place i size / 4 modulo size - 1, and the last one stays
+        comes = sorted(range(size), key=lambda i: i * size // 4 % (size - 1) if i < size - 1 else i)
+        boxes_of.append(f"wire [{size - 1}:0] u{r} = {word} ^ k[{size * r + size - 1}:{size * r}], v{r} = {{{parts}}}; "
+                        f"wire [{size - 1}:0] w{r} = {{{', '.join(f'v{r}[{i}]' for i in reversed(comes))}}};")
+        word = f"w{r}"
+    add(f"present{size}_rounds{rounds}", "block cipher", f"input [{size - 1}:0] a, input [{rounds * size - 1}:0] k, output [{size - 1}:0] y",
+        table=" ".join(boxes_of) + f" assign y = {word};")
+
+
+def further():
+    for data in (32, 64):
+        add_correcting(data)
+        add_detecting(data)
+    add_plane(7, "and", "&")
+    add_plane(7, "xor", "^")
+    add_addsub(32)
+    add_multiply_add(8)
+    add_present(32, 2)
+
+
+for made in (cells, multiplexers, decoders, encoders, comparators, adders, multipliers, dividers, roots, shifters, symmetric, codes, boxes, units, arbiters, crossbars, graphs, others, further):
     made()
 
 if __name__ == "__main__":

@@ -101,10 +101,20 @@ class Bench:
             return first, second, netlists.match_by_trying(first, second), "tried"
         return first, second, False if why else None, why or "unknown"
 
+    def covers(self, net):
+        """A netlist as BLIF has it where ABC maps it to covers of at most so many operands, and as it is read there: row by row."""
+        netlists.to_binary(net, self.path("plain.aig"))
+        tool("berkeley-abc", "-q", f"read {self.path('plain.aig')}; strash; if -K {self.choices.covers}; write_blif {self.path('covers.blif')}")
+        return in_order(self.path("covers.blif"))
+
     def made(self, circuit, kind):
         """The pair, and nothing where a tool ended without making it, which is said."""
         try:
-            return self.pair(circuit, kind)
+            pair = self.pair(circuit, kind)
+            if pair is None or not self.choices.covers:
+                return pair
+            first, second, known, why = pair
+            return self.covers(first), self.covers(second), known, why
         except NotMade as ended:
             print(f"{circuit.name} {kind}: not made: {ended}", file=sys.stderr, flush=True)
             return None
@@ -200,7 +210,8 @@ class Bench:
             if pair is None:
                 continue
             first, second, known, why = pair
-            base = {**self.base(circuit, kind, first, second), "known": known, "why": why, "limit": self.choices.limit, "seed": self.choices.seed}
+            base = {**self.base(circuit, kind, first, second), "known": known, "why": why, "limit": self.choices.limit,
+                    "seed": self.choices.seed, "covers": self.choices.covers}
             netlists.to_text(first, self.path("first.aag"))
             netlists.to_text(second, self.path("second.aag"))
             for label in wanted:
@@ -228,6 +239,7 @@ def main():
     words.add_argument("--limit", type=int, default=10, help="processor seconds of a pair (10)")
     words.add_argument("--check-limit", type=int, default=60, help="processor seconds of a check (60)")
     words.add_argument("--seed", type=int, default=1, help="of permutations, negations and changes (1)")
+    words.add_argument("--covers", type=int, default=0, metavar="K", help="map both netlists to covers of at most K operands, as a BLIF file would have them")
     words.add_argument("--every", type=int, default=1, help="every Nth circuit alone (1)")
     words.add_argument("--start", type=int, default=0, help="the first of these (0)")
     words.add_argument("--program", action="append", dest="programs", metavar="[LABEL=]PATH", help="a program to measure, more than once to compare; the release without")
@@ -246,7 +258,7 @@ def main():
         results = choices.results or os.path.join(folder, "results")
         rows = [json.loads(line) for line in open(results)] if os.path.exists(results) else []
         # what was answered within another limit stands, and what wasn't within a larger one
-        of_run = lambda row: row["seed"] == choices.seed and (row["said"] != "late" or row["limit"] >= choices.limit)
+        of_run = lambda row: row["seed"] == choices.seed and row.get("covers", 0) == choices.covers and (row["said"] != "late" or row["limit"] >= choices.limit)
         done = {(row["program"], row["circuit"], row["kind"]) for row in rows if of_run(row)}
         bench = Bench(choices, folder)
         if choices.write:

@@ -8,6 +8,7 @@
 #   gate       a near miss: resynthesized, an operand of a gate negated, its ports permuted;
 #   output     a near miss: an output replaced by another function with the same support and weight (an exclusive or with a
 #              product before an input), or, of some graphs, another graph with the same degrees; its ports permuted and negated.
+# With `--covers K` both netlists are as a BLIF file has them whose covers, of at most K operands, ABC mapped them to.
 # Each match is held against the netlists, on all vectors to 16 inputs, else by ABC's `cec`. That a near miss has no match is known
 # by counts that matches preserve, by trying all matchings to 5 inputs, or by construction; where it isn't known, an accepted account
 # counts alone. ABC's `bm` (Katebi and Markov, DATE 2010), which knows permutations alone, is run on the pairs of `permuted` and
@@ -15,7 +16,7 @@
 # comparison too. With a file of results it goes on where it was stopped. Needs Debian's yosys and berkeley-abc. Not part of the gate.
 # Ends with status 1 where an answer is wrong or an account isn't accepted.
 #
-#     bench/match_beside_abc.sh [--limit SECONDS] [--seed SEED] [--every K] [--start FIRST] [--program [LABEL=]PATH].. [--kinds KIND,..]
+#     bench/match_beside_abc.sh [--limit SECONDS] [--seed SEED] [--covers K] [--every N] [--start FIRST] [--program [LABEL=]PATH].. [--kinds KIND,..]
 #                               [--results FILE] [--nets FOLDER] [--no-bm] [--bm-alone] [--report] [--markdown] [--write FOLDER] [CIRCUIT or FAMILY ..]
 set -eu
 top=$(cd "$(dirname "${BASH_SOURCE[0]}")/.." && pwd)

@@ -3,11 +3,12 @@
 
 use crate::account_check::check;
 use crate::account_core::{Ban, PairableGraphs, Step};
+use crate::account_file::put_log_line;
 use crate::ask_core::{self, Answer as Answered};
 use crate::ban_book::BanBook;
 use crate::circuits::{Gate, Lit};
 use crate::claim_core::{Claim, Shape, of_claim, of_match};
-use crate::cnf_core::Stop;
+use crate::cnf_core::{Log, Stop};
 use crate::fact_tests::FactBook;
 use crate::match_guess::{Effort, Guesser, SearchStart};
 use crate::match_search::{Found, decide, search};
@@ -214,15 +215,44 @@ fn prove(graphs: &PairableGraphs, seed: u64, matching: &str) -> Answer {
     )?;
     let mut book = FactBook::new(Global, graphs.graphs(), seed).map_err(refused)?;
     let mut ledger = Ledger::new(Global, BUDGET);
+    let mut written = Written::default();
+    let begun = std::time::Instant::now();
     for output in 0..matching.outputs.len() as u32 {
         let compared = book.compare(Global, &matching, output, &mut ledger);
-        if let Compared::Differs(_) = compared.map_err(refused)? {
-            println!("differs at output {output}");
-            return Ok(());
+        match compared.map_err(refused)? {
+            Compared::Same(first, second) => {
+                written.add(&first)?;
+                written.add(&second)?;
+            }
+            Compared::Differs(_) => {
+                println!("differs at output {output}");
+                return Ok(());
+            }
         }
     }
-    println!("match");
+    let (learned, seconds) = (ledger.learned(), begun.elapsed().as_secs_f64());
+    let Written { lines, bytes } = written;
+    println!("match learned {learned} lines {lines} bytes {bytes} {seconds:.2} s");
     Ok(())
+}
+
+/// How many lines logs have, and how many bytes an account has for them.
+#[derive(Default)]
+struct Written {
+    lines: usize,
+    bytes: usize,
+}
+
+impl Written {
+    fn add(&mut self, log: &Log) -> Answer {
+        let mut text = Vec::new(Global);
+        for line in log.lines.iter() {
+            put_log_line(line, &mut text).map_err(refused)?;
+        }
+        self.lines += log.lines.len();
+        self.bytes += text.len();
+        Ok(())
+    }
 }
 
 /// Prints a match's port table, or that there is none, and how many bans were made, by what shows them.

@@ -8,24 +8,36 @@ use std::alloc::{AllocError, Global};
 use std::process::Abort;
 use std::test::Fail;
 
+/// Gates by the numbers of their operands.
+fn gates_of(alloc: Global, operands: &[(u32, u32)]) -> Result<Vec<Gate>, AllocError> {
+    let mut gates = Vec::new(alloc);
+    for (a, b) in operands {
+        gates.push(Gate {
+            a: Lit(*a),
+            b: Lit(*b),
+        })?;
+    }
+    Ok(gates)
+}
+
+/// Literals by their numbers.
+fn lits_of(alloc: Global, numbers: &[u32]) -> Result<Vec<Lit>, AllocError> {
+    let mut lits = Vec::new(alloc);
+    for number in numbers {
+        lits.push(Lit(*number))?;
+    }
+    Ok(lits)
+}
+
 fn netlist(
     alloc: Global,
     inputs: u32,
     gates: &[(u32, u32)],
     outputs: &[u32],
 ) -> Result<Netlist, AllocError> {
-    let mut all_gates = Vec::new(alloc);
-    for (a, b) in gates {
-        all_gates.push(Gate {
-            a: Lit(*a),
-            b: Lit(*b),
-        })?;
-    }
-    let mut all_outputs = Vec::new(alloc);
-    for output in outputs {
-        all_outputs.push(Lit(*output))?;
-    }
-    Ok(Netlist::new(inputs, all_gates, all_outputs))
+    let gates = gates_of(alloc, gates)?;
+    let outputs = lits_of(alloc, outputs)?;
+    Ok(Netlist::new(inputs, gates, outputs))
 }
 
 fn matches(
