@@ -33,5 +33,5 @@ pub use names::variable_in;
 pub use pairs::{GatePair, pairs_of};
 pub use question::{Answer, Question, ask, ask_watched};
 pub use solving::solve_dense;
-pub use tab::{TOLD_EVERY, Tab};
+pub use tab::{REPORTED_EVERY, Tab};
 pub use verdict::DenseVerdict;

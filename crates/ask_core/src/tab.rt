@@ -10,7 +10,7 @@ use watch_core::{Stage, Watch};
 
 /// What is learned is reported once in this many lines. Thousands are learned in a second, and what is shown changes
 /// once a second.
-pub const TOLD_EVERY: u64 = 64;
+pub const REPORTED_EVERY: u64 = 64;
 
 /// A budget, and for contracts alone the lines that were charged to it, a refused one last: the solver has them. A
 /// watcher gets how many there are.
@@ -57,9 +57,9 @@ impl<'a, W: Watch> Tab<'a, W> {
         }
     }
 
-    // Tells the watcher how many lines were learned, once in many.
-    fn tell(&self) {
-        if self.learned % TOLD_EVERY == 0 {
+    // Reports to the watcher how many lines were learned, once in many.
+    fn report(&self) {
+        if self.learned % REPORTED_EVERY == 0 {
             self.watch.at(Stage::Learning {
                 learned: self.learned,
                 budget: self.budget,
@@ -74,7 +74,7 @@ impl<'a, W: Watch> Charge for Tab<'a, W> {
     ghost charging = { λ tab. tab };
 
     fn charge(&mut self, line: &LogLine) -> Result<(), Stop> {
-        self.tell();
+        self.report();
         push(&mut self.lines, line)?;
         if self.learned == self.budget {
             self.spent = true;

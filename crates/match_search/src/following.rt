@@ -127,7 +127,9 @@ fn settle<O: Oracle>(
 }
 
 // Makes the tallies of the next output that has none. After the last output it makes the bans that decided claims show
-// of the next assigned pair, and deletes the ways that they exclude beside it. Answers whether there was a next one.
+// of the next assigned pair that wasn't compared yet. Where there are some, what follows of them comes first, and the
+// pair is compared again; where there are none, the ways are deleted that claims exclude with the pair. Answers whether
+// there was a next output or pair.
 fn ask_next<O: Oracle>(
     graphs: &PairableGraphs<'_>,
     session: &mut Session<'_, O>,
@@ -138,25 +140,10 @@ fn ask_next<O: Oracle>(
     ensures less { OnOk result (left domains.new ≤ left domains.old) }
 {
     let outputs = domains.ports(PortKind::Output);
-    let Some(output) = session.heuristics.guide.next_output(outputs) else {
-        return ask_next_pair(graphs, session, domains);
-    };
-    ask_output(graphs, session, domains, output)?;
-    Ok(true)
-}
-
-// Makes the bans that decided claims show of the next assigned pair that wasn't compared yet. Where there are some,
-// what follows of them comes first, and the pair is compared again; where there are none, the ways are deleted that
-// claims exclude beside the pair. Answers whether there is such a pair.
-fn ask_next_pair<O: Oracle>(
-    graphs: &PairableGraphs<'_>,
-    session: &mut Session<'_, O>,
-    domains: &mut Domains,
-) -> Result<bool, Stop>
-    requires may { MayStep graphs.now (lent O.known session.old) domains.old }
-    ensures steps { Steps graphs.now (lent O.known session.old) (lent O.known session.new) domains.new result }
-    ensures less { OnOk result (left domains.new ≤ left domains.old) }
-{
+    if let Some(output) = session.heuristics.guide.next_output(outputs) {
+        ask_output(graphs, session, domains, output)?;
+        return Ok(true);
+    }
     let Some(pair) = next_assigned(domains, session.heuristics.guide.asked) else {
         return Ok(false);
     };

@@ -17,14 +17,22 @@ fn sample(alloc: Global) -> Result<Graph, SampleFault> {
     graph(alloc, 3, gates.as_slice(), &[13, 19, 1])
 }
 
-// Writes the rows of three columns, a row for each word. Says whether the table has room for them.
+// Writes a row of three columns at a word. Whether the table has room for it.
+fn write_row(row: &[u64; 3], word: usize, words: &mut Words) -> bool {
+    for column in 0..3u32 {
+        if word >= words.words() || column as usize >= words.columns() {
+            return false;
+        }
+        words.set(column, word, row[column as usize]);
+    }
+    true
+}
+
+// Writes the rows of three columns, a row for each word. Whether the table has room for them.
 fn write_rows(rows: &[[u64; 3]], words: &mut Words) -> bool {
     for (word, row) in rows.iter().enumerate() {
-        for column in 0..3u32 {
-            if word >= words.words() || column as usize >= words.columns() {
-                return false;
-            }
-            words.set(column, word, row[column as usize]);
+        if !write_row(row, word, words) {
+            return false;
         }
     }
     true

@@ -213,7 +213,7 @@ pub fn run<S: Shelf, K: Sink>(
         × WritesPart (K.state out.old) (K.state out.new) text }
 {
     let ending = answer(alloc, words, shelf, &*out);
-    tell(ending, out)
+    put_report(ending, out)
 }
 
 /// How the words and the files, or a fault that came between, end the run.
@@ -288,7 +288,7 @@ fn end_by_line(alloc: Global, outcome: Outcome) -> Ending
 }
 
 /// Puts the report of an ending, and answers how the run ends with that. After a failed write of a file nothing is put.
-fn tell<K: Sink>(ending: Ending, out: &mut K) -> Outcome
+fn put_report<K: Sink>(ending: Ending, out: &mut K) -> Outcome
     ensures report { IsTrue K.tells → IsReported result
         → (K.state out.new).written ≡ (K.state out.old).written ++ ending.report.items }
     ensures part { IsTrue K.tells

@@ -41,13 +41,13 @@ impl People {
         if self.listen {
             // what can't be said is left out
             let _ = match error {
-                Some(error) => self.tell_why(words, outcome, error),
-                None => self.tell(words, outcome, None),
+                Some(error) => self.write_with_reason(words, outcome, error),
+                None => self.write(words, outcome, None),
             };
         }
     }
 
-    fn tell_why(
+    fn write_with_reason(
         &self,
         words: &[String],
         outcome: &Outcome,
@@ -58,10 +58,10 @@ impl People {
             name: error.name,
             reason: reason.as_str(),
         };
-        self.tell(words, outcome, Some(fault))
+        self.write(words, outcome, Some(fault))
     }
 
-    fn tell(
+    fn write(
         &self,
         words: &[String],
         outcome: &Outcome,

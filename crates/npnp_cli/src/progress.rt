@@ -63,7 +63,7 @@ impl<R: Clock + Eprint + Drop> Watch for Progress<R> {
         self.due
             .set(passed.saturating_add(Duration::from_secs(BETWEEN)));
         // a line that can't be written is left out
-        let _ = self.tell(passed.as_secs());
+        let _ = self.write_line(passed.as_secs());
     }
 }
 
@@ -77,7 +77,7 @@ impl<R: Eprint> Progress<R> {
     }
 
     /// Writes a line on standard error.
-    fn tell(&self, seconds: u64) -> io::Result<()> {
+    fn write_line(&self, seconds: u64) -> io::Result<()> {
         let stage = self.stage.get();
         let learned = self.learned.get();
         eprintln!(self.rt; "npnp: {seconds} s: {stage}; {learned} clauses learned")

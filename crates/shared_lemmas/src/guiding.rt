@@ -1,6 +1,6 @@
 //! What the solver looks at first.
 
-use ask_core::{TOLD_EVERY, agenda_of};
+use ask_core::{REPORTED_EVERY, agenda_of};
 use learn_solver::{Agenda, Candidate, QuestionGuide};
 use query_core::{Ledger, QueryBase};
 use std::alloc::{AllocError, Global};
@@ -42,16 +42,16 @@ impl<'a, W: Watch> Reporter<'a, W> {
         }
     }
 
-    // Tells how many lines were learned, where the question has this many, unless few were learned since.
-    fn tell_some(&mut self, lines: u64) {
+    // Reports how many lines were learned, where the question has this many, unless few were learned since.
+    fn report_some(&mut self, lines: u64) {
         if lines >= self.next {
-            self.tell(lines);
-            self.next = lines.saturating_add(TOLD_EVERY);
+            self.report(lines);
+            self.next = lines.saturating_add(REPORTED_EVERY);
         }
     }
 
-    // Tells how many lines were learned, where the question has this many.
-    fn tell(&self, lines: u64) {
+    // Reports how many lines were learned, where the question has this many.
+    fn report(&self, lines: u64) {
         let own = lines.saturating_sub(self.lemmas);
         self.watch.at(Stage::Learning {
             learned: self.learned.saturating_add(own),
@@ -66,11 +66,11 @@ impl<'a, W: Watch> QuestionGuide for QuestionPairs<'a, W> {
     }
 
     fn done_with(&mut self, _candidate: Candidate, lines: u64) -> Result<(), AllocError> {
-        self.reporter.tell(lines);
+        self.reporter.report(lines);
         Ok(())
     }
 
     fn learned(&mut self, lines: u64) {
-        self.reporter.tell_some(lines);
+        self.reporter.report_some(lines);
     }
 }

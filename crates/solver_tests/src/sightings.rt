@@ -107,24 +107,40 @@ fn falls_somewhere(outputs: &[bool], mask: usize, values: usize) -> bool {
     false
 }
 
+/// Adds the claims of one input of three, each with a mask of its input and with its value.
+fn add_claims_of_one(list: &mut Vec<(Shape, usize, usize)>) -> Result<(), AllocError> {
+    for (i, mask) in [(0, 1), (1, 2), (2, 4)] {
+        list.push((Shape::Up(i), mask, 0))?;
+        list.push((Shape::Down(i), mask, mask))?;
+    }
+    Ok(())
+}
+
+/// Adds the claims of two inputs, which have these bits of a mask, with their values.
+fn add_swaps(
+    (i, one): (u32, usize),
+    (j, other): (u32, usize),
+    list: &mut Vec<(Shape, usize, usize)>,
+) -> Result<(), AllocError> {
+    let mask = one | other;
+    for (a, b, values) in [
+        (false, false, 0),
+        (true, false, one),
+        (false, true, other),
+        (true, true, mask),
+    ] {
+        list.push((Shape::Swap { i, j, a, b }, mask, values))?;
+    }
+    Ok(())
+}
+
 /// All claims about three inputs, each with a mask of its inputs and with their values.
 fn claims(alloc: Global) -> Result<Vec<(Shape, usize, usize)>, AllocError> {
     let mut list = Vec::new(alloc);
-    for (i, one) in [(0, 1), (1, 2), (2, 4)] {
-        list.push((Shape::Up(i), one, 0))?;
-        list.push((Shape::Down(i), one, one))?;
-    }
-    for (i, j, one, other) in [(0, 1, 1, 2), (0, 2, 1, 4), (1, 2, 2, 4)] {
-        let mask = one | other;
-        for (a, b, values) in [
-            (false, false, 0),
-            (true, false, one),
-            (false, true, other),
-            (true, true, mask),
-        ] {
-            list.push((Shape::Swap { i, j, a, b }, mask, values))?;
-        }
-    }
+    add_claims_of_one(&mut list)?;
+    add_swaps((0, 1), (1, 2), &mut list)?;
+    add_swaps((0, 1), (2, 4), &mut list)?;
+    add_swaps((1, 2), (2, 4), &mut list)?;
     Ok(list)
 }
 
