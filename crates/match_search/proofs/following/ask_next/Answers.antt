@@ -13,8 +13,8 @@ returns-in_err-ask_output-clause-steps g c = steps_fail c.from_residual.ensures.
 pub returns-in-Some-clause-steps : goal.returns-in-Some-clause-steps
 returns-in-Some-clause-steps g c = steps_ok (way_bans (way_start c.requires.may) c.in_ok-ask_output.ensures)
 
-pub returns-in_default-clause-steps : goal.returns-in_default-clause-steps
-returns-in_default-clause-steps g c = steps_ok (way_start c.requires.may)
+pub returns-in_default-next_assigned-clause-steps : goal.returns-in_default-next_assigned-clause-steps
+returns-in_default-next_assigned-clause-steps g c = steps_ok (way_start c.requires.may)
 
 pub returns-in_err-more-clause-steps : goal.returns-in_err-more-clause-steps
 returns-in_err-more-clause-steps g c = steps_err c.from_residual-in_err-more.ensures.1 (way_start c.requires.may) c.in_err-more.ensures.steps
@@ -25,7 +25,7 @@ returns-then-more-clause-steps g c = steps_ok (way_one c.in_ok-more.ensures.step
 pub delete_beside-requires : goal.delete_beside-requires
 delete_beside-requires g c = record {
   may = may_go_on c.requires.may.may (way_one c.in_ok-more.ensures.steps);
-  assigned = rw c.in-Some-pair.is at c.next_assigned.ensures;
+  assigned = rw c.in-Some-next_assigned.is at c.next_assigned.ensures;
 }
 
 pub returns-in_err-delete_beside-clause-steps : goal.returns-in_err-delete_beside-clause-steps
