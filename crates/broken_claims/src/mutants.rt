@@ -3,8 +3,8 @@
 use port_cells::{Draws, FlipSim, Lanes, VECTORS, bit_of, port_at, with_bit};
 use std::alloc::{AllocError, Global};
 
-/// How many vectors are kept at most, so that each is in a block of 256 at least twice, with other inputs inverted. With
-/// fewer each has more mutants, but vectors of fewer claims are kept.
+/// How many vectors are kept at most, so that each is in a block of 256 at least twice, with other inputs inverted.
+/// With fewer each has more mutants, but vectors of fewer claims are kept.
 const MOST_PARENTS: usize = 128;
 
 /// How many inputs of a mutant are inverted at most. That a carry goes one place further takes one or two; with more
