@@ -16,17 +16,6 @@ struct Entry {
     needed: u8,
 }
 
-/// Why a way is excluded.
-#[derive(Clone, Copy, Debug, PartialEq, Eq)]
-pub(crate) enum Excluded {
-    /// Claims of one input differ.
-    Claims,
-    /// Claims of two inputs differ, of the way's and of one that is in a pair.
-    Swaps,
-    /// The prime of this number is carried to a cube on which the first output has the opposite value.
-    Prime(usize),
-}
-
 /// What a pair of outputs says of the ways of an input.
 #[derive(Drop)]
 pub(crate) struct Column<'a> {
@@ -56,16 +45,10 @@ impl<'a> Column<'a> {
         })
     }
 
-    /// Why it excludes a way of the input, if it does.
-    pub(crate) fn excludes(&self, way: Pair) -> Option<Excluded> {
-        if self.tabled.is_unlike(way) {
-            return Some(Excluded::Claims);
-        }
-        if self.has_unlike_swap(way) {
-            return Some(Excluded::Swaps);
-        }
-        let number = self.wrong_prime(way)?;
-        Some(Excluded::Prime(number))
+    /// Whether it excludes a way of the input: claims of that input differ, or of it and one that is in a pair, or a
+    /// prime is carried to a cube on which the first output has the opposite value.
+    pub(crate) fn excludes(&self, way: Pair) -> bool {
+        self.tabled.is_unlike(way) || self.has_unlike_swap(way) || self.wrong_prime(way).is_some()
     }
 
     fn has_unlike_swap(&self, way: Pair) -> bool {

@@ -2,7 +2,7 @@
 
 ghost use Rattle.std.specs.Prelude.{◌≡◌, length};
 
-use crate::cubes::{CubeColumn, at, blocks_of, first_free, has, power, vectors_of};
+use crate::cubes::{BLOCK, CubeColumn, at, blocks_of, first_free, has, power, vectors_of};
 use items::Items;
 use net_core::Graph;
 use std::alloc::{AllocError, Global};
@@ -90,13 +90,19 @@ fn values_of(
     let mut values = Items::with_capacity(alloc, cubes)?;
     for block in 0..blocks_of(cubes) {
         let rails = rails_on(alloc, graph, output, inputs, columns, block)?;
-        for word in 0..8 {
-            let ones = word_at(rails.ones, word);
-            let zeros = word_at(rails.zeros, word);
-            push_values(&mut values, ones, zeros, cubes)?;
-        }
+        push_block(&mut values, &rails, cubes)?;
     }
     Ok(values)
+}
+
+// Adds the values of 512 cubes, as far as there are so many.
+fn push_block(values: &mut Items<u8>, rails: &Rails, cubes: usize) -> Result<(), AllocError> {
+    for word in 0..BLOCK {
+        let ones = word_at(rails.ones, word);
+        let zeros = word_at(rails.zeros, word);
+        push_values(values, ones, zeros, cubes)?;
+    }
+    Ok(())
 }
 
 // What an output has on 512 cubes.
@@ -133,7 +139,7 @@ fn send(input: u32, column: Option<&CubeColumn>, block: usize, sent: &mut [Rails
         return;
     };
     if (input as usize) < sent.len() {
-        sent[input as usize] = column.rails(block.saturating_mul(8));
+        sent[input as usize] = column.rails(block.saturating_mul(BLOCK));
     }
 }
 
@@ -235,11 +241,23 @@ fn all_swaps(
 ) -> Result<Items<u8>, AllocError> {
     let mut swaps = Items::new(alloc);
     for one in 0..inputs {
-        for other in 0..inputs {
-            swaps.push(swaps_in(bits, vectors, one, other))?;
-        }
+        add_swaps(&mut swaps, bits, vectors, one, inputs)?;
     }
     Ok(swaps)
+}
+
+// Adds which claims of a place and each other one fail.
+fn add_swaps(
+    swaps: &mut Items<u8>,
+    bits: &[u8],
+    vectors: &[usize],
+    one: usize,
+    inputs: usize,
+) -> Result<(), AllocError> {
+    for other in 0..inputs {
+        swaps.push(swaps_in(bits, vectors, one, other))?;
+    }
+    Ok(())
 }
 
 fn swaps_in(bits: &[u8], vectors: &[usize], one: usize, other: usize) -> u8 {

@@ -14,10 +14,11 @@ use crate::tables::TabledPair;
 use items::Items;
 use std::alloc::{AllocError, Global};
 
-/// In how many parts a ban is counted.
+/// In how many parts a ban is counted, since less than one is expected below most ways.
 pub(crate) const PARTS: u64 = 16;
 
-/// What a node costs at which all inputs of a cone are paired: other outputs have to exclude it.
+/// What a node costs at which all inputs of a cone are paired. Other outputs have to exclude it, which isn't foreseen:
+/// so many bans that an output comes late which leaves such nodes open.
 const WHOLE: u64 = 1_000 * PARTS;
 
 /// How often a first cone has no 0, and no 1, on cubes with so many fixed places: exponents of a half, two for each
@@ -30,22 +31,11 @@ pub(crate) struct Shares {
 impl Shares {
     /// Those of a cone.
     pub(crate) fn new(alloc: Global, halves: &Halves, cone: &Cone) -> Result<Shares, AllocError> {
-        let sizes = cone.inputs.len().saturating_add(1);
-        let mut all = vec![in alloc; 0u64; sizes]?;
-        let mut without = vec![in alloc; 0u64; sizes.saturating_mul(2)]?;
-        for (cube, bits) in cone.bits.iter().enumerate() {
-            let size = fixed_in(cube, cone.inputs.len());
-            count(&mut all, size);
-            if *bits & 1 == 0 {
-                count(&mut without, size.saturating_mul(2));
-            }
-            if *bits & 2 == 0 {
-                count(&mut without, size.saturating_mul(2).saturating_add(1));
-            }
-        }
-        let mut exponents = Vec::with_capacity(alloc, without.len())?;
-        for (place, number) in without.iter().enumerate() {
-            exponents.push(halves.exponent(share_of(*number, count_at(&all, place / 2))))?;
+        let counts = CubeCounts::new(alloc, cone)?;
+        let mut exponents = Vec::with_capacity(alloc, counts.without.len())?;
+        for (place, number) in counts.without.iter().enumerate() {
+            let all = count_at(&counts.all, place / 2);
+            exponents.push(halves.exponent(share_of(*number, all)))?;
         }
         Ok(Shares { exponents })
     }
@@ -59,6 +49,41 @@ impl Shares {
         match self.exponents.get(place) {
             Some(exponent) => *exponent,
             None => 0,
+        }
+    }
+}
+
+/// How many cubes of a cone fix so many places.
+#[derive(Drop)]
+struct CubeCounts {
+    all: Vec<u64>,
+    /// Those on which it has no 0, and those on which it has no 1: two counts for each number of places.
+    without: Vec<u64>,
+}
+
+impl CubeCounts {
+    fn new(alloc: Global, cone: &Cone) -> Result<CubeCounts, AllocError> {
+        let inputs = cone.inputs.len();
+        let sizes = inputs.saturating_add(1);
+        let mut counts = CubeCounts {
+            all: vec![in alloc; 0u64; sizes]?,
+            without: vec![in alloc; 0u64; sizes.saturating_mul(2)]?,
+        };
+        for (cube, bits) in cone.bits.iter().enumerate() {
+            counts.add(fixed_in(cube, inputs), *bits);
+        }
+        Ok(counts)
+    }
+
+    // Counts a cube that fixes so many places, with the bits that the output has on it, as `Cone::bits` has them.
+    fn add(&mut self, size: usize, bits: u8) {
+        count(&mut self.all, size);
+        let place = size.saturating_mul(2);
+        if bits & 1 == 0 {
+            count(&mut self.without, place);
+        }
+        if bits & 2 == 0 {
+            count(&mut self.without, place.saturating_add(1));
         }
     }
 }
@@ -169,15 +194,20 @@ fn exponents_of(
 ) -> Result<Vec<u32>, AllocError> {
     let places = tabled.second.inputs.len();
     let mut sums = vec![in alloc; 0u32; bit(places)]?;
+    add_primes(&mut sums, shares, tabled);
+    for place in 0..places {
+        add_below(&mut sums, place);
+    }
+    Ok(sums)
+}
+
+// Adds to each set of places the exponents of the primes that fix these.
+fn add_primes(sums: &mut [u32], shares: &Shares, tabled: &TabledPair<'_>) {
     for prime in tabled.primes.iter() {
         if let Some(sum) = sums.get_mut(prime.fixed) {
             *sum = sum.saturating_add(shares.exponent(prime, tabled.pair.flip));
         }
     }
-    for place in 0..places {
-        add_below(&mut sums, place);
-    }
-    Ok(sums)
 }
 
 // Adds to each set with a place what stands for it without.

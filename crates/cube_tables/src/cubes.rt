@@ -11,11 +11,11 @@ pub(crate) const MOST_INPUTS: usize = 10;
 /// The digit of an input that may have either bit.
 pub(crate) const FREE: usize = 2;
 
-/// How many words are evaluated at once.
-const BLOCK: usize = 8;
+/// How many words of 64 cubes are evaluated at once.
+pub(crate) const BLOCK: usize = 8;
 
 /// The powers of three.
-static POWERS: [usize; 11] = [1, 3, 9, 27, 81, 243, 729, 2_187, 6_561, 19_683, 59_049];
+static POWERS: [usize; MOST_INPUTS + 1] = [1, 3, 9, 27, 81, 243, 729, 2_187, 6_561, 19_683, 59_049];
 
 /// What the digit of a place counts for, and how many cubes there are of so many inputs.
 pub(crate) fn power(place: usize) -> usize {

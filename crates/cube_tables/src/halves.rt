@@ -3,18 +3,19 @@
 use std::alloc::{AllocError, Global};
 
 /// In how many parts an exponent is counted.
-const PARTS: usize = 256;
+const PARTS: u32 = 256;
 
 /// One, as shares are counted.
 pub(crate) const ONE: u64 = 1 << 32;
 
-/// The 256th root of a half.
+/// The 256th root of a half, times `ONE`.
 const ROOT: u64 = 4_283_353_945;
 
-/// The greatest exponent that is noted: a share as small as that is nearly none.
+/// The exponent of a share of 0. Any other share is greater than the 16th power of a half: there are 59,049 cubes at
+/// most.
 const MOST: u32 = 20;
 
-/// The greatest value that is scaled.
+/// The greatest value that is scaled, so that its product with `ONE` fits 64 bits.
 pub(crate) const MOST_VALUE: u64 = 1 << 31;
 
 /// The powers of a half of which the exponent is below one.
@@ -25,7 +26,7 @@ pub(crate) struct Halves {
 
 impl Halves {
     pub(crate) fn new(alloc: Global) -> Result<Halves, AllocError> {
-        let mut powers = Vec::with_capacity(alloc, PARTS)?;
+        let mut powers = Vec::with_capacity(alloc, PARTS as usize)?;
         let mut power = ONE;
         for _ in 0..PARTS {
             powers.push(power)?;
@@ -39,24 +40,29 @@ impl Halves {
         let mut share = share;
         for whole in 0..MOST {
             if share > ONE / 2 {
-                let parts = self.powers.iter().filter(|power| **power > share).count();
                 return whole
-                    .saturating_mul(256)
-                    .saturating_add(parts.min(255) as u32);
+                    .saturating_mul(PARTS)
+                    .saturating_add(self.parts_of(share));
             }
             share = share.saturating_mul(2);
         }
-        MOST.saturating_mul(256)
+        MOST.saturating_mul(PARTS)
+    }
+
+    // By how many parts the exponent of a share between a half and one is above 0.
+    fn parts_of(&self, share: u64) -> u32 {
+        let parts = self.powers.iter().filter(|power| **power > share).count();
+        parts.min(PARTS as usize - 1) as u32
     }
 
     /// A value times a power of a half.
     pub(crate) fn scale(&self, value: u64, exponent: u32) -> u64 {
-        let power = match self.powers.get(exponent as usize % PARTS) {
+        let power = match self.powers.get((exponent % PARTS) as usize) {
             Some(power) => *power,
             None => 0,
         };
         let scaled = value.min(MOST_VALUE).saturating_mul(power) >> 32;
-        let whole = exponent / 256;
+        let whole = exponent / PARTS;
         if whole < 32 { scaled >> whole } else { 0 }
     }
 }

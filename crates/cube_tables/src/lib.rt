@@ -8,6 +8,7 @@ mod costs;
 mod cubes;
 mod halves;
 mod images;
+mod pair_costs;
 mod plan;
 mod primes;
 mod reached;

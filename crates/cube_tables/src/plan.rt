@@ -1,40 +1,40 @@
-//! Which port comes next, and what it costs.
+//! What tables show of assigned pairs, and which port comes next.
 
 use crate::column::Column;
-use crate::cone::Cone;
-use crate::costs::{Costs, PARTS, Shares, work_of};
+use crate::costs::PARTS;
 use crate::cubes::{bit, has};
-use crate::halves::Halves;
 use crate::images::Images;
-use crate::shown::{Shown, shown_by_claims, shown_by_primes, wrong_prime};
+use crate::pair_costs::{PairCosts, is_less, output_port, way_of, ways_to, work_of_all};
+use crate::shown::{LookUp, Shown, shown_by, wrong_prime};
 use crate::tables::{TabledPair, Tables, cone_in};
-use account_core::{PairableGraphs, Port, way};
+use account_core::{PairableGraphs, Port};
 use circuits::{Pair, PortKind};
 use net_core::Side;
 use std::alloc::{AllocError, Global};
 
-/// How many steps the estimates may take.
+/// How many steps the estimates may take: those of two circuits with 14 outputs of ten inputs each, some 50 ms.
 const MOST_WORK: usize = 1 << 22;
-
-/// What excluding a pair of outputs costs of which one has no table.
-const NEVER: u64 = 1 << 40;
 
 /// How outputs of few inputs refuse a match: tables, and in which order ports are decided. No answer rests on it.
 #[derive(Drop)]
 pub struct Plan {
     tables: Tables,
-    halves: Halves,
-    shares: Vec<Option<Shares>>,
-    costs: Vec<Option<Costs>>,
+    costs: PairCosts,
     outputs: u32,
     /// The ports that are decided where so many pairs are assigned.
     ports: Vec<Port>,
-    /// How many of the assigned pairs were looked up in tables, and whether that was done for the next one but for its
-    /// primes.
-    looked: usize,
-    compared: bool,
+    looked: Looked,
     /// About how many bans the refusal takes.
     pub bans: u64,
+}
+
+/// How many of the assigned pairs were looked up in tables.
+#[derive(Clone, Copy, Drop)]
+struct Looked {
+    /// How many were, the earliest ones.
+    pairs: usize,
+    /// Whether claims of the next one were compared, but not its primes.
+    claims: bool,
 }
 
 impl Plan {
@@ -49,176 +49,87 @@ impl Plan {
         most: u64,
     ) -> Result<Option<Plan>, AllocError> {
         let tables = Tables::new(alloc, graphs)?;
-        let halves = Halves::new(alloc)?;
         let outputs = graphs.ports(PortKind::Output);
-        let shares = all_shares(alloc, &halves, &tables.first)?;
-        let mut plan = Plan {
+        if work_of_all(&tables, outputs) > MOST_WORK {
+            return Ok(None);
+        }
+        let costs = PairCosts::new(alloc, &tables, outputs)?;
+        let Some((port, bans)) = costs.cheapest() else {
+            return Ok(None);
+        };
+        if bans > most {
+            return Ok(None);
+        }
+        Ok(Some(Plan {
             tables,
-            halves,
-            shares,
-            costs: Vec::new(alloc),
+            costs,
             outputs,
-            ports: Vec::new(alloc),
-            looked: 0,
-            compared: false,
-            bans: 0,
-        };
-        if plan.begin(alloc, most)? {
-            Ok(Some(plan))
-        } else {
-            Ok(None)
-        }
+            ports: vec![in alloc; port; 1]?,
+            looked: Looked {
+                pairs: 0,
+                claims: false,
+            },
+            bans,
+        }))
     }
 
-    // Chooses the first port. Answers whether its ways can be excluded with `most` bans.
-    fn begin(&mut self, alloc: Global, most: u64) -> Result<bool, AllocError> {
-        let work = self.work();
-        if work > MOST_WORK {
-            return Ok(false);
-        }
-        self.make_costs(alloc)?;
-        let Some((port, bans)) = self.cheapest() else {
-            return Ok(false);
-        };
-        self.bans = bans;
-        self.ports.push(port)?;
-        Ok(bans <= most)
-    }
-
-    // About how many steps the estimates take.
-    fn work(&self) -> usize {
-        let mut work = 0usize;
-        for cone in self.tables.second.iter() {
-            if let Some(cone) = cone {
-                work = work.saturating_add(work_of(cone.inputs.len()));
-            }
-        }
-        work.saturating_mul(self.outputs as usize).saturating_mul(2)
-    }
-
-    // Makes the costs of all pairs of outputs whose counts are even.
-    fn make_costs(&mut self, alloc: Global) -> Result<(), AllocError> {
-        for from in 0..self.outputs {
-            for to in 0..self.outputs {
-                for flip in [false, true] {
-                    let pair = way(PortKind::Output, from, to, flip);
-                    let costs = self.costs_of(alloc, pair)?;
-                    self.costs.push(costs)?;
-                }
-            }
-        }
-        Ok(())
-    }
-
-    fn costs_of(&self, alloc: Global, pair: Pair) -> Result<Option<Costs>, AllocError> {
-        let Some(tabled) = self.tables.tabled(pair) else {
-            return Ok(None);
-        };
-        let Some(Some(shares)) = self.shares.get(pair.from as usize) else {
-            return Ok(None);
-        };
-        if !tabled.has_even_counts() {
-            return Ok(None);
-        }
-        Ok(Some(Costs::new(alloc, &self.halves, shares, &tabled)?))
-    }
-
-    // The output whose ways cost the least, and how many bans that are.
-    fn cheapest(&self) -> Option<(Port, u64)> {
-        let mut best = None;
-        for side in [Side::First, Side::Second] {
-            for number in 0..self.outputs {
-                let port = Port {
-                    side,
-                    kind: PortKind::Output,
-                    number,
-                };
-                let bans = self.bans_of(port);
-                if is_less(bans, best) {
-                    best = Some((port, bans));
-                }
-            }
-        }
-        best
-    }
-
-    // How many bans all ways of an output take.
-    fn bans_of(&self, port: Port) -> u64 {
-        let mut bans = 0u64;
-        for other in 0..self.outputs {
-            let (from, to) = match port.side {
-                Side::First => (port.number, other),
-                Side::Second => (other, port.number),
-            };
-            for flip in [false, true] {
-                bans = bans.saturating_add(self.bans_of_pair(way(
-                    PortKind::Output,
-                    from,
-                    to,
-                    flip,
-                )));
-            }
-        }
-        bans
-    }
-
-    fn bans_of_pair(&self, pair: Pair) -> u64 {
-        let Some(tabled) = self.tables.tabled(pair) else {
-            return NEVER;
-        };
-        if !tabled.has_even_counts() {
-            return 1;
-        }
-        (self.cost_at(pair, 0) / PARTS).saturating_add(1)
-    }
-
-    // What a node below a pair of outputs costs at which these places are paired.
-    fn cost_at(&self, pair: Pair, paired: usize) -> u64 {
-        let row = (pair.from as usize).saturating_mul(self.outputs as usize);
-        let place = row.saturating_add(pair.to as usize).saturating_mul(2);
-        match self.costs.get(place.saturating_add(pair.flip as usize)) {
-            Some(Some(costs)) => costs.at(paired),
-            _ => 0,
-        }
-    }
-
-    /// What tables show of the latest assigned pairs, those that weren't looked up. Where it is asked again it says
-    /// something else.
+    /// The next thing that tables show of assigned pairs; each call goes on where the last one stopped.
     ///
     /// # Errors
     ///
     /// Only when out of memory.
-    pub fn shown(&mut self, alloc: Global, assigned: &[Pair]) -> Result<Option<Shown>, AllocError> {
-        for place in self.looked..assigned.len() {
-            let latest = assigned[place];
-            if !self.compared {
-                self.compared = true;
-                if let Some(shown) = shown_by_claims(alloc, &self.tables, assigned, latest)? {
-                    return Ok(Some(shown));
-                }
-            }
-            self.compared = false;
-            self.looked = place + 1;
-            if let Some(shown) = shown_by_primes(alloc, &self.tables, assigned, latest)? {
+    pub fn next_shown(
+        &mut self,
+        alloc: Global,
+        assigned: &[Pair],
+    ) -> Result<Option<Shown>, AllocError> {
+        for place in self.looked.pairs..assigned.len() {
+            if let Some(shown) = self.shown_at(alloc, assigned, place)? {
                 return Ok(Some(shown));
             }
         }
         Ok(None)
     }
 
-    /// The place of the pair that `shown` spoke of among the assigned ones.
+    // The next thing that tables show of the pair at a place: by claims where these weren't compared, then by primes.
+    fn shown_at(
+        &mut self,
+        alloc: Global,
+        assigned: &[Pair],
+        place: usize,
+    ) -> Result<Option<Shown>, AllocError> {
+        let Some(latest) = assigned.get(place).copied() else {
+            return Ok(None);
+        };
+        if !self.looked.claims {
+            self.looked.claims = true;
+            let shown = shown_by(alloc, &self.tables, assigned, latest, LookUp::Claims)?;
+            if shown.is_some() {
+                return Ok(shown);
+            }
+        }
+        self.looked = Looked {
+            pairs: place.saturating_add(1),
+            claims: false,
+        };
+        shown_by(alloc, &self.tables, assigned, latest, LookUp::Primes)
+    }
+
+    /// The place, among the assigned pairs, of the one that `next_shown` looked up last.
     pub fn place(&self) -> usize {
-        if self.compared {
-            self.looked
+        if self.looked.claims {
+            self.looked.pairs
         } else {
-            self.looked.saturating_sub(1)
+            self.looked.pairs.saturating_sub(1)
         }
     }
 
     /// Notes that only this many pairs are assigned now, the earliest ones.
     pub fn go_back_to(&mut self, assigned: usize) {
-        self.looked = self.looked.min(assigned);
-        self.compared = false;
+        self.looked = Looked {
+            pairs: self.looked.pairs.min(assigned),
+            claims: false,
+        };
         self.ports.truncate(assigned.saturating_add(1));
     }
 
@@ -243,19 +154,24 @@ impl Plan {
         Ok(Some(port))
     }
 
+    // An input of the last paired output that has an open one; without such an output the next one.
     fn choose(&self, alloc: Global, assigned: &[Pair]) -> Result<Option<Port>, AllocError> {
-        let mut latest = None;
-        for pair in assigned.iter() {
-            if let Some(tabled) = self.tables.tabled(*pair) {
-                if has_free_input(&tabled, assigned) {
-                    latest = Some(tabled);
-                }
-            }
-        }
-        match latest {
+        match self.last_with_free_input(assigned) {
             Some(tabled) => self.choose_input(alloc, &tabled, assigned),
             None => self.choose_output(alloc, assigned),
         }
+    }
+
+    // The last assigned pair of outputs whose second one reads an input that isn't paired.
+    fn last_with_free_input(&self, assigned: &[Pair]) -> Option<TabledPair<'_>> {
+        for pair in assigned.iter().rev() {
+            if let Some(tabled) = self.tables.tabled(*pair) {
+                if has_free_input(&tabled, assigned) {
+                    return Some(tabled);
+                }
+            }
+        }
+        None
     }
 
     // The input of a paired output of the second circuit whose ways cost the least.
@@ -269,13 +185,9 @@ impl Plan {
         let mut best = None;
         for (place, input) in tabled.second.inputs.iter().enumerate() {
             if !has(paired, place) {
-                let port = Port {
-                    side: Side::Second,
-                    kind: PortKind::Input,
-                    number: *input,
-                };
-                let below = self.cost_at(tabled.pair, paired | bit(place));
-                let ways = self.open_ways(alloc, assigned, *input)?;
+                let port = input_port(*input);
+                let below = self.costs.at(tabled.pair, paired | bit(place));
+                let ways = self.open_ways(alloc, assigned, port)?;
                 let cost = ways.saturating_mul(PARTS.saturating_add(below));
                 if is_less(cost, best) {
                     best = Some((port, cost));
@@ -286,21 +198,13 @@ impl Plan {
     }
 
     // How many ways of an input of the second circuit tables don't exclude.
-    fn open_ways(&self, alloc: Global, assigned: &[Pair], input: u32) -> Result<u64, AllocError> {
-        let mut columns = Vec::new(alloc);
-        for pair in assigned.iter() {
-            if let Some(tabled) = self.tables.tabled(*pair) {
-                let images = Images::new(alloc, &tabled, assigned)?;
-                columns.push(Column::new(alloc, tabled, &images, assigned, input)?)?;
-            }
-        }
+    fn open_ways(&self, alloc: Global, assigned: &[Pair], port: Port) -> Result<u64, AllocError> {
+        let columns = columns_of(alloc, &self.tables, assigned, port.number)?;
         let mut open = 0u64;
-        for from in 0..self.tables.inputs() {
-            if !is_taken(assigned, from) {
-                for flip in [false, true] {
-                    let way = way(PortKind::Input, from, input, flip);
-                    open = open.saturating_add(is_open(&columns, way) as u64);
-                }
+        for number in 0..ways_to(self.tables.inputs()) {
+            let pair = way_of(port, number);
+            if !is_taken(assigned, pair.from) && is_open(&columns, pair) {
+                open = open.saturating_add(1);
             }
         }
         Ok(open)
@@ -310,31 +214,28 @@ impl Plan {
     fn choose_output(&self, alloc: Global, assigned: &[Pair]) -> Result<Option<Port>, AllocError> {
         let mut best = None;
         for number in 0..self.outputs {
-            if let Some(_) = cone_in(&self.tables.second, number) {
-                let port = Port {
-                    side: Side::Second,
-                    kind: PortKind::Output,
-                    number,
-                };
-                if !is_paired(assigned, port) {
-                    let ways = self.open_outputs(alloc, assigned, number)?;
-                    if is_less(ways, best) {
-                        best = Some((port, ways));
-                    }
+            let port = output_port(Side::Second, number);
+            if cone_in(&self.tables.second, number).is_some() & !is_paired(assigned, port) {
+                let ways = self.open_outputs(alloc, assigned, port)?;
+                if is_less(ways, best) {
+                    best = Some((port, ways));
                 }
             }
         }
         Ok(port_of(best))
     }
 
-    fn open_outputs(&self, alloc: Global, assigned: &[Pair], to: u32) -> Result<u64, AllocError> {
+    // How many ways of an output of the second circuit tables don't exclude.
+    fn open_outputs(
+        &self,
+        alloc: Global,
+        assigned: &[Pair],
+        port: Port,
+    ) -> Result<u64, AllocError> {
         let mut open = 0u64;
-        for from in 0..self.outputs {
-            for flip in [false, true] {
-                let pair = way(PortKind::Output, from, to, flip);
-                if self.is_open_output(alloc, assigned, pair)? {
-                    open = open.saturating_add(1);
-                }
+        for number in 0..ways_to(self.outputs) {
+            if self.is_open_output(alloc, assigned, way_of(port, number))? {
+                open = open.saturating_add(1);
             }
         }
         Ok(open)
@@ -349,11 +250,36 @@ impl Plan {
         let Some(tabled) = self.tables.tabled(pair) else {
             return Ok(true);
         };
-        if !tabled.has_even_counts() {
+        if !tabled.has_same_counts() {
             return Ok(false);
         }
         let images = Images::new(alloc, &tabled, assigned)?;
         Ok(wrong_prime(&tabled, &images).is_none())
+    }
+}
+
+// What each assigned pair of outputs says of the ways of an input of the second circuit.
+fn columns_of<'a>(
+    alloc: Global,
+    tables: &'a Tables,
+    assigned: &'a [Pair],
+    input: u32,
+) -> Result<Vec<Column<'a>>, AllocError> {
+    let mut columns = Vec::new(alloc);
+    for pair in assigned.iter() {
+        if let Some(tabled) = tables.tabled(*pair) {
+            let images = Images::new(alloc, &tabled, assigned)?;
+            columns.push(Column::new(alloc, tabled, &images, assigned, input)?)?;
+        }
+    }
+    Ok(columns)
+}
+
+fn input_port(number: u32) -> Port {
+    Port {
+        side: Side::Second,
+        kind: PortKind::Input,
+        number,
     }
 }
 
@@ -362,20 +288,8 @@ fn port_of(best: Option<(Port, u64)>) -> Option<Port> {
     Some(port)
 }
 
-fn is_less(cost: u64, best: Option<(Port, u64)>) -> bool {
-    match best {
-        Some((_, least)) => cost < least,
-        None => true,
-    }
-}
-
-fn is_open(columns: &[Column<'_>], way: Pair) -> bool {
-    for column in columns.iter() {
-        if column.excludes(way).is_some() {
-            return false;
-        }
-    }
-    true
+fn is_open(columns: &[Column<'_>], pair: Pair) -> bool {
+    !columns.iter().any(|column| column.excludes(pair))
 }
 
 fn is_taken(assigned: &[Pair], from: u32) -> bool {
@@ -389,31 +303,9 @@ fn is_paired(assigned: &[Pair], port: Port) -> bool {
 }
 
 fn has_free_input(tabled: &TabledPair<'_>, assigned: &[Pair]) -> bool {
-    for input in tabled.second.inputs.iter() {
-        let port = Port {
-            side: Side::Second,
-            kind: PortKind::Input,
-            number: *input,
-        };
-        if !is_paired(assigned, port) {
-            return true;
-        }
-    }
-    false
-}
-
-fn all_shares(
-    alloc: Global,
-    halves: &Halves,
-    cones: &[Option<Cone>],
-) -> Result<Vec<Option<Shares>>, AllocError> {
-    let mut all = Vec::with_capacity(alloc, cones.len())?;
-    for cone in cones.iter() {
-        let shares = match cone {
-            Some(cone) => Some(Shares::new(alloc, halves, cone)?),
-            None => None,
-        };
-        all.push(shares)?;
-    }
-    Ok(all)
+    tabled
+        .second
+        .inputs
+        .iter()
+        .any(|input| !is_paired(assigned, input_port(*input)))
 }

@@ -25,19 +25,29 @@ pub struct Shown {
     pub vector: Bits,
 }
 
-/// What claims of one or two inputs show of an assigned pair beside others, by tables, if they show something.
-pub(crate) fn shown_by_claims(
+/// What is looked up in tables.
+#[derive(Clone, Copy)]
+pub(crate) enum LookUp {
+    /// Claims of one input and of two.
+    Claims,
+    /// The cubes to which primes are carried.
+    Primes,
+}
+
+/// What tables show of an assigned pair beside others, if they show something.
+pub(crate) fn shown_by(
     alloc: Global,
     tables: &Tables,
     assigned: &[Pair],
     latest: Pair,
+    by: LookUp,
 ) -> Result<Option<Shown>, AllocError> {
     if let Some(tabled) = tables.tabled(latest) {
-        return claims_of_output(alloc, &tabled, assigned);
+        return shown_of_output(alloc, &tabled, assigned, by);
     }
     for pair in assigned.iter() {
         if let Some(tabled) = tables.tabled(*pair) {
-            if let Some(shown) = claims_of_input(alloc, &tabled, assigned, latest)? {
+            if let Some(shown) = shown_of_input(alloc, &tabled, assigned, latest, by)? {
                 return Ok(Some(shown));
             }
         }
@@ -45,13 +55,39 @@ pub(crate) fn shown_by_claims(
     Ok(None)
 }
 
-// What claims show of a pair of outputs, alone and beside pairs of inputs.
+// What tables show of a pair of outputs, alone and beside pairs of inputs.
+fn shown_of_output(
+    alloc: Global,
+    tabled: &TabledPair<'_>,
+    assigned: &[Pair],
+    by: LookUp,
+) -> Result<Option<Shown>, AllocError> {
+    match by {
+        LookUp::Claims => claims_of_output(alloc, tabled, assigned),
+        LookUp::Primes => primes_of_output(alloc, tabled, assigned),
+    }
+}
+
+// What tables show of a pair of outputs and an input's pair, alone and beside other inputs'.
+fn shown_of_input(
+    alloc: Global,
+    tabled: &TabledPair<'_>,
+    assigned: &[Pair],
+    input: Pair,
+    by: LookUp,
+) -> Result<Option<Shown>, AllocError> {
+    match by {
+        LookUp::Claims => claims_of_input(alloc, tabled, assigned, input),
+        LookUp::Primes => primes_of_input(alloc, tabled, assigned, input),
+    }
+}
+
 fn claims_of_output(
     alloc: Global,
     tabled: &TabledPair<'_>,
     assigned: &[Pair],
 ) -> Result<Option<Shown>, AllocError> {
-    if !tabled.has_even_counts() {
+    if !tabled.has_same_counts() {
         return Ok(Some(by_claims(alloc, tabled, &[])?));
     }
     for pair in assigned.iter() {
@@ -62,7 +98,6 @@ fn claims_of_output(
     Ok(None)
 }
 
-// What claims show of a pair of outputs and an input's pair, alone and beside another input's.
 fn claims_of_input(
     alloc: Global,
     tabled: &TabledPair<'_>,
@@ -87,35 +122,15 @@ fn is_other_input(other: Pair, input: Pair) -> bool {
     (other.kind == PortKind::Input) & (other.to != input.to)
 }
 
-/// What primes show of an assigned pair beside others, by tables, if they show something.
-pub(crate) fn shown_by_primes(
-    alloc: Global,
-    tables: &Tables,
-    assigned: &[Pair],
-    latest: Pair,
-) -> Result<Option<Shown>, AllocError> {
-    if let Some(tabled) = tables.tabled(latest) {
-        return primes_of_output(alloc, &tabled, assigned);
-    }
-    for pair in assigned.iter() {
-        if let Some(tabled) = tables.tabled(*pair) {
-            if let Some(shown) = primes_of_input(alloc, &tabled, assigned, latest)? {
-                return Ok(Some(shown));
-            }
-        }
-    }
-    Ok(None)
-}
-
 fn primes_of_input(
     alloc: Global,
     tabled: &TabledPair<'_>,
     assigned: &[Pair],
-    latest: Pair,
+    input: Pair,
 ) -> Result<Option<Shown>, AllocError> {
     let images = Images::new(alloc, tabled, assigned)?;
-    let column = Column::new(alloc, *tabled, &images, assigned, latest.to)?;
-    match column.wrong_prime(latest) {
+    let column = Column::new(alloc, *tabled, &images, assigned, input.to)?;
+    match column.wrong_prime(input) {
         Some(number) => by_prime(alloc, tabled, &images, assigned, number),
         None => Ok(None),
     }

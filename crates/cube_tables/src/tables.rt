@@ -78,7 +78,7 @@ impl Tables {
 
 impl TabledPair<'_> {
     /// Whether the outputs depend on as many inputs, and are binate in as many.
-    pub(crate) fn has_even_counts(&self) -> bool {
+    pub(crate) fn has_same_counts(&self) -> bool {
         self.first.counts() == self.second.counts()
     }
 
@@ -92,9 +92,7 @@ impl TabledPair<'_> {
             one != other
         }
     }
-}
 
-impl TabledPair<'_> {
     /// Whether claims of two inputs differ of the two, where the inputs' pairs are such.
     pub(crate) fn is_unlike_with(&self, input: Pair, other: Pair) -> bool {
         match self.swaps_of(input, other) {
@@ -121,11 +119,9 @@ impl TabledPair<'_> {
 // The claims that fail where the values from which two inputs change are inverted.
 fn moved_swaps(failing: u8, one: bool, other: bool) -> u8 {
     let mut moved = 0;
-    for from in [false, true] {
-        for with in [false, true] {
-            if failing & swap_bit(from != one, with != other) != 0 {
-                moved |= swap_bit(from, with);
-            }
+    for (from, with) in [(false, false), (false, true), (true, false), (true, true)] {
+        if failing & swap_bit(from != one, with != other) != 0 {
+            moved |= swap_bit(from, with);
         }
     }
     moved

@@ -28,10 +28,10 @@ use Rattle.match_search.specs.declared.ahead.Ahead.{Ahead}
 use Rattle.match_search.specs.declared.ahead.Ahead.TheVariants as ahead
 use Rattle.match_search.specs.declared.ahead.WholeCompared.{WholeCompared}
 use Rattle.match_search.specs.declared.ahead.WholeCompared.TheVariants as compared
-use Rattle.match_search.specs.declared.tabled.TableAhead.{TableAhead}
-use Rattle.match_search.specs.declared.tabled.TableAhead.TheVariants as tables
-use Rattle.match_search.specs.declared.tabled.Tabled.{Tabled}
-use Rattle.match_search.specs.declared.tabled.Tabled.TheVariants as tabled
+use Rattle.match_search.specs.declared.table_refusal.TableAhead.{TableAhead}
+use Rattle.match_search.specs.declared.table_refusal.TableAhead.TheVariants as tables
+use Rattle.match_search.specs.declared.table_refusal.TurnEnd.{TurnEnd}
+use Rattle.match_search.specs.declared.table_refusal.TurnEnd.TheVariants as ends
 pub use Rattle.fact_bans.specs.Serving.{AreValid, HasServed}
 pub use Rattle.class_refine.specs.Refining.{IsShownTrail}
 
@@ -176,12 +176,12 @@ IsWholeCompared graphs bans assigned (compared.Ban number) = Covers bans assigne
 
 -- a step ahead by tables: it goes on, tables say of no other port, or it doesn't go on
 abbrev pub IsTableAhead : List Ban → Domained → TableAhead → Type 0
-IsTableAhead bans domains tables.Further = ⊤
-IsTableAhead bans domains tables.Nothing = ⊤
+IsTableAhead bans domains tables.Advanced = ⊤
+IsTableAhead bans domains tables.NoPort = ⊤
 IsTableAhead bans domains (tables.Conflict conflict) = IsConflict bans domains conflict
 
 -- a turn by tables: it isn't over, tables don't refuse a match, or a ban has no pairs
-abbrev pub IsTabled : List Ban → Tabled → Type 0
-IsTabled bans tabled.Open = ⊤
-IsTabled bans tabled.Over = ⊤
-IsTabled bans (tabled.Refusal number) = IsEmptyBan bans number
+abbrev pub IsTurnEnd : List Ban → TurnEnd → Type 0
+IsTurnEnd bans ends.Open = ⊤
+IsTurnEnd bans ends.Over = ⊤
+IsTurnEnd bans (ends.Refusal number) = IsEmptyBan bans number

@@ -22,7 +22,7 @@ mod searching;
 mod session;
 mod step_back;
 mod swap_bans;
-mod tabled;
+mod table_refusal;
 mod trail;
 mod unlike;
 mod weights;

@@ -12,7 +12,7 @@ use crate::branching::{explore_rounds, explore_whole};
 use crate::found::Found;
 use crate::heuristics::Heuristics;
 use crate::session::Session;
-use crate::tabled::refuse_by_tables;
+use crate::table_refusal::refuse_by_tables;
 use account_core::PairableGraphs;
 use ban_book::BanBook;
 use cnf_core::Stop;

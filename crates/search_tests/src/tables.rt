@@ -1,4 +1,4 @@
-//! Searches of drawn functions of four inputs, held against trying all matchings.
+//! Searches of drawn functions of four inputs, compared with trying all matchings.
 
 use crate::searches::{Answer, by_book};
 use account_core::PairableGraphs;
@@ -39,12 +39,18 @@ fn bit_at(bits: &[bool], place: usize) -> bool {
     }
 }
 
+/// The places of the inputs, ascending.
+fn all_places(alloc: Global) -> Result<Vec<usize>, AllocError> {
+    let mut places = Vec::new(alloc);
+    for place in 0..INPUTS {
+        places.push(place)?;
+    }
+    Ok(places)
+}
+
 /// An order of the inputs, by its number.
 fn order_of(alloc: Global, number: usize) -> Result<Vec<usize>, AllocError> {
-    let mut left = Vec::new(alloc);
-    for place in 0..INPUTS {
-        left.push(place)?;
-    }
+    let mut left = all_places(alloc)?;
     let mut order = Vec::new(alloc);
     let mut rest = number;
     for _place in 0..INPUTS {
@@ -122,15 +128,23 @@ fn carries(by: &Move, one: &[bool], other: &[bool]) -> bool {
 fn have_match(alloc: Global, one: &[bool], other: &[bool]) -> Result<bool, AllocError> {
     for number in 0..ORDERS {
         let order = order_of(alloc, number)?;
-        let mut by = Move { order, signs: 0 };
-        for signs in 0..one.len() {
-            by.signs = signs;
-            if carries(&by, one, other) {
-                return Ok(true);
-            }
+        if have_match_by(order, one, other) {
+            return Ok(true);
         }
     }
     Ok(false)
+}
+
+/// Whether some matching is a match by which the inputs have this order.
+fn have_match_by(order: Vec<usize>, one: &[bool], other: &[bool]) -> bool {
+    let mut by = Move { order, signs: 0 };
+    for signs in 0..one.len() {
+        by.signs = signs;
+        if carries(&by, one, other) {
+            return true;
+        }
+    }
+    false
 }
 
 /// A graph of the function: an OR of ANDs, one of each vector on which it is 1.
@@ -167,8 +181,8 @@ fn add_gate(gates: &mut Vec<(u32, u32)>, one: u32, other: u32) -> Result<u32, Al
     Ok(2 * signal)
 }
 
-/// Two functions by a number: a drawn one, and the same with its inputs moved, changed on two vectors where the number is
-/// odd.
+/// Two functions by a number: a drawn one, and the same with its inputs moved, changed on two vectors where the number
+/// is odd.
 fn two_functions(alloc: Global, number: u64) -> Result<(Vec<bool>, Vec<bool>), AllocError> {
     let mut numbers = Pcg32::new(number, 54);
     let one = drawn_bits(alloc, &mut numbers)?;

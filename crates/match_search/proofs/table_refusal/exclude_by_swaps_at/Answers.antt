@@ -5,7 +5,7 @@ use Rattle.ban_book.specs.Covering.{Covers}
 use Rattle.account_core.specs.Assigned.{AreAssignable}
 use Rattle.pair_search.proofs.PivotLemmas.{assigned_known}
 use Rattle.match_search.proofs.StepLemmas.{goes_ok, gone_none}
-use Rattle.match_search.proofs.tabled.exclude_by_swaps_at.Goals as goal
+use Rattle.match_search.proofs.table_refusal.exclude_by_swaps_at.Goals as goal
 
 pub returns-in_default : goal.returns-in_default
 returns-in_default g c = record { goes_on = goes_ok (gone_none c.requires.may.may); covers = tt }

@@ -1,5 +1,5 @@
 use Rattle.match_search.proofs.StepLemmas.{may_go_on, steps_err, steps_ok, way_more, way_start}
-use Rattle.match_search.proofs.tabled.take_turns.Goals as goal
+use Rattle.match_search.proofs.table_refusal.take_turns.Goals as goal
 
 pub loop-turn-init : goal.loop-turn-init
 loop-turn-init g c = way_start c.requires.may

@@ -1,5 +1,5 @@
 use Rattle.match_search.proofs.SearchLemmas.{explores_none, explores_stop}
-use Rattle.match_search.proofs.tabled.refuse_by_tables.Goals as goal
+use Rattle.match_search.proofs.table_refusal.refuse_by_tables.Goals as goal
 
 pub returns-in_err-plan-clause-explores : goal.returns-in_err-plan-clause-explores
 returns-in_err-plan-clause-explores g c = explores_stop c.from_residual.ensures.1 c.requires.may

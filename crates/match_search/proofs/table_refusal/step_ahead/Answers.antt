@@ -1,6 +1,6 @@
 use Rattle.std.proofs.Common.{refl}
 use Rattle.match_search.proofs.StepLemmas.{steps_fail, steps_ok, steps_stop, way_bans, way_start, way_stays}
-use Rattle.match_search.proofs.tabled.ahead.Goals as goal
+use Rattle.match_search.proofs.table_refusal.step_ahead.Goals as goal
 
 pub returns-in_err-shown-clause-steps : goal.returns-in_err-shown-clause-steps
 returns-in_err-shown-clause-steps g c = steps_stop c.from_residual.ensures.1 (way_start c.requires.may)

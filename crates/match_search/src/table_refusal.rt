@@ -6,7 +6,7 @@ ghost use Rattle.account_core.specs.Shown.{IsEmptyBan};
 ghost use Rattle.pair_domains.specs.Trails.{IsFreePort, assigned_in, ports_of};
 ghost use Rattle.pair_search.specs.Justified.{IsJustifiedTrail};
 ghost use Rattle.pair_search.specs.Progress.{IsTrail, StaysJustified};
-ghost use Rattle.match_search.specs.States.{Excludes, Explores, IsTableAhead, IsTabled};
+ghost use Rattle.match_search.specs.States.{Excludes, Explores, IsTableAhead, IsTurnEnd};
 ghost use Rattle.match_search.specs.States.{MaySearch, MayStep, Steps, lent};
 
 use crate::choosing::is_free;
@@ -25,10 +25,11 @@ use std::alloc::{AllocError, Global};
 use vector_bans::{Suspicion, ban_suspected};
 use watch_core::Stage;
 
-/// How many turns a refusal may take for each ban that is foreseen, and beside these. A ban takes one, an input that is
-/// paired another, and ways that share a port with an assigned pair one each.
+/// How many turns a refusal may take for each ban that is foreseen. A ban takes one, an input that is paired another,
+/// and ways that share a port with an assigned pair one each.
 const TURNS: u64 = 4;
 
+/// How many turns it may take beside these, since an estimate of few bans may err by more: some 20 ms.
 const MORE_TURNS: u64 = 10_000;
 
 /// The pairs that are assigned and deleted, and the bans that were made of mismatches.
@@ -60,16 +61,16 @@ impl TableTrail {
 #[derive(Drop)]
 pub(crate) enum TableAhead {
     /// It goes on.
-    Further,
+    Advanced,
     /// Tables say of no other port.
-    Nothing,
+    NoPort,
     /// The search can't go on.
     Conflict(Conflict),
 }
 
 /// What a turn comes to.
 #[derive(Drop)]
-pub(crate) enum Tabled {
+pub(crate) enum TurnEnd {
     /// It isn't over.
     Open,
     /// Tables don't refuse a match.
@@ -127,9 +128,9 @@ fn take_turns<O: Oracle>(
     let turns = plan.bans.saturating_mul(TURNS).saturating_add(MORE_TURNS);
     for _turn in 0..turns {
         match turn(graphs, session, plan, trail)? {
-            Tabled::Open => {}
-            Tabled::Over => return Ok(None),
-            Tabled::Refusal(ban) => return Ok(Some(ban)),
+            TurnEnd::Open => {}
+            TurnEnd::Over => return Ok(None),
+            TurnEnd::Refusal(ban) => return Ok(Some(ban)),
         }
     }
     Ok(None)
@@ -141,16 +142,16 @@ fn turn<O: Oracle>(
     session: &mut Session<'_, O>,
     plan: &mut Plan,
     trail: &mut TableTrail,
-) -> Result<Tabled, Stop>
+) -> Result<TurnEnd, Stop>
     requires may { MayStep graphs.now (lent O.known session.old) trail.old.domains }
     ensures steps { Steps graphs.now (lent O.known session.old) (lent O.known session.new) trail.new.domains result }
-    ensures tabled { IfOk result (IsTabled session.new.book.now) }
+    ensures ends { IfOk result (IsTurnEnd session.new.book.now) }
 {
     let bans = session.book.bans().len() as u64;
     session.at(Stage::Banning { bans });
-    let conflict = match ahead(graphs, session, plan, &mut trail.domains)? {
-        TableAhead::Further => return Ok(Tabled::Open),
-        TableAhead::Nothing => return Ok(Tabled::Over),
+    let conflict = match step_ahead(graphs, session, plan, &mut trail.domains)? {
+        TableAhead::Advanced => return Ok(TurnEnd::Open),
+        TableAhead::NoPort => return Ok(TurnEnd::Over),
         TableAhead::Conflict(conflict) => conflict,
     };
     let refusal = step_back(
@@ -163,13 +164,13 @@ fn turn<O: Oracle>(
     )?;
     plan.go_back_to(trail.domains.pairs().len());
     match refusal {
-        None => Ok(Tabled::Open),
-        Some(ban) => Ok(Tabled::Refusal(ban)),
+        None => Ok(TurnEnd::Open),
+        Some(ban) => Ok(TurnEnd::Refusal(ban)),
     }
 }
 
 // One step ahead: tables are looked up for the latest pair, and where they show nothing the next port is decided.
-fn ahead<O: Oracle>(
+fn step_ahead<O: Oracle>(
     graphs: &PairableGraphs<'_>,
     session: &mut Session<'_, O>,
     plan: &mut Plan,
@@ -180,13 +181,13 @@ fn ahead<O: Oracle>(
     ensures ahead { IfOk result (IsTableAhead session.new.book.now domains.new) }
 {
     let alloc = session.asker.alloc;
-    let Some(shown) = plan.shown(alloc, domains.pairs())? else {
+    let Some(shown) = plan.next_shown(alloc, domains.pairs())? else {
         let next = decide_next(alloc, plan, domains)?;
         return Ok(next);
     };
     match exclude_shown(graphs, session, domains, &shown, plan.place())? {
         Some(ban) => Ok(TableAhead::Conflict(Conflict::Ban(ban))),
-        None => Ok(TableAhead::Further),
+        None => Ok(TableAhead::Advanced),
     }
 }
 
@@ -202,10 +203,10 @@ fn decide_next(
     ensures ahead { (bans : List AnyBan) → IfOk result (IsTableAhead bans domains.new) }
 {
     let Some(port) = free_port(alloc, plan, domains)? else {
-        return Ok(TableAhead::Nothing);
+        return Ok(TableAhead::NoPort);
     };
     match branch(domains, port)? {
-        None => Ok(TableAhead::Further),
+        None => Ok(TableAhead::Advanced),
         Some(conflict) => Ok(TableAhead::Conflict(conflict)),
     }
 }

@@ -5,7 +5,7 @@ use Rattle.ban_book.specs.Covering.{Covers}
 use Rattle.account_core.specs.Assigned.{AreAssignable}
 use Rattle.pair_search.proofs.PivotLemmas.{assigned_known}
 use Rattle.match_search.proofs.StepLemmas.{goes_by}
-use Rattle.match_search.proofs.tabled.exclude_by_cubes.Goals as goal
+use Rattle.match_search.proofs.table_refusal.exclude_by_cubes.Goals as goal
 
 pub ban_suspected-requires : goal.ban_suspected-requires
 ban_suspected-requires g c =

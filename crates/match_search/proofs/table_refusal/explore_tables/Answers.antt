@@ -1,7 +1,7 @@
 -- All pairs are open at first.
 use Rattle.match_search.proofs.StepLemmas.{may_anew}
 use Rattle.match_search.proofs.SearchLemmas.{explores_steps, explores_stop}
-use Rattle.match_search.proofs.tabled.explore_tables.Goals as goal
+use Rattle.match_search.proofs.table_refusal.explore_tables.Goals as goal
 
 pub returns-in_err-trail-clause-explores : goal.returns-in_err-trail-clause-explores
 returns-in_err-trail-clause-explores g c = explores_stop c.from_residual.ensures.1 c.requires.may

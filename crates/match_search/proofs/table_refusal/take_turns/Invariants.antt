@@ -1,6 +1,6 @@
 use Rattle.match_search.specs.States.{lent}
 use Rattle.match_search.proofs.AskLemmas.{IsUnderWay}
-use Rattle.match_search.proofs.tabled.take_turns.Given as goal
+use Rattle.match_search.proofs.table_refusal.take_turns.Given as goal
 
 abbrev pub invariant-loop-turn : goal.invariant-loop-turn
 invariant-loop-turn g l =
