@@ -17,3 +17,7 @@ pub mod KeyLemmas
 pub mod LookUpLemmas
 pub mod PortLemmas
 pub mod PushLemmas
+pub mod OrderLemmas
+pub mod SizeLemmas
+pub mod CheckLemmas
+pub mod LimitLemmas

@@ -12,3 +12,7 @@ pub mod Flattening
 pub mod Signals
 pub mod Hierarchies
 pub mod Scopes
+pub mod Order
+pub mod Sizes
+pub mod Checks
+pub mod Limits

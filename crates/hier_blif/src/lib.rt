@@ -3,14 +3,19 @@
 #![tactic(auto)]
 
 mod bindings;
+mod checks;
 mod fault;
 mod laws;
+mod limits;
 mod model;
 mod names;
 mod numbers;
+mod order;
 mod reader;
+mod sizes;
 mod words;
 
+pub use checks::check_models;
 pub use fault::{HierFault, HierKind, HierStop};
 pub use laws::{flattened_means_nested, hier_blif_is_a_format, names_have_a_numbering};
 pub use model::{BlifModel, CoverLine, InstanceLine, ModelLine};

@@ -36,8 +36,8 @@ use text_core::Span;
 
 // The models of a file, with what is looked up of them.
 #[derive(Drop)]
-struct Scope<'m, 'a> {
-    models: &'m [BlifModel<'a>],
+pub(crate) struct Scope<'m, 'a> {
+    pub(crate) models: &'m [BlifModel<'a>],
     // Which model has a name: the first that has it.
     places: NameNumbers<'a>,
     // The names of the ports of each model.
@@ -73,7 +73,10 @@ pub fn check_names(alloc: Global, models: &[BlifModel<'_>]) -> Result<(), HierSt
 }
 
 // What is looked up of models whose names have no fault.
-fn scope_of<'m, 'a>(alloc: Global, models: &'m [BlifModel<'a>]) -> Result<Scope<'m, 'a>, HierStop>
+pub(crate) fn scope_of<'m, 'a>(
+    alloc: Global,
+    models: &'m [BlifModel<'a>],
+) -> Result<Scope<'m, 'a>, HierStop>
     ensures names { Finds (name_faults models.now) result }
     ensures scope { IfOk result (λ scope. (scope.models.now ≡ models.now) × IsScope scope) }
 {
@@ -220,7 +223,7 @@ fn model_places<'a>(alloc: Global, models: &[BlifModel<'a>]) -> Result<NameNumbe
 
 impl<'m, 'a> Scope<'m, 'a> {
     // Where the model of an instance stands among the models: after the last where it is of none of them.
-    fn place_of(&self, line: &InstanceLine<'_>) -> usize
+    pub(crate) fn place_of(&self, line: &InstanceLine<'_>) -> usize
         requires { IsScope self.now }
         ensures { result ≡ position_or_len (has_name line.now.model.bytes) self.now.models.now }
     {

@@ -1,8 +1,8 @@
 //! Files of several models, whose lines and first faults are worked out by hand.
 
 use hier_blif::{
-    BlifModel, CoverLine, HierFault, HierKind, HierStop, InstanceLine, ModelLine, check_names,
-    read_models,
+    BlifModel, CoverLine, HierFault, HierKind, HierStop, InstanceLine, ModelLine, check_models,
+    check_names, read_models,
 };
 use std::alloc::{AllocError, Global};
 use std::test::Fail;
@@ -276,5 +276,122 @@ fn finds_the_first_fault_of_names(rt: HostRuntime) -> Result<(), Fail> {
         };
         assert!(rt; has_fault_of_names(rt.alloc(), file, fault));
     }
+    Ok(())
+}
+
+// Reads the models of a file, and checks all of them that is checked before any instance is made.
+fn check_hierarchy(alloc: Global, file: &[u8]) -> Result<(), HierStop> {
+    let models = read_models(alloc, file)?;
+    if models.is_empty() {
+        return Ok(());
+    }
+    check_models(alloc, &models, file.len() as u64)
+}
+
+static FAULTS_OF_HIERARCHIES: [(&'static [u8], HierKind, u64); 4] = [
+    (
+        b".model t\n.inputs a\n.outputs y\n.subckt t a=a y=y\n",
+        HierKind::Recursion,
+        30,
+    ),
+    // the first model has an instance of one with a depth, and then of one of two that have instances of each other
+    (
+        b".model t\n.inputs\n.outputs\n.subckt l\n.subckt u\n.model u\n.inputs\n.outputs\n.subckt v\n\
+          .model v\n.inputs\n.outputs\n.subckt u\n.model l\n.inputs\n.outputs\n",
+        HierKind::Recursion,
+        36,
+    ),
+    // also where no instance of the first model leads there
+    (
+        b".model t\n.inputs\n.outputs\n.model u\n.inputs\n.outputs\n.subckt u\n",
+        HierKind::Recursion,
+        52,
+    ),
+    // a name that is refused comes before any instance
+    (
+        b".model t\n.inputs\n.outputs y\n.subckt t y=z\n",
+        HierKind::Undefined,
+        26,
+    ),
+];
+
+fn has_fault_of_hierarchy(alloc: Global, file: &[u8], fault: HierFault) -> bool {
+    match check_hierarchy(alloc, file) {
+        Err(HierStop::Fault(found)) => found == fault,
+        _ => false,
+    }
+}
+
+#[test]
+fn finds_the_first_instance_without_a_depth(rt: HostRuntime) -> Result<(), Fail> {
+    for (file, kind, at) in FAULTS_OF_HIERARCHIES.iter() {
+        let fault = HierFault {
+            kind: *kind,
+            at: *at,
+        };
+        assert!(rt; has_fault_of_hierarchy(rt.alloc(), file, fault));
+    }
+    Ok(())
+}
+
+// A model with two instances of the one whose name is the next letter.
+fn add_doubling(letter: u8, text: &mut Vec<u8>) -> Result<(), AllocError> {
+    text.extend_from_slice(b".model ")?;
+    text.push(letter)?;
+    text.extend_from_slice(b"\n.inputs\n.outputs\n.subckt ")?;
+    text.push(letter.wrapping_add(1))?;
+    text.extend_from_slice(b"\n.subckt ")?;
+    text.push(letter.wrapping_add(1))?;
+    text.extend_from_slice(b"\n")
+}
+
+// Models of which each has two instances of the next, and the last none.
+fn doublings(alloc: Global, letters: &[u8], last: u8) -> Result<Vec<u8>, AllocError> {
+    let mut text = Vec::new(alloc);
+    for letter in letters.iter() {
+        add_doubling(*letter, &mut text)?;
+    }
+    text.extend_from_slice(b".model ")?;
+    text.push(last)?;
+    text.extend_from_slice(b"\n.inputs\n.outputs\n")?;
+    Ok(text)
+}
+
+#[test]
+fn counts_instances_and_makes_none(rt: HostRuntime) -> Result<(), Fail> {
+    // 4,194,303 instances, and twice as many and one
+    let small = doublings(rt.alloc(), b"abcdefghijklmnopqrstu", b'v')?;
+    check_hierarchy(rt.alloc(), &small)?;
+    let large = doublings(rt.alloc(), b"abcdefghijklmnopqrstuv", b'w')?;
+    let fault = HierFault {
+        kind: HierKind::TooBig,
+        at: large.len() as u64,
+    };
+    assert!(rt; has_fault_of_hierarchy(rt.alloc(), &large, fault));
+    Ok(())
+}
+
+// A model with so many inputs, whose names are numbers from 0 on.
+fn with_inputs(alloc: Global, count: u64) -> Result<Vec<u8>, AllocError> {
+    let mut text = Vec::from_slice(alloc, b".model t\n.outputs\n.inputs")?;
+    for input in 0..count {
+        text.push(b' ')?;
+        put_decimal(input, &mut text)?;
+    }
+    text.push(b'\n')?;
+    Ok(text)
+}
+
+#[test]
+fn counts_ports_of_the_first_model(rt: HostRuntime) -> Result<(), Fail> {
+    let few = with_inputs(rt.alloc(), 1024)?;
+    check_hierarchy(rt.alloc(), &few)?;
+    // the line has 25 bytes before the inputs 0 to 1023, which take 20, 270, 3,600 and 120 bytes by their lengths
+    let many = with_inputs(rt.alloc(), 1025)?;
+    let fault = HierFault {
+        kind: HierKind::TooManyInputs,
+        at: 4036,
+    };
+    assert!(rt; has_fault_of_hierarchy(rt.alloc(), &many, fault));
     Ok(())
 }

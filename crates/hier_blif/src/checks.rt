@@ -1,0 +1,37 @@
+//! What is checked of a file's models before any instance is made.
+
+ghost use Rattle.std.specs.Prelude.{◌+◌, ◌<◌, ◌≡◌, nat_lt, length, IfOk, IfErr};
+ghost use Rattle.hier_blif.specs.Stops.{IsStopBy};
+ghost use Rattle.hier_blif.specs.Checks.{AreChecked, IsModelFault};
+
+use crate::fault::{HierKind, HierStop, fault_at};
+use crate::limits::check_limits;
+use crate::model::BlifModel;
+use crate::names::scope_of;
+use crate::order::order_models;
+use crate::sizes::sizes_of;
+use std::alloc::Global;
+
+/// Checks a file's models: their names, that each instance's model has a depth, how large the circuit is that the first
+/// model is flattened to, and how many ports it has. A model without instances has depth 1, and another one is one
+/// deeper than the deepest model of its instances. Instances are counted and not made. `end` is the length of the file.
+///
+/// # Errors
+///
+/// [`HierStop::Fault`] with the first fault: of names, as [`check_names`](crate::check_names) says; the first instance
+/// whose model has no depth, at its line; more than 8,000,000 instances and covers together, the first model as one
+/// instance, at the file's end; or more inputs of the first model than 1,024, or else more outputs, at the first one
+/// beyond. [`HierStop::Memory`] when out of memory.
+pub fn check_models(alloc: Global, models: &[BlifModel<'_>], end: u64) -> Result<(), HierStop>
+    requires top { 0 < length models.now }
+    ensures checked { IfOk result (λ _. AreChecked models.now) }
+    ensures fault { IfErr result (IsStopBy (IsModelFault end models.now)) }
+{
+    let scope = scope_of(alloc, models)?;
+    let order = order_models(alloc, &scope)?;
+    let sizes = sizes_of(alloc, &scope, &order)?;
+    if sizes[0].is_too_big() {
+        return Err(fault_at(end, HierKind::TooBig));
+    }
+    check_limits(&models[0].lines)
+}
