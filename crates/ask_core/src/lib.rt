@@ -5,6 +5,7 @@ mod base;
 mod charging;
 mod classes;
 mod clauses;
+mod covers;
 mod gates;
 mod guided;
 mod guiding;

@@ -1,7 +1,7 @@
 //! How the exclusive ors between two gates add up to their being equal.
 
 use crate::pairs::GatePair;
-use crate::xors::{Xors, has, toggled};
+use crate::xors::{Xor, Xors, has, toggled};
 use cnf_core::SatLit;
 use learn_solver::Part;
 use std::alloc::{AllocError, Global};
@@ -124,22 +124,30 @@ fn between(
 fn next_equation(alloc: Global, xors: &Xors, open: &[u64]) -> Result<Option<Equation>, AllocError> {
     for variable in open.iter().rev() {
         if let Some(sum) = xors.sum_of(*variable) {
-            let own = [*variable];
-            let operands = toggled(alloc, &[sum.first.variable()], &[sum.second.variable()])?;
-            let mut variables = toggled(alloc, &own, &operands)?;
-            let constant = has(&variables, 0);
-            if constant {
-                variables = toggled(alloc, &variables, &[0])?;
-            }
-            let negated = sum.first.is_negated() ^ sum.second.is_negated();
-            return Ok(Some(Equation {
-                variables,
-                is_odd: negated ^ sum.is_opposite ^ constant,
-                is_used: false,
-            }));
+            return Ok(Some(equation_of(alloc, *variable, sum)?));
         }
     }
     Ok(None)
+}
+
+// That a variable is a sum, as an equation.
+fn equation_of(alloc: Global, variable: u64, sum: &Xor) -> Result<Equation, AllocError> {
+    let mut variables = toggled(alloc, &[variable], &[])?;
+    let mut is_odd = sum.is_opposite;
+    for operand in sum.operands.iter() {
+        variables = toggled(alloc, &variables, &[operand.variable()])?;
+        is_odd ^= operand.is_negated();
+    }
+    // variable 0 is true
+    if has(&variables, 0) {
+        variables = toggled(alloc, &variables, &[0])?;
+        is_odd = !is_odd;
+    }
+    Ok(Equation {
+        variables,
+        is_odd,
+        is_used: false,
+    })
 }
 
 // The two equations whose sum is the narrowest, among those that share a variable and weren't added.

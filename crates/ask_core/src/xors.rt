@@ -1,5 +1,6 @@
 //! Which gates are exclusive ors, and of what.
 
+use crate::covers::operands_of_cover;
 use crate::gates::LitGate;
 use crate::pairs::GatePair;
 use cnf_core::SatLit;
@@ -10,11 +11,10 @@ use std::alloc::{AllocError, Global};
 /// chain of exclusive ors take time and memory in proportion to its gates.
 const LONGEST: usize = 128;
 
-/// The sum of two literals that a gate's output is, by what stands for each.
-#[derive(Clone, Copy, Drop)]
+/// The sum of literals that a gate's output is, by what stands for each.
+#[derive(Drop)]
 pub(crate) struct Xor {
-    pub(crate) first: SatLit,
-    pub(crate) second: SatLit,
+    pub(crate) operands: Vec<SatLit>,
     /// Whether the output's variable is the sum's opposite.
     pub(crate) is_opposite: bool,
 }
@@ -28,6 +28,8 @@ struct Form {
 /// The exclusive ors among gates each of which stands after its operands, where those of a pair are taken for equal.
 pub(crate) struct Xors {
     gates: IndexMap<u64, LitGate>,
+    /// How many literals the chain of ANDs joins that ends with each gate, along first operands.
+    joined: IndexMap<u64, usize>,
     /// What stands for a variable, if it is the later one of a pair.
     leaders: IndexMap<u64, SatLit>,
     sums: IndexMap<u64, Xor>,
@@ -39,6 +41,7 @@ impl Drop for Xors {
     fn drop(self) {
         let Xors {
             gates: _gates,
+            joined: _joined,
             leaders: _leaders,
             sums: _sums,
             forms: _forms,
@@ -54,6 +57,7 @@ impl Xors {
     ) -> Result<Xors, AllocError> {
         let mut xors = Xors {
             gates: IndexMap::new(alloc),
+            joined: IndexMap::new(alloc),
             leaders: IndexMap::new(alloc),
             sums: IndexMap::new(alloc),
             forms: IndexMap::new(alloc),
@@ -64,8 +68,8 @@ impl Xors {
     }
 
     /// The sum that a variable is, if it is one.
-    pub(crate) fn sum_of(&self, variable: u64) -> Option<Xor> {
-        self.sums.get(&variable).copied()
+    pub(crate) fn sum_of(&self, variable: u64) -> Option<&Xor> {
+        self.sums.get(&variable)
     }
 
     /// Whether two variables are sums of the same more than two variables.
@@ -100,19 +104,37 @@ impl Xors {
 
     fn add_gate(&mut self, alloc: Global, gate: LitGate) -> Result<(), AllocError> {
         let variable = gate.output.variable();
+        let joined = self.joined_with(gate.first).saturating_add(1);
         self.gates.insert(variable, gate)?;
-        let Some(sum) = self.xor_of(gate) else {
+        self.joined.insert(variable, joined)?;
+        let Some(sum) = self.xor_of(alloc, gate)? else {
             return Ok(());
         };
-        let one = self.form_of(alloc, sum.first.variable())?;
-        let other = self.form_of(alloc, sum.second.variable())?;
-        let variables = toggled(alloc, &one, &other)?;
+        let variables = self.variables_of(alloc, &sum)?;
         if variables.len() > LONGEST {
             return Ok(());
         }
         self.sums.insert(variable, sum)?;
         self.forms.insert(variable, Form { variables })?;
         Ok(())
+    }
+
+    // How many literals a gate joins that is an operand, and 1 of what is no gate's output.
+    fn joined_with(&self, operand: SatLit) -> usize {
+        if operand.is_negated() {
+            return 1;
+        }
+        self.joined.get(&operand.variable()).copied().unwrap_or(1)
+    }
+
+    // The variables whose sum a sum is.
+    fn variables_of(&self, alloc: Global, sum: &Xor) -> Result<Vec<u64>, AllocError> {
+        let mut variables = Vec::new(alloc);
+        for operand in sum.operands.iter() {
+            let form = self.form_of(alloc, operand.variable())?;
+            variables = toggled(alloc, &variables, &form)?;
+        }
+        Ok(variables)
     }
 
     // The form of what a sum adds: that of a sum, or the variable alone, and nothing for the constant.
@@ -127,8 +149,30 @@ impl Xors {
         Ok(own)
     }
 
-    // What a gate adds, where it is an exclusive or: neither both of two literals nor both of their opposites.
-    fn xor_of(&self, gate: LitGate) -> Option<Xor> {
+    // What a gate adds, where it is an exclusive or of two literals or a cover that is one.
+    fn xor_of(&self, alloc: Global, gate: LitGate) -> Result<Option<Xor>, AllocError> {
+        if let Some((first, second)) = self.summands_of(gate) {
+            let mut operands = Vec::new(alloc);
+            operands.push(first)?;
+            operands.push(second)?;
+            return Ok(Some(Xor {
+                operands,
+                is_opposite: gate.output.is_negated(),
+            }));
+        }
+        let rows = self.joined_with(gate.output);
+        let Some(literals) = operands_of_cover(alloc, &self.gates, gate, rows)? else {
+            return Ok(None);
+        };
+        let is_odd = literals.len() % 2 == 1;
+        Ok(Some(Xor {
+            operands: self.leaders_of(alloc, &literals)?,
+            is_opposite: gate.output.is_negated() ^ is_odd,
+        }))
+    }
+
+    // The two literals whose sum a gate is, if it is one: neither both of two literals nor both of their opposites.
+    fn summands_of(&self, gate: LitGate) -> Option<(SatLit, SatLit)> {
         let (both, neither) = (self.leader_of(gate.first), self.leader_of(gate.second));
         if !both.is_negated() | !neither.is_negated() {
             return None;
@@ -137,14 +181,19 @@ impl Xors {
         let other = self.gates.get(&neither.variable()).copied()?;
         let (first, second) = (self.leader_of(one.first), self.leader_of(one.second));
         let (third, fourth) = (self.leader_of(other.first), self.leader_of(other.second));
-        if !are_opposites(first, second, third, fourth) {
-            return None;
+        if are_opposites(first, second, third, fourth) {
+            return Some((first, second));
         }
-        Some(Xor {
-            first,
-            second,
-            is_opposite: gate.output.is_negated(),
-        })
+        None
+    }
+
+    // What stands for each of some literals.
+    fn leaders_of(&self, alloc: Global, literals: &[SatLit]) -> Result<Vec<SatLit>, AllocError> {
+        let mut leaders = Vec::with_capacity(alloc, literals.len())?;
+        for literal in literals.iter() {
+            leaders.push(self.leader_of(*literal))?;
+        }
+        Ok(leaders)
     }
 
     // What stands for a literal.
