@@ -8,9 +8,8 @@ use cnf_core::SatLit;
 use indexmap::IndexMap;
 use std::alloc::{AllocError, Global};
 
-/// The literals of a row of a cover, if it has a row for each vector of one parity of three to six operands, and n rows
-/// whose opposites a chain of gates joins. The last gate is the sum of these literals, and of 1 where they are odd in
-/// number.
+/// The literals of one row of a cover whose last gate joins the opposites of n rows, if these are all vectors of one
+/// parity of three to six operands. The gate is the sum of these literals, and of 1 where they are odd in number.
 ///
 /// # Errors
 ///
