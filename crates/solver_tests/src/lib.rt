@@ -6,6 +6,8 @@ mod answers;
 #[cfg(test)]
 mod clauses;
 #[cfg(test)]
+mod cover_sums;
+#[cfg(test)]
 mod lemmas;
 #[cfg(test)]
 mod queries;
