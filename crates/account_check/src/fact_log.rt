@@ -67,7 +67,7 @@ impl<'a> FactLog<'a> {
     /// The log of another claim of the same circuit, of which no line was taken. What the last log used serves it, so
     /// that it costs no more than a step for each gate that its output reaches, where the last claim was of the same
     /// output.
-    pub(crate) fn turned(self, alloc: Global, claim: &Claim) -> Result<FactLog<'a>, AllocError>
+    pub(crate) fn for_claim(self, alloc: Global, claim: &Claim) -> Result<FactLog<'a>, AllocError>
         requires claim { IsClaim self.graphs claim.now }
         requires side { claim.now.side ≡ self.fact.claim.side }
         ensures { IfOk result (λ log. log ≡ record { graphs = self.entry.graphs; fact = unshown claim.now }) }
@@ -77,7 +77,7 @@ impl<'a> FactLog<'a> {
             refuter,
         } = self;
         let (base, values) = refuter.into_parts();
-        let base = base.turned(alloc, claim)?;
+        let base = base.for_claim(alloc, claim)?;
         Ok(FactLog {
             claim: *claim,
             refuter: Refuter::with_values(alloc, base, values),

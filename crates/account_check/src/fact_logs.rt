@@ -99,7 +99,7 @@ fn next_log<'a>(
     ensures { IfOk result (λ log. log ≡ record { graphs = graphs.now; fact = unshown claim.now }) }
 {
     match last {
-        Some(log) => log.turned(alloc, claim),
+        Some(log) => log.for_claim(alloc, claim),
         None => FactLog::new(alloc, graphs, claim),
     }
 }

@@ -139,5 +139,5 @@ fn next_log<'a>(alloc: Global, log: OpenLog<'a>, matching: &Matching, c: u64) ->
     if output >= matching.outputs.len() as u64 {
         return None;
     }
-    Some(log.turned(alloc, matching, output as u32, c % 2 == 0))
+    Some(log.for_query(alloc, matching, output as u32, c % 2 == 0))
 }

@@ -61,7 +61,7 @@ impl<'a> OpenLog<'a> {
 
     /// A log of another output and value of the same matching, of which no line was taken. What the last log used
     /// serves it, so that it takes no memory.
-    pub(crate) fn turned(
+    pub(crate) fn for_query(
         self,
         alloc: Global,
         matching: &Matching,
@@ -79,7 +79,7 @@ impl<'a> OpenLog<'a> {
     {
         let OpenLog { refuter } = self;
         let (mut base, values) = refuter.into_parts();
-        base.turn_to(matching, output, value);
+        base.set_output(matching, output, value);
         OpenLog {
             refuter: Refuter::with_values(alloc, base, values),
         }

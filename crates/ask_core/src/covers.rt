@@ -8,6 +8,12 @@ use cnf_core::SatLit;
 use indexmap::IndexMap;
 use std::alloc::{AllocError, Global};
 
+/// The most operands of an exclusive or that is found as a cover: as many as the largest lookup tables have inputs.
+const MOST_OPERANDS: usize = 6;
+
+/// How many sets of these operands there are, each a number below it: so many that one word has a bit for each.
+const CODES: u64 = 1 << MOST_OPERANDS;
+
 /// The literals of one row of a cover whose last gate joins the opposites of n rows, if these are all vectors of one
 /// parity of three to six operands. The gate is the sum of these literals, and of 1 where they are odd in number.
 ///
@@ -31,14 +37,13 @@ pub(crate) fn operands_of_cover(
     Ok(None)
 }
 
-// How many operands an exclusive or of n rows has: up to six, as the largest lookup tables. One of two operands is
-// found without this.
+// How many operands an exclusive or of n rows has, up to `MOST_OPERANDS`. One of two operands is found without this.
 fn operands_by_rows(rows: usize) -> Option<usize> {
     match rows {
         4 => Some(3),
         8 => Some(4),
         16 => Some(5),
-        32 => Some(6),
+        32 => Some(MOST_OPERANDS),
         _ => None,
     }
 }
@@ -99,8 +104,8 @@ fn gate_of(gates: &IndexMap<u64, LitGate>, literal: SatLit) -> Option<LitGate> {
     None
 }
 
-// Whether rows, whose opposites are given, each negate another even set of the operands. Where these are n, and the rows
-// 2^(n - 1), the rows are all vectors of one parity.
+// Whether rows, given by their opposites, each negate another even set of the n operands. With 2^(n - 1) rows these are
+// all vectors of one parity.
 fn are_of_one_parity(
     alloc: Global,
     gates: &IndexMap<u64, LitGate>,
@@ -113,15 +118,16 @@ fn are_of_one_parity(
         let Some(code) = code_of(operands, &row) else {
             return Ok(false);
         };
-        if (met >> (code % 64)) % 2 == 1 {
+        if (met >> (code % CODES)) % 2 == 1 {
             return Ok(false);
         }
-        met |= 1 << (code % 64);
+        met |= 1 << (code % CODES);
     }
     Ok(!operands.is_empty())
 }
 
-// Which of up to six operands a row negates, as a number below 64, if it is over these and negates an even number.
+// Which of up to `MOST_OPERANDS` operands a row negates, as a number below `CODES`, if it is over these and negates an
+// even number.
 fn code_of(operands: &[SatLit], row: &[SatLit]) -> Option<u64> {
     if operands.len() != row.len() {
         return None;
@@ -133,7 +139,7 @@ fn code_of(operands: &[SatLit], row: &[SatLit]) -> Option<u64> {
             return None;
         }
         let is_negated = *operand != *literal;
-        code = (code % 32) * 2 + is_negated as u64;
+        code = (code % (CODES / 2)) * 2 + is_negated as u64;
         is_odd ^= is_negated;
     }
     if is_odd {

@@ -89,7 +89,7 @@ impl Xors {
     fn add_leaders(&mut self, pairs: &[GatePair]) -> Result<(), AllocError> {
         for pair in pairs.iter() {
             let GatePair { one, other } = *pair;
-            let leader = turned(one, other.is_negated());
+            let leader = negated_if(one, other.is_negated());
             self.leaders.insert(other.variable(), leader)?;
         }
         Ok(())
@@ -199,7 +199,7 @@ impl Xors {
     // What stands for a literal.
     fn leader_of(&self, literal: SatLit) -> SatLit {
         match self.leaders.get(&literal.variable()) {
-            Some(leader) => turned(*leader, literal.is_negated()),
+            Some(leader) => negated_if(*leader, literal.is_negated()),
             None => literal,
         }
     }
@@ -213,7 +213,7 @@ fn are_opposites(first: SatLit, second: SatLit, third: SatLit, fourth: SatLit) -
 }
 
 // A literal, or its opposite.
-fn turned(literal: SatLit, is_opposite: bool) -> SatLit {
+fn negated_if(literal: SatLit, is_opposite: bool) -> SatLit {
     if is_opposite {
         return literal.opposite();
     }

@@ -108,7 +108,7 @@ impl<D: Decide> Book<D> {
         let query = of_match(alloc, self.decider.graphs(), matching, output, value)?;
         match self.kept.get(&query) {
             Some(answer) => Ok(copied(alloc, answer)?),
-            None => self.ask_anew(alloc, query, ledger),
+            None => self.ask_new(alloc, query, ledger),
         }
     }
 
@@ -136,7 +136,7 @@ impl<D: Decide> Book<D> {
     }
 
     /// Asks a query that wasn't answered.
-    fn ask_anew(&mut self, alloc: Global, query: Query, ledger: &mut Ledger) -> Result<Answer, Stop>
+    fn ask_new(&mut self, alloc: Global, query: Query, ledger: &mut Ledger) -> Result<Answer, Stop>
         requires fits { IsQuery self.old.graphs query }
         requires of_match { IsOfMatch self.old.graphs query }
         requires missing { IsAnswered self.old query → ⊥ }

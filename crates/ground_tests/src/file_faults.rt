@@ -57,7 +57,7 @@ fn write_letter(shelf: &mut DiskShelf<HostRuntime>, name: &str) -> Result<(), Sh
 }
 
 /// Whether the last failure of a shelf is of this name, and is reported so.
-fn tells(
+fn says(
     alloc: Global,
     shelf: &DiskShelf<HostRuntime>,
     name: &str,
@@ -66,8 +66,8 @@ fn tells(
     let Some(error) = shelf.last_error() else {
         return Ok(false);
     };
-    let told = format!(in alloc; "{error}")?;
-    Ok((error.name == name) & (told.as_str() == why))
+    let text = format!(in alloc; "{error}")?;
+    Ok((error.name == name) & (text.as_str() == why))
 }
 
 /// Whether a file that was made or read is refused to a writer by a name that leads to it, and has what it had.
@@ -103,11 +103,11 @@ fn refuses_each_name(
     let by_name = keeps_it(rt, shelf, name, name)?;
     let by_path = keeps_it(rt, shelf, name, path)?;
     let by_link = keeps_it(rt, shelf, name, link)?;
-    Ok(by_name & by_path & by_link & tells(rt.alloc(), shelf, link, USED)?)
+    Ok(by_name & by_path & by_link & says(rt.alloc(), shelf, link, USED)?)
 }
 
 /// Writes a file of one letter in another run.
-fn write_anew(rt: HostRuntime, name: &str) -> Result<(), ShelfStop> {
+fn write_in_another_run(rt: HostRuntime, name: &str) -> Result<(), ShelfStop> {
     let mut shelf = DiskShelf::new(rt);
     write_letter(&mut shelf, name)
 }
@@ -144,7 +144,7 @@ fn makes_no_file_that_it_used(rt: HostRuntime) -> Result<(), Fail> {
     fs::hard_link(&rt, name, link)?;
     assert!(rt; made & refuses_each_name(rt, &mut shelf, name, path, link)?);
     assert!(rt; refuses_what_it_read(rt, [name, path, link])?);
-    write_anew(rt, link)?;
+    write_in_another_run(rt, link)?;
     fs::remove_file(&rt, name)?;
     fs::remove_file(&rt, link)?;
     Ok(())
@@ -165,14 +165,14 @@ fn is_unreadable(shelf: &mut DiskShelf<HostRuntime>, name: &str) -> Result<bool,
 
 /// A failure has the system's words for it, and the file's name as it was given.
 #[test]
-fn tells_why_a_call_failed(rt: HostRuntime) -> Result<(), Fail> {
+fn says_why_a_call_failed(rt: HostRuntime) -> Result<(), Fail> {
     let mut shelf = DiskShelf::new(rt);
     assert!(rt; is_unreadable(&mut shelf, ".")?);
     let folder = "Is a directory (os error 21)";
-    assert!(rt; tells(rt.alloc(), &shelf, ".", folder)?);
+    assert!(rt; says(rt.alloc(), &shelf, ".", folder)?);
     let absent = "shelf_core_absent_folder/file";
     assert!(rt; shelf.create(absent).is_err());
     let nowhere = "No such file or directory (os error 2)";
-    assert!(rt; tells(rt.alloc(), &shelf, absent, nowhere)?);
+    assert!(rt; says(rt.alloc(), &shelf, absent, nowhere)?);
     Ok(())
 }

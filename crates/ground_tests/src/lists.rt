@@ -62,7 +62,7 @@ fn list_of(alloc: Global, items: &[u32]) -> Result<Items<u32>, AllocError> {
     Ok(list)
 }
 
-fn set_and_turned(list: &mut Items<u32>) -> Option<u32> {
+fn last_of_reversed(list: &mut Items<u32>) -> Option<u32> {
     if list.len() == 3 {
         list.set(1, 60);
     }
@@ -81,7 +81,7 @@ fn sum(list: Items<u32>) -> u32 {
 #[test]
 fn lists_edit_in_place(rt: HostRuntime) -> Result<(), AllocError> {
     let mut list = list_of(rt.alloc(), &[5, 6, 7])?;
-    let last = set_and_turned(&mut list);
+    let last = last_of_reversed(&mut list);
     assert_eq!(rt; (last, list.as_slice()), (Some(5), [7, 60].as_slice()));
     list.truncate(1);
     assert_eq!(rt; list.as_slice(), [7].as_slice());

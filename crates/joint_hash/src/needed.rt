@@ -195,8 +195,8 @@ impl Needed {
         Ok(())
     }
 
-    // Wants a link as a lemma, after those of its operands, unless it was wanted before.
-    fn want(&mut self, cones: &ConeClauses<'_>, link: Link) -> Result<(), AllocError> {
+    // Notes that the lemma of a link is required, after those of its operands, unless it was noted before.
+    fn require(&mut self, cones: &ConeClauses<'_>, link: Link) -> Result<(), AllocError> {
         if self.places.contains_key(&link) {
             return Ok(());
         }
@@ -266,7 +266,7 @@ fn add_needed(
     Ok(needed.left.is_empty())
 }
 
-// Goes over a link: first it is wanted, and once its operands' lemmas are there, its own one is added. Answers whether
+// Goes over a link: first it is noted, and once its operands' lemmas are there, its own one is added. Answers whether
 // it can be.
 fn go_over(
     cones: &ConeClauses<'_>,
@@ -280,7 +280,7 @@ fn go_over(
     if visit.ready {
         return add_link(cones, needed, visit.link, lemmas);
     }
-    needed.want(cones, visit.link)?;
+    needed.require(cones, visit.link)?;
     Ok(true)
 }
 

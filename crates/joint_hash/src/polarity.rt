@@ -33,8 +33,8 @@ pub(crate) fn add_implications(
     ensures { OnOk result (AreJoining cones.now.graphs cones.now.query lines.new.items) }
 {
     let mut implications = Implications::new(alloc, cones);
-    let gates = want_all(cones, twins, &mut implications)?;
-    add_wanted(cones, twins, gates, &mut implications, lines)
+    let gates = require_all(cones, twins, &mut implications)?;
+    add_required(cones, twins, gates, &mut implications, lines)
 }
 
 /// Implications from gates of the one cone to their copies in the other, and where memory is taken from.
@@ -45,34 +45,34 @@ struct Implications {
     apart: u64,
     /// Which gates are to imply their copies, by their variables, each with the place of the lemma that says so among
     /// the lines, once it is there.
-    wanted: IndexMap<u64, Option<usize>>,
+    required: IndexMap<u64, Option<usize>>,
 }
 
 impl Implications {
-    // None is wanted. A circuit of n gates that is asked about beside itself has 3 + 6 n clauses, and a copy's variable
-    // is n after the gate's, so that their literals' numbers are 2 n apart.
+    // None is required. A circuit of n gates that is asked about beside itself has 3 + 6 n clauses, and a copy's
+    // variable is n after the gate's, so that their literals' numbers are 2 n apart.
     fn new(alloc: Global, cones: &ConeClauses<'_>) -> Implications {
         Implications {
             alloc,
             apart: cones.count().saturating_sub(3) / 3,
-            wanted: IndexMap::new(alloc),
+            required: IndexMap::new(alloc),
         }
     }
 
-    // How many are wanted.
+    // How many are required.
     fn count(&self) -> usize {
-        self.wanted.len()
+        self.required.len()
     }
 
     // Whether the gate of a variable is to imply its copy.
     fn has(&self, variable: u64) -> bool {
-        self.wanted.get(&variable).is_some()
+        self.required.get(&variable).is_some()
     }
 
-    // Wants that one literal implies another. Answers whether it may: it does already, or the two are a gate and its
-    // copy. That the gate and its copy imply each other can't be shown so: their operands would have to do the same,
-    // down to an input that is fed 0 and 1, unless all are of one class, and then the gate and its copy are.
-    fn want(
+    // Notes that one literal has to imply another. Answers whether it may: it does already, or the two are a gate and
+    // its copy. That the gate and its copy imply each other can't be shown so: their operands would have to do the
+    // same, down to an input that is fed 0 and 1, unless all are of one class, and then the gate and its copy are.
+    fn require(
         &mut self,
         twins: &IndexMap<u64, Twin>,
         one: SatLit,
@@ -84,19 +84,19 @@ impl Implications {
         if (one.0.abs_diff(other.0) != self.apart) | self.has(source(other, one)) {
             return Ok(false);
         }
-        self.wanted.insert(source(one, other), None)?;
+        self.required.insert(source(one, other), None)?;
         Ok(true)
     }
 
     // Notes the place of the lemma that a gate implies its copy.
     fn put(&mut self, gate: &ConeGate, place: usize) -> Result<(), AllocError> {
-        self.wanted.insert(gate.output.variable(), Some(place))?;
+        self.required.insert(gate.output.variable(), Some(place))?;
         Ok(())
     }
 
     // The place of the lemma that one literal implies another.
     fn place_of(&self, one: SatLit, other: SatLit) -> Option<usize> {
-        match self.wanted.get(&source(one, other)) {
+        match self.required.get(&source(one, other)) {
             Some(place) => *place,
             None => None,
         }
@@ -140,20 +140,20 @@ fn right_at(cones: &ConeClauses<'_>, place: usize) -> Option<ConeGate>
     left_at(cones, place.saturating_add(gates_in(cones)))
 }
 
-// Wants the implications by which the outputs can't have the values that are asked for. Answers among how many of the
+// Notes the implications by which the outputs can't have the values that are asked for. Answers among how many of the
 // cone's gates, from the first one on, lemmas are needed to show it. None is needed above the topmost gate two operands
 // of which are to imply those of its copy: where a gate and its copy differ, propagation goes on to a single operand.
-fn want_all(
+fn require_all(
     cones: &ConeClauses<'_>,
     twins: &IndexMap<u64, Twin>,
     implications: &mut Implications,
 ) -> Result<usize, AllocError> {
-    if !want_outputs(cones, twins, implications)? | (implications.count() == 0) {
+    if !require_outputs(cones, twins, implications)? | (implications.count() == 0) {
         return Ok(0);
     }
     let mut needed = 0;
     for place in (0..gates_in(cones)).rev() {
-        let Some(more) = want_below(cones, twins, implications, place)? else {
+        let Some(more) = require_below(cones, twins, implications, place)? else {
             return Ok(0);
         };
         if (needed == 0) & (more == 2) {
@@ -163,9 +163,9 @@ fn want_all(
     Ok(needed)
 }
 
-// Wants that the left output's literal, which is to be true, implies that the right one's is false. They are the last
-// two clauses.
-fn want_outputs(
+// Notes that the left output's literal, which is to be true, has to imply that the right one's is false. They are the
+// last two clauses.
+fn require_outputs(
     cones: &ConeClauses<'_>,
     twins: &IndexMap<u64, Twin>,
     implications: &mut Implications,
@@ -173,12 +173,12 @@ fn want_outputs(
     let (Some(left), Some(right)) = (unit_at(cones, 1), unit_at(cones, 0)) else {
         return Ok(false);
     };
-    implications.want(twins, left, right.opposite())
+    implications.require(twins, left, right.opposite())
 }
 
-// Wants the implications between operands that the gates at a place need, if one is to imply the other. Answers how
-// many are wanted more, or None where there can't be such.
-fn want_below(
+// Notes the implications between operands that the gates at a place need, if one is to imply the other. Answers how
+// many more are required, or None where there can't be such.
+fn require_below(
     cones: &ConeClauses<'_>,
     twins: &IndexMap<u64, Twin>,
     implications: &mut Implications,
@@ -188,16 +188,16 @@ fn want_below(
         return Ok(None);
     };
     let before = implications.count();
-    let rises = want_operands(twins, implications, &left, &right)?;
-    let falls = want_operands(twins, implications, &right, &left)?;
+    let rises = require_operands(twins, implications, &left, &right)?;
+    let falls = require_operands(twins, implications, &right, &left)?;
     if !(rises & falls) {
         return Ok(None);
     }
     Ok(Some(implications.count().saturating_sub(before)))
 }
 
-// Wants that a gate's operands imply those of its copy, if the gate is to imply it.
-fn want_operands(
+// Notes that a gate's operands have to imply those of its copy, if the gate is to imply it.
+fn require_operands(
     twins: &IndexMap<u64, Twin>,
     implications: &mut Implications,
     gate: &ConeGate,
@@ -206,13 +206,13 @@ fn want_operands(
     if !implications.has(gate.output.variable()) {
         return Ok(true);
     }
-    let first = implications.want(twins, gate.first, copy.first)?;
-    let second = implications.want(twins, gate.second, copy.second)?;
+    let first = implications.require(twins, gate.first, copy.first)?;
+    let second = implications.require(twins, gate.second, copy.second)?;
     Ok(first & second)
 }
 
-// Adds the lemmas of the implications that are wanted among some of the cone's gates, from the first one on.
-fn add_wanted(
+// Adds the lemmas of the implications that are required among some of the cone's gates, from the first one on.
+fn add_required(
     cones: &ConeClauses<'_>,
     twins: &IndexMap<u64, Twin>,
     gates: usize,
@@ -251,7 +251,7 @@ fn add_at(
     add_implication(cones, twins, implications, &right, &left, lines)
 }
 
-// Adds the lemma that a gate implies its copy, if that is wanted.
+// Adds the lemma that a gate implies its copy, if that is required.
 fn add_implication(
     cones: &ConeClauses<'_>,
     twins: &IndexMap<u64, Twin>,

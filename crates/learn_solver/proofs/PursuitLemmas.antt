@@ -5,7 +5,7 @@ use Rattle.cnf_core.specs.declared.stop.Stop.{Stop}
 use Rattle.cnf_core.specs.Charges.{Charging}
 use Rattle.learn_solver.specs.declared.search.Search.{Search}
 use Rattle.learn_solver.specs.declared.verdict.Finding.{Finding}
-use Rattle.learn_solver.specs.Searches.{CanGo, HasEnded, HasGone, HasTurned}
+use Rattle.learn_solver.specs.Searches.{CanGo, HasEnded, HasGone, KeepsClauses}
 use Rattle.learn_solver.specs.Solvers.{IsStopped, Solving}
 use Rattle.learn_solver.proofs.AdvanceLemmas.{extended_none, extended_twice, stopped_after}
 use Rattle.learn_solver.proofs.RunLemmas.{running_again}
@@ -26,11 +26,11 @@ gone_on {O} {one} {two} {three} {first} {second} {third} {mid} {next} {answer} s
   answer_is = gone.answer_is;
 }
 
-pub gone_turned : {O : Type 0} {one two : Solving} {first second : Charging O} {mid next : Search} → HasGone one two first second mid None → HasTurned mid next → HasGone one two first second next None
-gone_turned {O} {one} {two} {first} {second} {mid} {next} so_far turned = record {
+pub gone_keeping : {O : Type 0} {one two : Solving} {first second : Charging O} {mid next : Search} → HasGone one two first second mid None → KeepsClauses mid next → HasGone one two first second next None
+gone_keeping {O} {one} {two} {first} {second} {mid} {next} so_far keeps = record {
   extended = so_far.extended;
   asking = so_far.asking;
-  answer_is = running_again two mid next so_far.answer_is turned;
+  answer_is = running_again two mid next so_far.answer_is keeps;
 }
 
 pub can_go : {O : Type 0} {one two : Solving} {first second : Charging O} {mid : Search} → HasGone one two first second mid None → CanGo two second mid

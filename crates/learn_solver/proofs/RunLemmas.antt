@@ -23,7 +23,7 @@ use Rattle.learn_solver.specs.declared.restarts.Restarts.{Restarts}
 use Rattle.learn_solver.specs.declared.search.Search.{Search}
 use Rattle.learn_solver.specs.declared.search.Tools.{Tools}
 use Rattle.learn_solver.specs.Orders.{IsOrder}
-use Rattle.learn_solver.specs.Searches.{CanReturn, CanTurn, HasReturned, HasTurned, IsDecided, IsLesson, IsRunning, IsSame, IsSearching}
+use Rattle.learn_solver.specs.Searches.{CanMove, CanReturn, HasReturned, IsDecided, IsLesson, IsRunning, IsSame, IsSearching, KeepsClauses}
 use Rattle.learn_solver.specs.Solvers.{IsSolver, Solving, active}
 use Rattle.learn_solver.specs.Starts.{IsFitting, IsSoundBack, StayTools}
 use Rattle.learn_solver.proofs.AdvanceLemmas.{running_from, unrefuted_more}
@@ -52,24 +52,24 @@ fitting_on before after old new is rewatched fits present implied grown = record
 }
 
 -- it is under way after going back, or staying where it was
-pub running_again : (s : Solving) (old new : Search) → IsRunning s old.trail old.watches old.tools → HasTurned old new → IsRunning s new.trail new.watches new.tools
-running_again s old new is turned =
-    running_from s new turned.fitting (subst (IsSolver s.formula s.ids s.lines) (sym turned.clauses) is.learning.solver) (turned.variables ∙ is.learning.searching.variables) is.learning.searching.unrefuted (turned.tools s.formula s.ids is.learning.tools_are)
+pub running_again : (s : Solving) (old new : Search) → IsRunning s old.trail old.watches old.tools → KeepsClauses old new → IsRunning s new.trail new.watches new.tools
+running_again s old new is keeps =
+    running_from s new keeps.fitting (subst (IsSolver s.formula s.ids s.lines) (sym keeps.clauses) is.learning.solver) (keeps.variables ∙ is.learning.searching.variables) is.learning.searching.unrefuted (keeps.tools s.formula s.ids is.learning.tools_are)
 
 -- and may go back
-pub can_turn : (s : Solving) (search : Search) → IsRunning s search.trail search.watches search.tools → CanTurn search
-can_turn s search is = record {
+pub can_move : (s : Solving) (search : Search) → IsRunning s search.trail search.watches search.tools → CanMove search
+can_move s search is = record {
   fitting = is.fitting;
   order = subst (λ n. IsOrder n search.tools.order) (sym is.learning.searching.variables) is.learning.tools_are.order;
 }
 
 -- what it is after, and when it begins again, are none of what is kept of the variables
-pub turned_beside : (old new : Search) (focus : Focus) (restarts : Restarts) → HasTurned (record old { tools = record old.tools { focus = focus; restarts = restarts } }) new → HasTurned old new
-turned_beside old new focus restarts turned = record {
-  fitting = turned.fitting;
-  clauses = turned.clauses;
-  variables = turned.variables;
-  tools = λ formula ids are. turned.tools formula ids (record { variables = are.variables; unmarked = are.unmarked; order = are.order });
+pub kept_beside : (old new : Search) (focus : Focus) (restarts : Restarts) → KeepsClauses (record old { tools = record old.tools { focus = focus; restarts = restarts } }) new → KeepsClauses old new
+kept_beside old new focus restarts keeps = record {
+  fitting = keeps.fitting;
+  clauses = keeps.clauses;
+  variables = keeps.variables;
+  tools = λ formula ids are. keeps.tools formula ids (record { variables = are.variables; unmarked = are.unmarked; order = are.order });
 }
 
 -- so it is where it stayed as it was
@@ -137,7 +137,7 @@ sound_back s line t w level searching solver lesson back is = record {
 
 pub can_return : (s : Solving) (line : LogLine) (search : Search) (level : ℕ) → IsRunning s search.trail search.watches search.tools → IsLesson s search.trail line level → is_empty line.clause ≡ false → CanReturn search line.clause level
 can_return s line search level is lesson filled = record {
-  turn = can_turn s search is;
+  movable = can_move s search is;
   known = subst (λ n. AreKnown n line.clause) (sym is.learning.searching.variables ∙ is.fitting.fits.variables) (line_known s.formula (clauses_of s.lines) line lesson.good);
   filled = filled;
   above = elim (cases_lt 0 search.trail.level) [

@@ -103,7 +103,7 @@ remaining {Others} charging trail =
     (trail.variables + 1) * (charging.budget + 1 - charging.made) + (trail.variables - length trail.entries)
 
 -- A search that may go back: the watches fit the trail, whose variables the order has.
-pub record CanTurn (search : Search) : Type 0 where
+pub record CanMove (search : Search) : Type 0 where
   pub fitting : IsFitting search.watches search.trail
   pub order : IsOrder search.trail.variables search.tools.order
 
@@ -115,8 +115,8 @@ pub record HasMoved (old new : Search) (all : List (List SatLit)) : Type 0 where
   pub tools : StayTools old.tools new.tools
 
 -- its clauses are those that it had
-abbrev pub HasTurned : Search → Search → Type 0
-HasTurned old new = HasMoved old new old.watches.clauses
+abbrev pub KeepsClauses : Search → Search → Type 0
+KeepsClauses old new = HasMoved old new old.watches.clauses
 
 -- it has one clause more
 abbrev pub HasReturned : Search → Search → List SatLit → Type 0
@@ -124,7 +124,7 @@ HasReturned old new clause = HasMoved old new (old.watches.clauses ++ clause ∷
 
 -- A search that may go back to a level with a learned clause, of which one literal alone isn't false there.
 pub record CanReturn (search : Search) (clause : List SatLit) (level : ℕ) : Type 0 where
-  pub turn : CanTurn search
+  pub movable : CanMove search
   pub known : AreKnown search.watches.variables clause
   pub filled : is_empty clause ≡ false
   pub above : 0 < search.trail.level

@@ -71,14 +71,14 @@ impl Order {
             named: vec![in alloc; 0; variables]?,
             conflicts: 0,
         };
-        order.turn_to(occurring, focus);
+        order.refill(occurring, focus);
         Ok(order)
     }
 
     /// Those of the variables that a focus has are to be decided, and no others. Of two for which nothing was counted
     /// the one with the greater number comes first: where they are those of gates in order, the one next to the
     /// outputs, by which adders take a tenth to a fifth fewer lines than by the inputs.
-    pub(crate) fn turn_to(&mut self, variables: &[u64], focus: &Focus)
+    pub(crate) fn refill(&mut self, variables: &[u64], focus: &Focus)
         requires { IsOrder (length self.old.heap) self.old }
         ensures { IsOrder (length self.old.heap) self.new }
     {

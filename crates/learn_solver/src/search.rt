@@ -4,7 +4,7 @@ ghost use Rattle.std.specs.Prelude.{◌≡◌, ◌<◌, ◌≤◌, ◌++◌, ◌
 ghost use Rattle.std.specs.List.{list_any};
 ghost use Rattle.cnf_core.specs.Derivations.{AreDerived, clauses_of, is_empty};
 ghost use Rattle.trail_core.specs.Trails.{IsBack, IsFree, literals};
-ghost use Rattle.learn_solver.specs.Searches.{CanReturn, CanTurn, HasReturned, HasTurned, IsAssigned};
+ghost use Rattle.learn_solver.specs.Searches.{CanMove, CanReturn, HasReturned, IsAssigned, KeepsClauses};
 ghost use Rattle.watch_lists.specs.Propagations.{IsConflict, IsGrown, IsQuiet};
 ghost use Rattle.watch_lists.specs.Watched.{AreUnattached};
 ghost use Rattle.cnf_core.specs.Clauses.{AreKnown};
@@ -83,7 +83,7 @@ pub(crate) fn begun<B: Base>(
     // a trail has fewer than 2^63 variables
     let _len = trail.len();
     let mut watches = Watches::new(alloc, base.variables())?;
-    put_wanted(base, ids, &mut watches)?;
+    add_clauses(base, ids, &mut watches)?;
     let occurring = variables_of(alloc, watches.store(), base.variables())?;
     put_lines(lines, &mut watches)?;
     let marks = no_marks(alloc, base.variables() as usize)?;
@@ -111,7 +111,7 @@ impl Tools {
         ensures none { IfNone result (All (IsAssigned trail.now) self.old.occurring.items) }
         ensures stay { StayTools self.old self.new }
     {
-        let literal = self.wanted(trail);
+        let literal = self.next_guided(trail);
         if literal.is_some() {
             return literal;
         }
@@ -135,15 +135,15 @@ impl Tools {
         }
         self.focus.spread();
         if self.focus.candidate.is_some() {
-            self.order.turn_to(self.focus.cone(), &self.focus);
+            self.order.refill(self.focus.cone(), &self.focus);
         } else {
-            self.order.turn_to(&self.occurring, &self.focus);
+            self.order.refill(&self.occurring, &self.focus);
         }
     }
 
     // The next literal to decide before all others: one of those that lead, or of the candidate that the search is
     // after, if it is after one, both of which are to be true.
-    fn wanted(&self, trail: &Trail) -> Option<SatLit>
+    fn next_guided(&self, trail: &Trail) -> Option<SatLit>
         requires { IsOrder trail.now.variables self.now.order }
         ensures { IfSome result (IsFree trail.now) }
     {
@@ -172,7 +172,7 @@ impl Search {
     /// are false.
     pub(crate) fn propagate(&mut self) -> Option<u64>
         requires { IsFitting self.old.watches self.old.trail }
-        ensures turned { HasTurned self.old self.new }
+        ensures keeps { KeepsClauses self.old self.new }
         ensures grown { IsGrown self.old.trail self.new.trail }
         ensures none { IfNone result (IsQuiet self.new.watches.clauses (literals self.new.trail.entries)) }
         ensures walked { IfNone result (self.new.trail.walked ≡ length self.new.trail.entries) }
@@ -198,39 +198,39 @@ impl Search {
 
     // Goes back to level 0 where it is time to.
     fn restart(&mut self)
-        requires { CanTurn self.old }
-        ensures { HasTurned self.old self.new }
+        requires { CanMove self.old }
+        ensures { KeepsClauses self.old self.new }
     {
         if !self.tools.restarts.count() {
             return;
         }
-        self.begin_anew();
+        self.back_to_root();
     }
 
     /// What it is after may be over these gates, each of which stands after its operands, and is one of these parts.
     pub(crate) fn heed(&mut self, gates: Vec<Operands>, parts: Vec<Part>)
-        requires { CanTurn self.old }
-        ensures { HasTurned self.old self.new }
+        requires { CanMove self.old }
+        ensures { KeepsClauses self.old self.new }
     {
         self.tools.focus.heed(gates, parts);
     }
 
     /// Turns to a candidate, from level 0 on.
     pub(crate) fn narrow(&mut self, candidate: Candidate)
-        requires { CanTurn self.old }
-        ensures { HasTurned self.old self.new }
+        requires { CanMove self.old }
+        ensures { KeepsClauses self.old self.new }
     {
         self.tools.focus.narrow(candidate);
-        self.begin_anew();
+        self.back_to_root();
     }
 
     /// Turns to the whole question, from level 0 on, in which these literals are decided before all other variables.
     pub(crate) fn widen(&mut self, leading: Vec<SatLit>)
-        requires { CanTurn self.old }
-        ensures { HasTurned self.old self.new }
+        requires { CanMove self.old }
+        ensures { KeepsClauses self.old self.new }
     {
         self.tools.focus.widen(leading);
-        self.begin_anew();
+        self.back_to_root();
     }
 
     /// Whether the search for a candidate is over: one of its literals is false, so that both can't be true where it is
@@ -243,9 +243,9 @@ impl Search {
     }
 
     // Goes back to level 0.
-    fn begin_anew(&mut self)
-        requires { CanTurn self.old }
-        ensures { HasTurned self.old self.new }
+    fn back_to_root(&mut self)
+        requires { CanMove self.old }
+        ensures { KeepsClauses self.old self.new }
     {
         if self.trail.level() == 0 {
             return;
@@ -298,8 +298,8 @@ fn attach_all(watches: &mut Watches, trail: &mut Trail) -> Option<u64>
     None
 }
 
-// Adds the clauses of these numbers, where there are none.
-fn put_wanted<B: Base>(base: &B, ids: &[u64], watches: &mut Watches) -> Result<(), AllocError>
+// Adds the base's clauses of these numbers, where there are none.
+fn add_clauses<B: Base>(base: &B, ids: &[u64], watches: &mut Watches) -> Result<(), AllocError>
     requires ids { All (λ id. id < length (B.formula base.now).clauses) ids.now }
     requires empty { watches.old ≡ record { variables = (B.formula base.now).variables; clauses = []; watches = [] } }
     ensures put { OnOk result (ArePut (B.formula base.now) ids.now watches.new.clauses) }

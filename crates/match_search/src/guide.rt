@@ -86,7 +86,7 @@ impl Guide {
 
     /// Notes that the search begins again, with no pair assigned and no ban, so that no output has its tallies. What
     /// was learned of the ports, as their weights, stays.
-    pub fn begin_anew(&mut self) {
+    pub fn restart(&mut self) {
         self.room = BanRoom::new();
         self.tallied = 0;
         self.decided = None;

@@ -128,7 +128,7 @@ pub(crate) fn refuse_or_explore<O: Oracle>(
             return Ok(found);
         }
         let_go(session.asker.alloc, session.book);
-        session.heuristics.guide.begin_anew();
+        session.heuristics.guide.restart();
     }
     explore_whole(graphs, session)
 }

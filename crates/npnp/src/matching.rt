@@ -41,7 +41,7 @@ pub struct Solved {
 
 /// Looks for a match of the two netlists that the words name, and writes the account of the answer. The error is an
 /// outcome whose report is one line: a file is no netlist, the budget was spent, or there was a fault.
-pub fn find<S: Shelf, W: Watch>(
+pub fn match_files<S: Shelf, W: Watch>(
     alloc: Global,
     asked: &Match<'_>,
     shelf: &mut S,

@@ -26,7 +26,7 @@ ghost use Rattle.run_steps.specs.Commands.{IsTrialCommand};
 ghost use Rattle.run_steps.specs.Trial.{IsSpentOnPair, IsTried};
 
 use crate::info::inform;
-use crate::matching::find;
+use crate::matching::match_files;
 use crate::trying::try_pair;
 use account_check::Verdict;
 pub use check_steps::Ending;
@@ -267,7 +267,7 @@ fn follow<S: Shelf, W: Watch>(
     match command {
         Command::Check(check) => check_files(alloc, check, shelf, watch),
         Command::Restore(asked) => restore_files(alloc, asked, shelf, watch),
-        Command::Match(asked) => find(alloc, asked, shelf, watch),
+        Command::Match(asked) => match_files(alloc, asked, shelf, watch),
         Command::Info(info) => inform(alloc, info, shelf, watch),
         Command::Make(asked) => make_files(alloc, asked, shelf),
         Command::Trial(trial) => try_pair(alloc, trial, watch),

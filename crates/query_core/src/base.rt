@@ -68,7 +68,7 @@ impl<'a> QueryBase<'a> {
 
     /// Asks about another output and value of the same matching. Only the last two clauses become others, and it takes
     /// no memory.
-    pub fn turn_to(&mut self, matching: &Matching, output: u32, value: bool)
+    pub fn set_output(&mut self, matching: &Matching, output: u32, value: bool)
         requires ports { HavePorts self.old.graphs.first self.old.graphs.second
             matching.now.inputs matching.now.outputs }
         requires output { output < length self.old.graphs.first.outputs }

@@ -93,7 +93,7 @@ impl<'a> ClaimBase<'a> {
     /// # Errors
     ///
     /// Only when out of memory.
-    pub fn turned(self, alloc: Global, claim: &Claim) -> Result<ClaimBase<'a>, AllocError>
+    pub fn for_claim(self, alloc: Global, claim: &Claim) -> Result<ClaimBase<'a>, AllocError>
         requires { IsClaim self.graphs claim.now }
         ensures graphs { IfOk result (λ base. base.graphs ≡ self.entry.graphs) }
         ensures query { IfOk result (λ base. base.query ≡ claim_query self.entry.graphs claim.now) }

@@ -150,7 +150,7 @@ static MALFORMED: [(&[u8], &str); 15] = [
 ];
 
 #[test]
-fn tells_where_a_netlist_is_malformed(rt: HostRuntime) -> Result<(), Fail> {
+fn says_where_a_netlist_is_malformed(rt: HostRuntime) -> Result<(), Fail> {
     for (netlist, text) in MALFORMED.iter() {
         let told = told_of_run(rt.alloc(), INFO, [netlist, EMPTY], None)?;
         assert_eq!(rt; told.as_str(), *text);
@@ -179,7 +179,7 @@ static REJECTED: [(Option<&[u8]>, &str); 4] = [
 ];
 
 #[test]
-fn tells_which_line_is_wrong(rt: HostRuntime) -> Result<(), Fail> {
+fn says_which_line_is_wrong(rt: HostRuntime) -> Result<(), Fail> {
     for (account, text) in REJECTED.iter() {
         let told = told_of_run(rt.alloc(), CHECK, [AND, XOR], *account)?;
         assert_eq!(rt; told.as_str(), *text);
@@ -247,7 +247,7 @@ static REFUSED: [(&[u8], &[u8], &[u8], &str); 5] = [
 ];
 
 #[test]
-fn tells_why_there_is_no_match(rt: HostRuntime) -> Result<(), Fail> {
+fn says_why_there_is_no_match(rt: HostRuntime) -> Result<(), Fail> {
     for (first, second, account, text) in REFUSED.iter() {
         let files = [*first, *second];
         let told = told_of(
@@ -302,7 +302,7 @@ static TOLD: [(&[&str], [&[u8]; 2], Option<&[u8]>, &str); 5] = [
 ];
 
 #[test]
-fn tells_what_a_run_came_to(rt: HostRuntime) -> Result<(), Fail> {
+fn says_what_a_run_came_to(rt: HostRuntime) -> Result<(), Fail> {
     for (words, netlists, account, text) in TOLD.iter() {
         let told = told_of_run(rt.alloc(), words, *netlists, *account)?;
         assert_eq!(rt; told.as_str(), *text);
@@ -319,7 +319,7 @@ fn failing_shelf(alloc: Global, call: u64) -> Result<MemShelf, AllocError>
 
 /// The first call opens a netlist; the account is read three times, in pieces of 64 bytes.
 #[test]
-fn tells_less_where_files_cannot_be_read_again(rt: HostRuntime) -> Result<(), Fail> {
+fn says_less_where_files_cannot_be_read_again(rt: HostRuntime) -> Result<(), Fail> {
     let refused = Outcome::NoMatching;
     let whole = told_of(rt.alloc(), MATCH, &refused, [AND, XOR], Some(REFUSAL))?;
     for call in 0..20 {
@@ -381,7 +381,7 @@ static USAGE: [(&[&str], &str); 16] = [
 ];
 
 #[test]
-fn tells_which_word_is_of_no_form(rt: HostRuntime) -> Result<(), Fail> {
+fn says_which_word_is_of_no_form(rt: HostRuntime) -> Result<(), Fail> {
     for (words, text) in USAGE.iter() {
         expect_fault(&rt, rt.alloc(), words, text)?;
         let told = told_of_run(rt.alloc(), words, [A, B], None)?;
@@ -405,7 +405,7 @@ fn expect_fault(rt: &impl Abort, alloc: Global, words: &[&str], text: &str) -> R
 
 /// The file of a fault, and what is told where the outcome is a failed read and a failed write.
 #[test]
-fn tells_which_file_failed(rt: HostRuntime) -> Result<(), Fail> {
+fn says_which_file_failed(rt: HostRuntime) -> Result<(), Fail> {
     let mut shelf = SafeShelf::new(rt.alloc(), Vec::new(rt.alloc()), 16)?;
     let fault = FailedFile {
         name: "a\nb",
@@ -423,7 +423,7 @@ fn tells_which_file_failed(rt: HostRuntime) -> Result<(), Fail> {
 }
 
 #[test]
-fn tells_that_the_report_failed(rt: HostRuntime) -> Result<(), Fail> {
+fn says_that_the_report_failed(rt: HostRuntime) -> Result<(), Fail> {
     let told = told_of(rt.alloc(), INFO, &Outcome::WriteFault, [A, B], None)?;
     assert_eq!(rt; told.as_str(), "npnp: the report couldn't be written\n");
     Ok(())
@@ -446,7 +446,7 @@ static NOTICES: [(&str, Notice, &str, &str); 2] = [
 ];
 
 #[test]
-fn tells_its_version_and_forms(rt: HostRuntime) -> Result<(), Fail> {
+fn says_its_version_and_forms(rt: HostRuntime) -> Result<(), Fail> {
     for (word, notice, front, part) in NOTICES.iter() {
         let words = words_of(rt.alloc(), &[*word])?;
         assert_eq!(rt; Notice::asked(words.as_slice()), Some(*notice));
@@ -468,7 +468,7 @@ static FOLDERS: [(&str, &str, &str); 3] = [
 ];
 
 #[test]
-fn tells_of_folders(rt: HostRuntime) -> Result<(), Fail> {
+fn says_of_folders(rt: HostRuntime) -> Result<(), Fail> {
     for (name, folder, text) in FOLDERS.iter() {
         let warning = Warning {
             name,

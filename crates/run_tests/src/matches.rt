@@ -46,7 +46,7 @@ const ODD_OF_FOUR: &[u8] =
 /// An AND of four inputs, and the same names, the inputs in another order.
 const FOUR_NAMES: &[u8] = b".inputs a b c d\n.outputs y\n.names a b c d y\n1111 1\n";
 
-const FOUR_NAMES_TURNED: &[u8] = b".inputs d c b a\n.outputs y\n.names d c b a y\n1111 1\n";
+const FOUR_NAMES_REVERSED: &[u8] = b".inputs d c b a\n.outputs y\n.names d c b a y\n1111 1\n";
 
 /// Two outputs, and two that are the same ones where each name stands for another input.
 const THREE_NAMES: &[u8] =
@@ -62,7 +62,7 @@ const THREE_NAMES_MISS: &[u8] =
 static SOUGHT: [Sought; 12] = [
     // by names, though places and the order of the gates say otherwise
     Sought {
-        files: [FOUR_NAMES, FOUR_NAMES_TURNED],
+        files: [FOUR_NAMES, FOUR_NAMES_REVERSED],
         words: MATCH,
         table: Some(
             b"\n\
@@ -262,7 +262,7 @@ const THIRTY: &[u8] =
     b".inputs x0 x1 x2 x3 x4 x5 x6 x7 x8 x9 x10 x11 x12 x13 x14 x15 x16 x17 x18 x19 x20 x21 x22 x23 x24 x25 x26 x27 \
       x28 x29";
 
-const THIRTY_TURNED: &[u8] =
+const THIRTY_SHUFFLED: &[u8] =
     b".inputs x4 x26 x13 x2 x10 x9 x29 x24 x12 x17 x28 x6 x15 x18 x21 x3 x5 x1 x7 x14 x0 x16 x20 x27 x22 x25 x11 \
       x23 x8 x19";
 
@@ -277,7 +277,7 @@ const CHAIN: &[u8] =
 #[test]
 fn pairs_equal_names_at_once(rt: HostRuntime) -> Result<(), Fail> {
     let first = line(rt.alloc(), THIRTY, CHAIN)?;
-    let second = line(rt.alloc(), THIRTY_TURNED, CHAIN)?;
+    let second = line(rt.alloc(), THIRTY_SHUFFLED, CHAIN)?;
     let ended = run_on(
         rt.alloc(),
         &["match", "A", "B", "t", "2"],

@@ -98,7 +98,7 @@ fn match_counted(alloc: Global, netlists: [&[u8]; 2]) -> Result<(Ended, StageCou
 /// A match says that both files are read, then that a matching is guessed, and then of each output that it is proved;
 /// the report and the account are those of a run that nobody watches.
 #[test]
-fn tells_what_a_match_is_at(rt: HostRuntime) -> Result<(), Fail> {
+fn says_what_a_match_is_at(rt: HostRuntime) -> Result<(), Fail> {
     let alloc = rt.alloc();
     let silent = run_on(alloc, MATCH, [C17, C17_MOVED], None)?;
     let (ended, told) = match_counted(alloc, [C17, C17_MOVED])?;

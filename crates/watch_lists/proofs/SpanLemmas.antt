@@ -39,9 +39,6 @@ list_within ws spans c is low = omega (arith, is.within c low, is.room c low)
 pub list_size : (ws : List ℕ) (spans : List Span) (c : ℕ) → AreLaid ws spans → c < length spans → length (list_of (map (listed_in ws) spans) c) ≡ (span_at spans c).len
 list_size ws spans c is low = ap (λ (x : Listed). length x.watches) (at_span ws spans c low) ∙ span_size ws (span_at spans c) (list_within ws spans c is low)
 
-pub list_watch : (ws : List ℕ) (spans : List Span) (c k : ℕ) → c < length spans → k < (span_at spans c).len → watch_at (list_of (map (listed_in ws) spans) c) k ≡ slice_index_or ws ((span_at spans c).start + k) 0
-list_watch ws spans c k low inside = ap (λ (x : Listed). watch_at x.watches k) (at_span ws spans c low) ∙ span_watch ws (span_at spans c) k inside
-
 -- a list that was copied, or stays
 same_list : (ws now : List ℕ) (s t : Span) → t.len ≡ s.len → s.start + s.len ≤ length ws → t.start + t.len ≤ length now → ((k : ℕ) → k < s.len → slice_index_or now (t.start + k) 0 ≡ slice_index_or ws (s.start + k) 0) → in_span now t ≡ in_span ws s
 same_list ws now s t len in_ws in_now same =
@@ -124,40 +121,6 @@ laid_same ws now spans c s is low size start places fits = record {
       | inr other ↦ (ap (λ (x : Span). x.start) (there d other), ap (λ (x : Span). x.places) (there d other))
     ]
 
--- or where it moves to the end
-pub laid_moved : (ws now : List ℕ) (spans : List Span) (c : ℕ) (s : Span) → AreLaid ws spans → c < length spans → s.start ≡ length ws → length now ≡ length ws + s.places → s.len + s.room ≤ s.places → AreLaid now (slice_set spans c s)
-laid_moved ws now spans c s is low start size fits = record {
-  within = λ d inside. elim (cases_eq d c) [
-    | inl mine ↦ subst (λ (x : Span). x.start + x.places ≤ length now) (sym (here d mine)) (omega (arith, start, size))
-    | inr other ↦ subst (λ (x : Span). x.start + x.places ≤ length now) (sym (there d other)) (omega (arith, is.within d (old d inside), size))
-  ];
-  room = λ d inside. elim (cases_eq d c) [
-    | inl mine ↦ subst (λ (x : Span). x.len + x.room ≤ x.places) (sym (here d mine)) fits
-    | inr other ↦ subst (λ (x : Span). x.len + x.room ≤ x.places) (sym (there d other)) (is.room d (old d inside))
-  ];
-  apart = λ d e in_d in_e differ. elim (cases_eq d c) [
-    | inl d_mine ↦
-        let e_other : e ≢ c = λ same. differ (d_mine ∙ sym same) in
-        inr (omega (arith, is.within e (old e in_e), ap (λ (x : Span). x.start) (there e e_other), ap (λ (x : Span). x.places) (there e e_other), ap (λ (x : Span). x.start) (here d d_mine), start))
-    | inr d_other ↦ elim (cases_eq e c) [
-      | inl e_mine ↦ inl (omega (arith, is.within d (old d in_d), ap (λ (x : Span). x.start) (there d d_other), ap (λ (x : Span). x.places) (there d d_other), ap (λ (x : Span). x.start) (here e e_mine), start))
-      | inr e_other ↦ elim (is.apart d e (old d in_d) (old e in_e) differ) [
-        | inl before ↦ inl (omega (arith, before, ap (λ (x : Span). x.start) (there d d_other), ap (λ (x : Span). x.places) (there d d_other), ap (λ (x : Span). x.start) (there e e_other)))
-        | inr after ↦ inr (omega (arith, after, ap (λ (x : Span). x.start) (there e e_other), ap (λ (x : Span). x.places) (there e e_other), ap (λ (x : Span). x.start) (there d d_other)))
-      ]
-    ]
-  ];
-}
-  where
-    old : (d : ℕ) → d < length (slice_set spans c s) → d < length spans
-    old d inside = omega (arith, inside, length-set spans c s)
-
-    here : (d : ℕ) → d ≡ c → span_at (slice_set spans c s) d ≡ s
-    here d mine = ap (span_at (slice_set spans c s)) mine ∙ get_or-set_same spans c s no_span low
-
-    there : (d : ℕ) → d ≢ c → span_at (slice_set spans c s) d ≡ span_at spans d
-    there d other = get_or-set_other spans c d s no_span other
-
 -- ---- no list has a watch
 
 pub none_view : (n : ℕ) (ws : List ℕ) → map (listed_in ws) (replicate n no_span) ≡ replicate n none_listed
@@ -229,15 +192,3 @@ pub record AreCopied (old now : List ℕ) (from to done : ℕ) : Type 0 where
   pub size : length now ≡ length old
   pub front : (k : ℕ) → k < to → slice_index_or now k 0 ≡ slice_index_or old k 0
   pub copied : (k : ℕ) → k < done → slice_index_or now (to + k) 0 ≡ slice_index_or old (from + k) 0
-
-pub copied_more : (old now : List ℕ) (from to k x : ℕ) → AreCopied old now from to k → from + k < to → to + k < length old → x ≡ slice_index_or now (from + k) 0 → AreCopied old (slice_set now (to + k) x) from to (k + 1)
-copied_more old now from to k x is early within x_is = record {
-  size = length-set now (to + k) x ∙ is.size;
-  front = λ j low. get_or-set_other now (to + k) j x 0 (λ e. omega (arith, e, low)) ∙ is.front j low;
-  copied = λ j low. elim (cases_eq j k) [
-    | inl mine ↦
-        let here = ap (λ n. slice_index_or (slice_set now (to + k) x) (to + n) 0) mine ∙ get_or-set_same now (to + k) x 0 (omega (arith, within, is.size)) in
-        here ∙ (x_is ∙ (is.front (from + k) early ∙ ap (λ n. slice_index_or old (from + n) 0) (sym mine)))
-    | inr other ↦ get_or-set_other now (to + k) (to + j) x 0 (λ e. other (omega (arith, e))) ∙ is.copied j (omega (arith, low, other))
-  ];
-}

@@ -8,7 +8,8 @@ use cnf_core::SatLit;
 use std::alloc::{AllocError, Global};
 use std::marker::Model;
 
-/// The most places of a list that grows.
+/// The most places of a list that grows: 8 TB of watches, more than a machine has, so that twice as many, and 4, are
+/// counted without overflow.
 const MOST: usize = 1_000_000_000_000;
 
 /// Where the watches of a literal stand in the vector of all: at the first places from one on. Of those after them some
@@ -21,8 +22,8 @@ pub(crate) struct Span {
     places: usize,
 }
 
-/// A list of watches for each literal, in no order, with room for some more. All stand in one vector, where a list that
-/// is full moves to the end, to twice as many places: so an empty one costs nothing but its span. Only `new` and
+/// A list of watches for each literal, in no order, with room for some more. All stand in one vector, where a list of n
+/// places that is full moves to the end, to 2 n + 4 places: so an empty one costs nothing but its span. Only `new` and
 /// `make_room` take memory.
 #[derive(Drop)]
 pub(crate) struct ListStore {

@@ -12,7 +12,7 @@ pub returns-in-Restore-clause-decides : goal.returns-in-Restore-clause-decides
 returns-in-Restore-clause-decides g c = subst (λ command. Decides g.S.Shelf.tells command (g.S.Shelf.state c.args.shelf.now) (g.S.Shelf.state c.restore_files.new.shelf) c.restore_files.result) (sym c.in-Restore.is) c.restore_files.ensures
 
 pub returns-in-Match-clause-decides : goal.returns-in-Match-clause-decides
-returns-in-Match-clause-decides g c = subst (λ command. Decides g.S.Shelf.tells command (g.S.Shelf.state c.args.shelf.now) (g.S.Shelf.state c.find.new.shelf) c.find.result) (sym c.in-Match.is) c.find.ensures
+returns-in-Match-clause-decides g c = subst (λ command. Decides g.S.Shelf.tells command (g.S.Shelf.state c.args.shelf.now) (g.S.Shelf.state c.match_files.new.shelf) c.match_files.result) (sym c.in-Match.is) c.match_files.ensures
 
 pub returns-in-Info-clause-decides : goal.returns-in-Info-clause-decides
 returns-in-Info-clause-decides g c = subst (λ command. Decides g.S.Shelf.tells command (g.S.Shelf.state c.args.shelf.now) (g.S.Shelf.state c.inform.new.shelf) c.inform.result) (sym c.in-Info.is) c.inform.ensures

@@ -7,8 +7,8 @@ use Rattle.claim_core.specs.MatchQueries.{match_query}
 use Rattle.fact_tests.proofs.BookLemmas.{unanswered_match}
 use Rattle.fact_tests.proofs.book.Book.answer.Goals as goal
 
-pub ask_anew-requires-clause-missing : goal.ask_anew-requires-clause-missing
-ask_anew-requires-clause-missing g c answered =
+pub ask_new-requires-clause-missing : goal.ask_new-requires-clause-missing
+ask_new-requires-clause-missing g c answered =
     let graphs = g.D.Decide.circuits c.self.inside.decider in
     let query = c.in_ok-query.query in
     let missing = c.in-None.ensures.none in

@@ -21,10 +21,10 @@ attach-requires-clause-fits c =
     let w = c.args.self.now.watches in
     let back = c.leave.new.self in
     let added = c.leave.ensures.watches ∙ c.in_ok-id.ensures.added in
-    subst (λ (x : Watching). Fits x back.trail) (sym added) (fits_added w c.args.clause.now back.trail (omega (arith, c.in_ok-id.ensures.size)) (fits_back w c.args.self.now.trail back.trail c.args.level c.requires.turn.fitting.fits c.leave.ensures.back))
+    subst (λ (x : Watching). Fits x back.trail) (sym added) (fits_added w c.args.clause.now back.trail (omega (arith, c.in_ok-id.ensures.size)) (fits_back w c.args.self.now.trail back.trail c.args.level c.requires.movable.fitting.fits c.leave.ensures.back))
 
 pub attach-requires-clause-present : goal.attach-requires-clause-present
-attach-requires-clause-present c = back_present c.args.self.now.trail c.leave.new.self.trail c.args.level c.leave.ensures.back c.requires.turn.fitting.present (c.requires.asserting.lower c.requires.above)
+attach-requires-clause-present c = back_present c.args.self.now.trail c.leave.new.self.trail c.args.level c.leave.ensures.back c.requires.movable.fitting.present (c.requires.asserting.lower c.requires.above)
 
 pub attach-requires-clause-reached : goal.attach-requires-clause-reached
 attach-requires-clause-reached c =
@@ -54,7 +54,7 @@ returns-clause-returned c =
     let implied = subst (λ (x : Watching). AreImplied x.clauses c.leave.new.self.trail c.attach.new.trail) (c.leave.ensures.watches ∙ c.in_ok-id.ensures.added) c.attach.ensures.implied in
     let covered = subst (IsCovered after c.attach.new.trail.entries) c.in_ok-id.ensures.number c.in-None.ensures.covered in
     record {
-      fitting = gone w after clause c.args.self.now.trail c.leave.new.self.trail c.attach.new.trail c.args.level c.requires.turn.fitting c.in_ok-id.ensures.size is rewatched c.attach.ensures.fits c.attach.ensures.present sound implied c.attach.ensures.grown covered;
+      fitting = gone w after clause c.args.self.now.trail c.leave.new.self.trail c.attach.new.trail c.args.level c.requires.movable.fitting c.in_ok-id.ensures.size is rewatched c.attach.ensures.fits c.attach.ensures.present sound implied c.attach.ensures.grown covered;
       clauses = rewatched.clauses;
       variables = c.attach.ensures.grown.variables ∙ is.variables;
       tools = c.leave.ensures.tools;

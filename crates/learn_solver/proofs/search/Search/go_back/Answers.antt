@@ -12,10 +12,10 @@ restart-requires c = record {
 pub returns : goal.returns
 returns c =
     let back = c.in_ok-assert.ensures.returned in
-    let turned = c.restart.ensures in
+    let keeps = c.restart.ensures in
     record {
-      fitting = turned.fitting;
-      clauses = turned.clauses ∙ back.clauses;
-      variables = turned.variables ∙ back.variables;
-      tools = λ formula ids are. turned.tools formula ids (back.tools formula ids are);
+      fitting = keeps.fitting;
+      clauses = keeps.clauses ∙ back.clauses;
+      variables = keeps.variables ∙ back.variables;
+      tools = λ formula ids are. keeps.tools formula ids (back.tools formula ids are);
     }

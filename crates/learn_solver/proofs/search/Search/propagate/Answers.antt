@@ -2,8 +2,8 @@
 use Rattle.learn_solver.proofs.RunLemmas.{all_quiet_if, fitting_on}
 use Rattle.learn_solver.proofs.search.Search.propagate.Goals as goal
 
-pub returns-clause-turned : goal.returns-clause-turned
-returns-clause-turned c =
+pub returns-clause-keeps : goal.returns-clause-keeps
+returns-clause-keeps c =
     let done = c.propagate-conflict.ensures in
     record {
       fitting = fitting_on c.args.self.now.watches c.propagate-conflict.new.self c.args.self.now.trail c.propagate-conflict.new.trail c.requires done.rewatched done.fits done.present done.implied done.grown;

@@ -10,10 +10,10 @@ use Rattle.learn_solver.proofs.StepLemmas.{last_added}
 use Rattle.learn_solver.proofs.solver.Solver.advance.Goals as goal
 
 pub decide-requires-clause-running : goal.decide-requires-clause-running
-decide-requires-clause-running g c = running_again c.args.self.now c.args.search.now c.propagate.new.self c.requires.running c.propagate.ensures.turned
+decide-requires-clause-running g c = running_again c.args.self.now c.args.search.now c.propagate.new.self c.requires.running c.propagate.ensures.keeps
 
 pub learn-requires-clause-learning : goal.learn-requires-clause-learning
-learn-requires-clause-learning g c = (running_again c.args.self.now c.args.search.now c.propagate.new.self c.requires.running c.propagate.ensures.turned).learning
+learn-requires-clause-learning g c = (running_again c.args.self.now c.args.search.now c.propagate.new.self c.requires.running c.propagate.ensures.keeps).learning
 
 pub go_back-requires : goal.go_back-requires
 go_back-requires g c =
@@ -24,7 +24,7 @@ go_back-requires g c =
     let same = c.in_ok-level.ensures.same in
     let line = learnt.line in
     let level = c.in-Some-2.level in
-    let running = running_same old mid now (running_again old c.args.search.now mid c.requires.running c.propagate.ensures.turned) same in
+    let running = running_same old mid now (running_again old c.args.search.now mid c.requires.running c.propagate.ensures.keeps) same in
     let way = subst (λ (b : Option ℕ). IsWayBack old mid.trail line b) c.in-Some-2.is learnt.way in
     let lesson = subst (λ (t : Trailing). IsLesson old t line level) (sym same.trail) way.1 in
     let clause : c.deref.result.now ≡ line.clause = c.deref.ensures.value ∙ ap (λ (l : LogLine). l.clause) (c.last.ensures ∙ last_added old c.learn.new.self line learnt.added) in
@@ -40,7 +40,7 @@ returns-clause-gone g c =
     let after = charging c.learn.new.ledger in
     let learnt = c.in_ok-level.ensures.learnt in
     let line = learnt.line in
-    let running = running_same old mid now (running_again old c.args.search.now mid c.requires.running c.propagate.ensures.turned) c.in_ok-level.ensures.same in
+    let running = running_same old mid now (running_again old c.args.search.now mid c.requires.running c.propagate.ensures.keeps) c.in_ok-level.ensures.same in
     let way = subst (λ (b : Option ℕ). IsWayBack old mid.trail line b) c.in-Some-2.is learnt.way in
     let clause : c.deref.result.now ≡ line.clause = c.deref.ensures.value ∙ ap (λ (l : LogLine). l.clause) (c.last.ensures ∙ last_added old c.learn.new.self line learnt.added) in
     let back = subst (HasReturned now c.go_back.new.self) clause c.in_ok-go_back.ensures in
@@ -55,4 +55,4 @@ returns-clause-less g c =
     let charging = g.L.Charge.charging in
     let learnt = c.in_ok-level.ensures.learnt in
     let same = ap (λ (t : Trailing). t.variables) c.in_ok-level.ensures.same.trail in
-    less_learned learnt.line (charging c.args.ledger.now) (charging c.learn.new.ledger) c.args.search.now.trail c.go_back.new.self.trail (c.in_ok-go_back.ensures.variables ∙ (same ∙ c.propagate.ensures.turned.variables)) learnt.charged
+    less_learned learnt.line (charging c.args.ledger.now) (charging c.learn.new.ledger) c.args.search.now.trail c.go_back.new.self.trail (c.in_ok-go_back.ensures.variables ∙ (same ∙ c.propagate.ensures.keeps.variables)) learnt.charged

@@ -1,13 +1,13 @@
 -- The search goes on from candidate to candidate, for each of which it begins again.
-use Rattle.learn_solver.proofs.PursuitLemmas.{can_go, gone_none, gone_on, gone_turned, gone_with, stopped_on}
-use Rattle.learn_solver.proofs.RunLemmas.{can_turn}
+use Rattle.learn_solver.proofs.PursuitLemmas.{can_go, gone_none, gone_on, gone_keeping, gone_with, stopped_on}
+use Rattle.learn_solver.proofs.RunLemmas.{can_move}
 use Rattle.learn_solver.proofs.solver.Solver.follow.Goals as goal
 
 pub narrow-requires : goal.narrow-requires
-narrow-requires g c = can_turn c.loop-candidate.self c.loop-candidate.search c.loop-candidate.invariant.answer_is
+narrow-requires g c = can_move c.loop-candidate.self c.loop-candidate.search c.loop-candidate.invariant.answer_is
 
 pub pursue-requires : goal.pursue-requires
-pursue-requires g c = can_go (gone_turned c.loop-candidate.invariant c.narrow.ensures)
+pursue-requires g c = can_go (gone_keeping c.loop-candidate.invariant c.narrow.ensures)
 
 pub returns-in_err-found-clause-stop : goal.returns-in_err-found-clause-stop
 returns-in_err-found-clause-stop g c = stopped_on c.pursue.new.self (g.L.Charge.charging c.pursue.new.ledger) c.from_residual.result c.in_err-found.field-0.0 c.loop-candidate.invariant c.in_err-found.ensures.stop c.from_residual.ensures.1
