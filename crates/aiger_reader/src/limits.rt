@@ -4,13 +4,13 @@ ghost use Rattle.std.specs.Prelude.{◌≤◌};
 ghost use Rattle.aiger_reader.specs.declared.limits.TheConstants.{MOST_INPUTS, MOST_OUTPUTS, MOST_GATES};
 ghost use Rattle.aiger_reader.specs.declared.limits.TheConstants.{MOST_VARIABLES};
 
-/// The most inputs that are accepted.
+/// The most inputs that are accepted: a search keeps tables over all pairs of an input of each circuit, a million then.
 pub(crate) const MOST_INPUTS: u32 = 1024;
 
-/// The most outputs that are accepted.
+/// The most outputs that are accepted, as many as inputs.
 pub(crate) const MOST_OUTPUTS: u32 = 1024;
 
-/// The most gates that are accepted.
+/// The most gates that are accepted, as many as a graph in order may have (`net_core`).
 pub(crate) const MOST_GATES: u32 = 1_000_000;
 
 /// The greatest variable that is accepted. The ASCII form may leave gaps among its variables, and a number is kept

@@ -32,7 +32,7 @@ impl<'a> QuestionGuide for GatePairs<'a> {
         Ok(())
     }
 
-    // The tab reports each line.
+    // `Tab` reports each line.
     fn learned(&mut self, _lines: u64) {}
 }
 

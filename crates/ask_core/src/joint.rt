@@ -8,7 +8,7 @@ use indexmap::IndexMap;
 use net_core::{Gate, Graph, Lit};
 use std::alloc::{AllocError, Global};
 
-/// How many signals a netlist may have.
+/// How many signals a netlist may have: a literal is twice a signal's number, or one more, and has 32 bits.
 const LIMIT: usize = 1 << 31;
 
 /// What a signal of the netlist is in the question.

@@ -25,7 +25,7 @@ const ORDERS: u64 = 20;
 /// exclusive ors.
 const FEW_PARTS: usize = 64;
 
-/// Among sums of one width the order is drawn, below this.
+/// How many drawn numbers decide among sums of one width. With so many, two of a dozen sums seldom draw the same.
 const SPREAD: u64 = 1024;
 
 /// Variables whose sum is a constant.

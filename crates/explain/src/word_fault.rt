@@ -41,6 +41,7 @@ struct CommandForm {
     required: usize,
 }
 
+/// The words after `match`, of which BUDGET and SEED may be left out.
 const MATCH: &[Slot] = &[
     Slot::First,
     Slot::Second,
@@ -49,14 +50,19 @@ const MATCH: &[Slot] = &[
     Slot::Seed,
 ];
 
+/// Those after `check`.
 const CHECK: &[Slot] = &[Slot::First, Slot::Second, Slot::Account];
 
+/// Those after `restore`: of a check, and the file that is written.
 const RESTORE: &[Slot] = &[Slot::First, Slot::Second, Slot::Account, Slot::New];
 
+/// Those after `info`, of which BUDGET may be left out.
 const INFO: &[Slot] = &[Slot::File, Slot::Budget];
 
+/// Those after `make`: the pair's number, and the files that are written.
 const MAKE: &[Slot] = &[Slot::Number, Slot::First, Slot::Second];
 
+/// Those after `trial`.
 const TRIAL: &[Slot] = &[Slot::Number];
 
 /// The form of the words after a command's name, where there is such a command.

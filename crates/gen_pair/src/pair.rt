@@ -24,14 +24,16 @@ pub struct GenPair {
     pub hidden: Matching,
 }
 
-// The stream of the generator, the same for each number.
+// The stream of the generator, the same for each number: that of PCG's own examples. Any would do.
 const STREAM: u64 = 54;
 
+// The letters that the names of the first netlist's ports begin with.
 const FIRST_LETTERS: Letters = Letters {
     input: b'a',
     output: b'f',
 };
 
+// Those of the second netlist, others, so that no port of the one has the name of a port of the other.
 const SECOND_LETTERS: Letters = Letters {
     input: b'p',
     output: b'q',

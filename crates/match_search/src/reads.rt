@@ -23,7 +23,7 @@ impl Reads {
 }
 
 /// The outputs, n of them, those first that read the fewest inputs. They are gone over once for each number of inputs,
-/// once in a search: a tally of each pair, for which the order is, looks at as many inputs.
+/// once in a search: the order is for tallies, each of which looks at all inputs of its outputs.
 pub(crate) fn by_count(
     alloc: Global,
     reads: &[Items<u32>],

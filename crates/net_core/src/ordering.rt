@@ -16,7 +16,8 @@ use crate::order_fault::OrderFault;
 use crate::plain_net::PlainNet;
 use std::alloc::{AllocError, Global};
 
-/// The most gates that a graph in order may have.
+/// The most gates that a graph in order may have, a hundred times as many as the largest circuits that are matched: a
+/// number for each is kept here and there, so that this bounds the memory that a file can ask for.
 const MOST_GATES: usize = 1_000_000;
 
 /// The graph of a netlist: its definitions, expanded to gates, by level, and those of one level by

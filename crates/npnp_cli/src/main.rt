@@ -40,7 +40,7 @@ fn run_words(rt: HostRuntime) -> io::Result<u8> {
     }
 }
 
-/// Runs the program on the words, and tells people what they mean and what came of them.
+/// Runs the program on the words, and says to people what they mean and what came of them.
 fn run_explained(rt: HostRuntime, words: &[String]) -> io::Result<Outcome> {
     let people = People::new(rt.clone()?);
     people.warn(words);

@@ -24,14 +24,14 @@ impl People {
         People { rt, listen }
     }
 
-    /// Tells them before a run what can't be written.
+    /// Says to them before a run what can't be written.
     pub(crate) fn warn(&self, words: &[String]) {
         if self.listen {
             warn(&self.rt, words);
         }
     }
 
-    /// Tells them what the end of a run means, and why the last call on a file failed, where one did.
+    /// Says to them what the end of a run means, and why the last call on a file failed, where one did.
     pub(crate) fn explain(
         &self,
         words: &[String],

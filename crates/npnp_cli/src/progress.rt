@@ -10,10 +10,10 @@ use watch_core::{Stage, Watch};
 /// The variable of the environment that asks for it, by the value 1, or forbids it by 0.
 const VARIABLE: &str = "NPNP_PROGRESS";
 
-/// Nothing is printed before a run has taken this many seconds, since most runs are over then; and after that once in
-/// each.
+/// Nothing is printed before a run has taken this many seconds, since most runs are over then.
 const FIRST: u64 = 2;
 
+/// So many seconds lie between two lines, few enough that a reader sees that the run goes on.
 const BETWEEN: u64 = 1;
 
 /// A watcher that prints on standard error now and then what a run is at.

@@ -2,7 +2,7 @@
 
 use std::{fmt, str};
 
-/// How many columns of a line are shown.
+/// How many columns of a line are shown: what a wide terminal shows in one line, or a usual one of 80 columns in two.
 const COLUMNS: usize = 160;
 
 /// What stands for a character that isn't shown.
