@@ -115,7 +115,7 @@ impl Counter {
     /// What was counted, without the outputs that no vector changes.
     pub fn counts(&self, alloc: Global) -> Result<Counts, AllocError> {
         let kept = changing(alloc, &self.of_inputs)?;
-        let of_outputs = turned(alloc, &kept, self.ones.len())?;
+        let of_outputs = by_outputs(alloc, &kept, self.ones.len())?;
         Ok(Counts {
             vectors: self.vectors,
             ones: Items::from_vec(self.ones.clone()?),
@@ -131,7 +131,7 @@ impl Counter {
         for influences in self.of_inputs.iter() {
             of_inputs.push(signs_of(alloc, influences)?)?;
         }
-        let of_outputs = turned(alloc, &of_inputs, self.ones.len())?;
+        let of_outputs = by_outputs(alloc, &of_inputs, self.ones.len())?;
         Ok(Counts {
             vectors: 0,
             ones: Items::from_vec(vec![in alloc; 0u32; self.ones.len()]?),
@@ -217,20 +217,20 @@ fn signs_of(alloc: Global, influences: &[Influence]) -> Result<Items<Influence>,
 }
 
 // The influences on each output, from those of each input.
-fn turned(
+fn by_outputs(
     alloc: Global,
     of_inputs: &[Items<Influence>],
     outputs: usize,
 ) -> Result<Items<Items<Influence>>, AllocError> {
     let mut of_outputs = empty_lists(alloc, outputs)?;
     for (input, influences) in of_inputs.iter().enumerate() {
-        turn(port_at(input), influences, of_outputs.as_mut_slice())?;
+        add_by_output(port_at(input), influences, of_outputs.as_mut_slice())?;
     }
     Ok(Items::from_vec(of_outputs))
 }
 
 // Adds the influences of an input to those on outputs.
-fn turn(
+fn add_by_output(
     input: u32,
     influences: &[Influence],
     of_outputs: &mut [Items<Influence>],

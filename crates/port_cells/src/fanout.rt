@@ -40,7 +40,7 @@ impl Fanout {
         let outputs = self.outputs.len() as u64;
         self.count
             .saturating_add(outputs.saturating_mul(GATES_OF_OUTPUT))
-            .saturating_mul(WORDS)
+            .saturating_mul(WORDS as u64)
     }
 }
 

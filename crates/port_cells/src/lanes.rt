@@ -10,7 +10,7 @@ pub type Lanes = u64x4;
 pub const VECTORS: usize = 256;
 
 /// How many words of 64 vectors these are.
-pub(crate) const WORDS: u64 = 4;
+pub(crate) const WORDS: usize = 4;
 
 /// The same bit on all vectors.
 pub fn replicated(bit: bool) -> Lanes {
@@ -26,15 +26,15 @@ pub fn ones_in(lanes: Lanes) -> u32 {
 /// The bit on a vector; the vectors are numbered from 0 on.
 pub fn bit_of(lanes: Lanes, vector: usize) -> bool {
     let words = lanes.to_array();
-    (words[vector / 64 % 4] >> (vector % 64)) % 2 == 1
+    (words[vector / 64 % WORDS] >> (vector % 64)) % 2 == 1
 }
 
 /// The lanes with another bit on a vector.
 pub fn with_bit(lanes: Lanes, vector: usize, bit: bool) -> Lanes {
     let mut words = lanes.to_array();
-    let word = words[vector / 64 % 4];
+    let word = words[vector / 64 % WORDS];
     let mask = 1u64 << (vector % 64);
-    words[vector / 64 % 4] = if bit { word | mask } else { word & !mask };
+    words[vector / 64 % WORDS] = if bit { word | mask } else { word & !mask };
     Lanes::from_array(words)
 }
 
@@ -61,7 +61,7 @@ pub fn blocks_of_all(inputs: u32) -> u64 {
 
 /// What an input has in a block of all vectors.
 pub fn all_lanes(input: u32, block: u64) -> Lanes {
-    let word = (block % (1 << 32)) as usize * 4;
+    let word = (block % (1 << 32)) as usize * WORDS;
     Lanes::from_array([
         word_of_all(input, word),
         word_of_all(input, word + 1),

@@ -79,7 +79,7 @@ impl<'a> FlipSim<'a> {
 
     /// How many words of 64 vectors are computed where the circuit is run and each input is inverted once.
     pub fn words_of_flips(&self) -> u64 {
-        let mut words = WORDS * self.graph.gates().len() as u64;
+        let mut words = WORDS as u64 * self.graph.gates().len() as u64;
         for fanout in self.fanouts.iter() {
             words = words.saturating_add(fanout.words());
         }
@@ -126,7 +126,7 @@ impl<'a> FlipSim<'a> {
             self.values.as_mut_slice(),
         );
         self.is_copied = false;
-        self.words = self.words.saturating_add(WORDS * gates.len() as u64);
+        self.words = self.words.saturating_add(WORDS as u64 * gates.len() as u64);
     }
 
     /// Inverts an input, and computes what the gates have that it reaches.
