@@ -85,13 +85,13 @@ fn judge_open<S: Shelf, W: Watch>(
     ensures closed { OnOk result ((S.state shelf.new).mode ≡ Closed) }
 {
     let mut piece = zeros(alloc, PIECE)?;
-    let outcome = judge_by(alloc, graphs, shelf, &mut piece, size, watch)?;
+    let outcome = judge_with_piece(alloc, graphs, shelf, &mut piece, size, watch)?;
     shelf.close()?;
     Ok(outcome)
 }
 
 /// What the open account says of two circuits, read into `piece`.
-fn judge_by<S: Shelf, W: Watch>(
+fn judge_with_piece<S: Shelf, W: Watch>(
     alloc: Global,
     graphs: &Graphs<'_>,
     shelf: &mut S,
@@ -109,11 +109,11 @@ fn judge_by<S: Shelf, W: Watch>(
     let _first = graphs.first();
     let _second = graphs.second();
     let mut check = AccountCheck::new(alloc, graphs)?;
-    judge_rest(alloc, shelf, piece, size, &mut check, watch)
+    judge_unread(alloc, shelf, piece, size, &mut check, watch)
 }
 
 /// What the unread bytes of the open account come to, of which none was checked yet.
-fn judge_rest<S: Shelf, W: Watch>(
+fn judge_unread<S: Shelf, W: Watch>(
     alloc: Global,
     shelf: &mut S,
     piece: &mut [u8],

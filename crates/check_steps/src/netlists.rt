@@ -14,7 +14,7 @@ use shelf_core::Shelf;
 use std::alloc::Global;
 use watch_core::{Stage, Watch};
 
-/// The most bytes that a netlist may have.
+/// The most bytes that a netlist may have, 64 MiB: what is printed as BLIF of one within the other limits has no more.
 pub const NETLIST_LIMIT: u64 = 67_108_864;
 
 /// Reads the netlist under a name. The error is how the run ends where none stands there: `which` is the file that

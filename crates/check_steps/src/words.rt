@@ -14,7 +14,7 @@ pub const DEFAULT_BUDGET: u64 = 1_000_000_000;
 /// The seed of `match` where the words give none, and of `trial`.
 pub const DEFAULT_SEED: u64 = 1;
 
-/// The most digits that a number on the command line has.
+/// The most digits that a number on the command line has: as many as 2^64 has.
 pub const MOST_DIGITS: usize = 20;
 
 /// The files that a check names.

@@ -6,7 +6,7 @@ pub returns-clause-judges : goal.returns-clause-judges
 returns-clause-judges g c =
     let judged = c.in_ok-outcome.ensures.judges in
     record {
-      files = λ n. c.close.ensures.files n ∙ c.judge_by.ensures.judges.files n;
+      files = λ n. c.close.ensures.files n ∙ c.judge_with_piece.ensures.judges.files n;
       right = judged.right;
       matches = judged.matches;
       refuses = judged.refuses;

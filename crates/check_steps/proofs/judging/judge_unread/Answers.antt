@@ -1,7 +1,7 @@
 -- What was fed settles the account, or a line of it is bad.
 use Rattle.std.proofs.Common.{rules}
 use Rattle.check_steps.proofs.JudgingLemmas.{rejected_by, settled_by, stopped_by}
-use Rattle.check_steps.proofs.judging.judge_rest.Goals as goal
+use Rattle.check_steps.proofs.judging.judge_unread.Goals as goal
 
 pub settle-requires : goal.settle-requires
 settle-requires g c =
