@@ -9,7 +9,7 @@ use crate::clashes::delete_ways;
 use crate::conflict::Conflict;
 use crate::crowds::crowd;
 use crate::ports::apply_port;
-use crate::queue::Queue;
+use crate::queue::{Queue, Watcher, Watching};
 use crate::units::{apply, is_assigned, is_known};
 use account_core::{Ban, Port, port_on};
 use circuits::Pair;
@@ -120,35 +120,29 @@ fn apply_bans(domains: &mut Domains, queue: &mut Queue, bans: &[Ban], pair: Pair
     requires justified { IsJustifiedTrail bans.now domains.old }
     ensures { Follows bans.now domains.old domains.new result }
 {
-    let mut place = queue.take_list(pair);
-    for _ in 0..queue.watchers() {
-        let Some(watcher) = queue.watcher_at(place) else {
-            return Ok(None);
-        };
+    let count = queue.begin_list(pair);
+    for place in 0..count {
         if let Some(conflict) = apply_watcher(domains, queue, bans, pair, place)? {
-            keep_all(queue, pair, watcher.before);
+            keep_rest(queue, pair, place, count);
             return Ok(Some(conflict));
         }
-        place = watcher.before;
     }
+    queue.end_list(pair);
     Ok(None)
 }
 
-// Puts the watchers from a place on back into a pair's list.
-fn keep_all(queue: &mut Queue, pair: Pair, from: usize) {
-    let mut place = from;
-    for _ in 0..queue.watchers() {
-        let Some(watcher) = queue.watcher_at(place) else {
-            return;
-        };
-        queue.put(pair, place);
-        place = watcher.before;
+// Has the watchers after a place stay in a pair's list, of so many.
+fn keep_rest(queue: &mut Queue, pair: Pair, after: usize, count: usize) {
+    for place in after.saturating_add(1)..count {
+        if let Some(watcher) = queue.watcher_at(pair, place) {
+            queue.keep(pair, watcher);
+        }
     }
+    queue.end_list(pair);
 }
 
-// Applies the ban of a watcher that was taken out of an assigned pair's list, and puts it into that of another pair of
-// the ban that isn't assigned, or back where there is none. Where the other watched pair is deleted, nothing follows of
-// the ban.
+// Applies the ban of a watcher of an assigned pair: it watches another pair of it that isn't assigned in place of this
+// one, or this one still where there is none. Where the other watched pair is deleted, nothing follows of the ban.
 fn apply_watcher(
     domains: &mut Domains,
     queue: &mut Queue,
@@ -159,27 +153,47 @@ fn apply_watcher(
     requires justified { IsJustifiedTrail bans.now domains.old }
     ensures { Follows bans.now domains.old domains.new result }
 {
-    let Some(watcher) = queue.watcher_at(place) else {
+    let Some(watcher) = queue.watcher_at(pair, place) else {
         return Ok(None);
     };
-    let other = queue.other(place);
-    if is_gone(domains, other) {
-        queue.put(pair, place);
+    if is_gone(domains, watcher.blocker) {
+        queue.keep(pair, watcher);
         return Ok(None);
     }
-    let watched = next_watch(domains, bans, watcher.ban, pair, other);
-    queue.put(watched, place);
-    if watched != pair {
-        return Ok(None);
+    match queue.watching_at(watcher.place) {
+        Some(watching) => apply_watching(domains, queue, bans, pair, watcher.place, watching),
+        None => Ok(None),
     }
-    apply_ban(domains, bans, watcher.ban)
 }
 
-// Whether there is such a pair, and it is deleted.
-fn is_gone(domains: &Domains, pair: Option<Pair>) -> bool {
-    let Some(pair) = pair else {
-        return false;
-    };
+// Applies a ban that watches an assigned pair. Its watcher, which was there, stays or goes to another pair's list.
+fn apply_watching(
+    domains: &mut Domains,
+    queue: &mut Queue,
+    bans: &[Ban],
+    pair: Pair,
+    place: usize,
+    watching: Watching,
+) -> Followed
+    requires justified { IsJustifiedTrail bans.now domains.old }
+    ensures { Follows bans.now domains.old domains.new result }
+{
+    let blocker = watching.other_than(pair);
+    if is_gone(domains, blocker) {
+        queue.keep(pair, Watcher { place, blocker });
+        return Ok(None);
+    }
+    let next = next_watch(domains, bans, watching.ban, pair, blocker);
+    if next != pair {
+        queue.watch(place, next, blocker)?;
+        return Ok(None);
+    }
+    queue.keep(pair, Watcher { place, blocker });
+    apply_ban(domains, bans, watching.ban)
+}
+
+// Whether a pair is deleted.
+fn is_gone(domains: &Domains, pair: Pair) -> bool {
     if !is_known(domains, pair) {
         return false;
     }
@@ -188,18 +202,12 @@ fn is_gone(domains: &Domains, pair: Option<Pair>) -> bool {
 
 // What a ban is to watch in place of an assigned pair: one of its pairs that isn't assigned nor watched, or the pair
 // itself.
-fn next_watch(
-    domains: &Domains,
-    bans: &[Ban],
-    number: u64,
-    pair: Pair,
-    other: Option<Pair>,
-) -> Pair {
+fn next_watch(domains: &Domains, bans: &[Ban], number: u64, pair: Pair, other: Pair) -> Pair {
     let Some(ban) = bans.get(number as usize) else {
         return pair;
     };
     for next in ban.pairs.iter() {
-        if (Some(*next) != other) & !is_assigned(domains, *next) {
+        if (*next != other) & !is_assigned(domains, *next) {
             return *next;
         }
     }

@@ -8,16 +8,34 @@ use circuits::{Pair, PortKind};
 use pair_domains::Domains;
 use std::alloc::{AllocError, Global};
 
-/// No watcher.
+/// The greatest number, where no entry stands.
 const NONE: usize = usize::MAX;
 
-/// A ban that watches a pair, and the place of the watcher before it in the pair's list. The two of a ban stand beside
-/// each other, at an even place and the odd one after it.
+/// A ban that watches a pair, by its place among those that watch, and another of its pairs: where that is deleted,
+/// nothing follows of the ban, and it isn't looked at (blocking literals: Sorensson and Een, MiniSat 2.1, 2008).
 #[derive(Clone, Copy, Debug)]
 pub(crate) struct Watcher {
+    pub(crate) place: usize,
+    pub(crate) blocker: Pair,
+}
+
+/// A ban, and the two of its pairs that it watches, which are one where it has no other.
+#[derive(Clone, Copy, Debug)]
+pub(crate) struct Watching {
     pub(crate) ban: u64,
-    pub(crate) pair: Pair,
-    pub(crate) before: usize,
+    pub(crate) one: Pair,
+    pub(crate) other: Pair,
+}
+
+impl Watching {
+    /// The pair that is watched beside one.
+    pub(crate) fn other_than(self, pair: Pair) -> Pair {
+        if self.one == pair {
+            self.other
+        } else {
+            self.one
+        }
+    }
 }
 
 /// How far propagation has come, and the bans in the lists of two of their pairs each (watched literals: Moskewicz and
@@ -32,9 +50,13 @@ pub struct Queue {
     /// How many inputs either circuit has, and how many outputs.
     inputs: u64,
     outputs: u64,
-    /// The last watcher of each pair, by its number.
-    lasts: Vec<usize>,
-    watchers: Vec<Watcher>,
+    /// The watchers of each pair, by its number, side by side: chained through one table, 60,000 conflicts of a near
+    /// miss of an equality of 8 bits took 4.6 s in place of 2.8.
+    lists: Vec<Vec<Watcher>>,
+    /// The bans that watch.
+    watching: Vec<Watching>,
+    /// How many watchers of the list that is gone through stay in it.
+    kept: usize,
     /// The bans that were made of mismatches.
     pub(crate) made: Mismatches,
     /// Partners for all outputs.
@@ -49,8 +71,9 @@ impl Drop for Queue {
             seen: _seen,
             inputs: _inputs,
             outputs: _outputs,
-            lasts: _lasts,
-            watchers: _watchers,
+            lists: _lists,
+            watching: _watching,
+            kept: _kept,
             made: _made,
             partners: _partners,
         } = self;
@@ -66,14 +89,15 @@ impl Queue {
             .saturating_mul(inputs)
             .saturating_add(outputs.saturating_mul(outputs))
             .saturating_mul(2);
-        let lasts = vec![in alloc; NONE; count as usize]?;
+        let lists = empty_lists(alloc, count)?;
         Ok(Queue {
             head: 0,
             seen: 0,
             inputs,
             outputs,
-            lasts,
-            watchers: Vec::new(alloc),
+            lists,
+            watching: Vec::new(alloc),
+            kept: 0,
             made: Mismatches::new(alloc),
             partners,
         })
@@ -89,8 +113,14 @@ impl Queue {
         let Some((one, other)) = last_two(domains, &ban.pairs) else {
             return Ok(());
         };
-        self.watch(one, number)?;
-        self.watch(other, number)
+        let place = self.watching.len();
+        self.watching.push(Watching {
+            ban: number,
+            one,
+            other,
+        })?;
+        self.put(place, one, other)?;
+        self.put(place, other, one)
     }
 
     /// Adds the bans that came since.
@@ -119,49 +149,69 @@ impl Queue {
         Ok(())
     }
 
-    // Has a ban watch a pair.
-    fn watch(&mut self, pair: Pair, ban: u64) -> Result<(), AllocError> {
-        let place = self.watchers.len();
-        self.watchers.push(Watcher {
-            ban,
-            pair,
-            before: NONE,
-        })?;
-        self.put(pair, place);
+    // Puts a ban's watcher into a pair's list.
+    fn put(&mut self, place: usize, pair: Pair, blocker: Pair) -> Result<(), AllocError> {
+        let number = self.number(pair);
+        if number < self.lists.len() {
+            self.lists[number].push(Watcher { place, blocker })?;
+        }
         Ok(())
     }
 
-    /// Puts the watcher of a place into a pair's list.
-    pub(crate) fn put(&mut self, pair: Pair, place: usize) {
+    /// Has a ban watch another pair in place of one, beside a third, and puts its watcher there.
+    pub(crate) fn watch(
+        &mut self,
+        place: usize,
+        pair: Pair,
+        beside: Pair,
+    ) -> Result<(), AllocError> {
+        if let Some(watching) = self.watching.get_mut(place) {
+            watching.one = pair;
+            watching.other = beside;
+        }
+        self.put(place, pair, beside)
+    }
+
+    /// Begins to go through a pair's list, and answers how many watchers it has.
+    pub(crate) fn begin_list(&mut self, pair: Pair) -> usize {
+        self.kept = 0;
+        match self.lists.get(self.number(pair)) {
+            Some(list) => list.len(),
+            None => 0,
+        }
+    }
+
+    /// A watcher of a pair.
+    pub(crate) fn watcher_at(&self, pair: Pair, place: usize) -> Option<Watcher> {
+        let list = self.lists.get(self.number(pair))?;
+        list.get(place).copied()
+    }
+
+    /// Has a watcher stay in the pair's list that is gone through.
+    pub(crate) fn keep(&mut self, pair: Pair, watcher: Watcher) {
         let number = self.number(pair);
-        let before = self.last(number);
-        if let Some(watcher) = self.watchers.get_mut(place) {
-            watcher.pair = pair;
-            watcher.before = before;
+        let place = self.kept;
+        if number < self.lists.len() {
+            set_at(&mut self.lists[number], place, watcher);
         }
-        if let Some(last) = self.lasts.get_mut(number) {
-            *last = place;
-        }
+        self.kept = place.saturating_add(1);
     }
 
-    /// Empties a pair's list, and answers the place of its last watcher.
-    pub(crate) fn take_list(&mut self, pair: Pair) -> usize {
+    /// Takes those out of a pair's list that don't stay in it.
+    pub(crate) fn end_list(&mut self, pair: Pair) {
         let number = self.number(pair);
-        let last = self.last(number);
-        if let Some(place) = self.lasts.get_mut(number) {
-            *place = NONE;
-        }
-        last
-    }
-
-    fn last(&self, number: usize) -> usize {
-        match self.lasts.get(number) {
-            Some(last) => *last,
-            None => NONE,
+        let count = self.kept;
+        if number < self.lists.len() {
+            self.lists[number].truncate(count);
         }
     }
 
-    // Where a pair's last watcher is noted.
+    /// The ban of a watcher, and what it watches.
+    pub(crate) fn watching_at(&self, place: usize) -> Option<Watching> {
+        self.watching.get(place).copied()
+    }
+
+    // Where a pair's list stands.
     fn number(&self, pair: Pair) -> usize {
         let (count, first) = match pair.kind {
             PortKind::Input => (self.inputs, 0),
@@ -178,28 +228,21 @@ impl Queue {
             .saturating_add(row.saturating_mul(2))
             .saturating_add(sign) as usize
     }
+}
 
-    /// The watcher of a place.
-    pub(crate) fn watcher_at(&self, place: usize) -> Option<Watcher> {
-        match self.watchers.get(place) {
-            Some(watcher) => Some(*watcher),
-            None => None,
-        }
+// As many lists without watchers.
+fn empty_lists(alloc: Global, count: u64) -> Result<Vec<Vec<Watcher>>, AllocError> {
+    let mut lists = Vec::new(alloc);
+    for _ in 0..count {
+        lists.push(Vec::new(alloc))?;
     }
+    Ok(lists)
+}
 
-    /// The other pair that the ban of a watcher watches.
-    pub(crate) fn other(&self, place: usize) -> Option<Pair> {
-        let twin = if place % 2 == 0 {
-            place.saturating_add(1)
-        } else {
-            place - 1
-        };
-        Some(self.watchers.get(twin)?.pair)
-    }
-
-    /// How many watchers there are.
-    pub(crate) fn watchers(&self) -> usize {
-        self.watchers.len()
+// Puts a watcher at a place of a list, if it has that place.
+fn set_at(list: &mut [Watcher], place: usize, watcher: Watcher) {
+    if place < list.len() {
+        list[place] = watcher;
     }
 }
 

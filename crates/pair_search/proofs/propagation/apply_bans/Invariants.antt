@@ -1,5 +1,5 @@
 use Rattle.pair_search.specs.Progress.{Propagates}
 use Rattle.pair_search.proofs.propagation.apply_bans.Given as goal
 
-abbrev pub invariant-loop : goal.invariant-loop
-invariant-loop l = Propagates l.bans l.fn.domains l.domains
+abbrev pub invariant-loop-place : goal.invariant-loop-place
+invariant-loop-place l = Propagates l.bans l.fn.domains l.domains
