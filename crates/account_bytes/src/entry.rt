@@ -2,7 +2,7 @@ use account_core::{Ban, Conclusion, FactHead};
 use cnf_core::LogLine;
 
 /// What stands in an account after its header.
-#[derive(Debug)]
+#[derive(Debug, Drop)]
 pub enum Entry {
     /// A claim that fails, or one that holds, whose log follows.
     Fact(FactHead),
@@ -18,19 +18,4 @@ pub enum Entry {
     DropBan(u64),
     /// That the account is whole.
     End,
-}
-
-// By hand, so that each exit of a function has one call for it (docs/IDIOMS.md).
-impl Drop for Entry {
-    fn drop(self) {
-        match self {
-            Entry::Fact(_head) => {}
-            Entry::Line(_line) => {}
-            Entry::Ban(_ban) => {}
-            Entry::Conclusion(_conclusion) => {}
-            Entry::DropFact(_fact) => {}
-            Entry::DropBan(_ban) => {}
-            Entry::End => {}
-        }
-    }
 }

@@ -14,4 +14,4 @@ mod writing;
 pub use entry::Entry;
 pub use laws::{one_answer, one_entry};
 pub use reading::{EntryStop, read_entry};
-pub use writing::put_entry;
+pub use writing::{put_ban, put_conclusion, put_entry, put_fact, put_log_line};
