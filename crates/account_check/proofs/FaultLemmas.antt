@@ -42,6 +42,8 @@ one_fault account (entry.Fact head) = one_unless _ _ _ (one_fact_fault account.g
 one_fault account (entry.Line line) = λ a b one other. one ∙ sym other
 one_fault account (entry.Ban ban) = one_unless _ _ _ (one_ban_fault account.graphs account.given ban)
 one_fault account (entry.Conclusion x) = one_conclusion_fault account.graphs account.given x
+one_fault account (entry.DropFact fact) = one_unless _ _ _ (one_unless _ _ _ one_passed)
+one_fault account (entry.DropBan ban) = one_unless _ _ _ (one_unless _ _ _ one_passed)
 one_fault account entry.End = one_passed
 
 -- the fault that an answer names is the record's, and the record's fault is named

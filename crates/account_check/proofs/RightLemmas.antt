@@ -207,6 +207,8 @@ right_by_record account (entry_of.Line line) first second right fine = right_lin
 right_by_record account (entry_of.Ban ban) first second right fine =
     right_ban account ban first second right (through fine).1
 right_by_record account (entry_of.Conclusion x) first second right fine = right_conclusion account x right fine
+right_by_record account (entry_of.DropFact fact) first second right fine = right
+right_by_record account (entry_of.DropBan ban) first second right fine = right
 right_by_record account entry_of.End first second right fine = right
 
 -- one valid record more

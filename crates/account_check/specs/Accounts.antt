@@ -22,7 +22,7 @@ use Rattle.account_check.specs.declared.verdict.Verdict.TheVariants as verdict
 use Rattle.account_check.specs.Tests.{Passed}
 use Rattle.account_check.specs.Facts.{FactTests}
 use Rattle.account_check.specs.Bans.{BanTests}
-use Rattle.account_check.specs.Conclusions.{matching_of, ConclusionTests, PortsTest}
+use Rattle.account_check.specs.Conclusions.{matching_of, ConclusionTests, DropTest, PortsTest}
 use Rattle.account_check.specs.Logs.{OpenFact, Proof, line_reject, nothing, unproved, unshown, with_ban, with_fact, with_line}
 
 -- What an account of two circuits has come to: what may stand next; the facts and bans that were given; the fact whose
@@ -55,6 +55,8 @@ HasFault account (entry.Fact head) fault = PortsTest account.graphs (FactTests a
 HasFault account (entry.Line line) fault = fault ≡ line_reject account.graphs account.fact account.proof line
 HasFault account (entry.Ban ban) fault = PortsTest account.graphs (BanTests account.graphs account.given ban) fault
 HasFault account (entry.Conclusion conclusion) fault = ConclusionTests account.graphs account.given conclusion fault
+HasFault account (entry.DropFact fact) fault = PortsTest account.graphs DropTest fault
+HasFault account (entry.DropBan ban) fault = PortsTest account.graphs DropTest fault
 HasFault account entry.End fault = Passed fault
 
 -- where a line of the open log leads: after the empty one the fact is given
@@ -84,6 +86,8 @@ with_record account (entry.Fact head) = after_fact account head
 with_record account (entry.Line line) = rest_after_line account account.fact line
 with_record account (entry.Ban ban) = record account { given = with_ban account.given ban.pairs }
 with_record account (entry.Conclusion conclusion) = after_conclusion account conclusion
+with_record account (entry.DropFact fact) = account
+with_record account (entry.DropBan ban) = account
 with_record account entry.End = account
 
 abbrev pub after : Account → Record → Account

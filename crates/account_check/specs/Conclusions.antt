@@ -62,6 +62,10 @@ abbrev pub EmptyBanTests : Given → ℕ → Option Reject → Type 0
 EmptyBanTests given ban fault =
     Unless (IsBanGiven given ban) reject.UnknownId (Unless (ban_at given ban ≡ []) reject.Conclusion Passed) fault
 
+-- the test of a drop, which none passes yet
+abbrev pub DropTest : Option Reject → Type 0
+DropTest fault = Unless ⊥ reject.UnknownId Passed fault
+
 -- the tests of a conclusion
 abbrev pub ConclusionTests : Graphs → Given → Conclusion → Option Reject → Type 0
 ConclusionTests graphs given conclusion.NonePorts fault = OtherPortsTest graphs fault

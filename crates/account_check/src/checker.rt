@@ -19,7 +19,7 @@ use crate::fact_log::FactLog;
 use crate::fact_logs::FactLogs;
 use crate::facts::{test_fails, test_holds};
 use crate::logs::Logs;
-use crate::pairs::{matching, test_empty_ban, test_ports};
+use crate::pairs::{matching, test_drop, test_empty_ban, test_ports};
 use crate::reject::RecordStop;
 use crate::verdict::Verdict;
 use account_core::{Ban, Conclusion, FactHead};
@@ -147,6 +147,9 @@ impl<'a> Checker<'a> {
             Record::Line(line) => self.line(alloc, line),
             Record::Ban(ban) => self.ban(alloc, ban),
             Record::Conclusion(conclusion) => self.conclude(alloc, conclusion),
+            Record::DropFact(_) | Record::DropBan(_) => {
+                Err(RecordStop::Reject(test_drop(self.evaluator.graphs())))
+            }
             Record::End => {
                 self.end();
                 Ok(())

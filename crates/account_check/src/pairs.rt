@@ -4,7 +4,7 @@ ghost use Rattle.std.specs.Prelude.{◌≡◌, ◌+◌, ◌≤◌, ◌↔◌, Is
 ghost use Rattle.circuits.specs.Matches.{HavePorts};
 ghost use Rattle.net_core.specs.Graph.{IsGraph};
 ghost use Rattle.account_check.specs.Conclusions.{entry_of, matching_of, AreInOrder, AreOfKind, EmptyBanTests};
-ghost use Rattle.account_check.specs.Conclusions.{OtherPortsTest, PairTests, PortsTest};
+ghost use Rattle.account_check.specs.Conclusions.{DropTest, OtherPortsTest, PairTests, PortsTest};
 ghost use Rattle.account_check.specs.declared.reject.RecordStop.TheVariants as stop;
 ghost use Rattle.account_check.specs.declared.reject.Reject.{Reject as AnyReject};
 
@@ -24,6 +24,16 @@ pub(crate) fn test_ports(graphs: &Graphs<'_>) -> Option<Reject>
         return Some(Reject::Conclusion);
     }
     None
+}
+
+/// What is wrong with a drop: the circuits differ in their numbers of ports; or else that none is taken yet.
+pub(crate) fn test_drop(graphs: &Graphs<'_>) -> Reject
+    ensures { PortsTest graphs.now DropTest (Some result) }
+{
+    if !have_as_many(graphs) {
+        return Reject::Conclusion;
+    }
+    Reject::UnknownId
 }
 
 /// What is wrong with the conclusion that there is no match since a ban has no pairs: the circuits differ in their
