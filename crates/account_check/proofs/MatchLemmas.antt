@@ -114,7 +114,7 @@ other_verdict matching e = cc
 same_matching : (a b : Matching) → ◌≡◌ {A = Option Verdict} (Some (verdict.Match a)) (Some (verdict.Match b)) → a ≡ b
 same_matching a b e = cc
 
-concluded : (account : Account) (x : Conclusion) → ConclusionTests account.graphs account.given x None → IsMatchSoFar (after_conclusion account x) (logs_asked x)
+concluded : (account : Account) (x : Conclusion) → ConclusionTests account.graphs account.given account.dropped x None → IsMatchSoFar (after_conclusion account x) (logs_asked x)
 concluded account conclusion.NonePorts tests = record {
   same = λ matching e. absurd (other_verdict matching e);
   logs = λ matching e. absurd (other_verdict matching e);
@@ -189,8 +189,8 @@ known_after place.Start account entry_of.Header next known fine e = known_there 
 known_after place.Headed account (entry_of.Fact (head.Fails claim bits)) next known fine e = known_there place.Headed next (with_record account (entry_of.Fact (head.Fails claim bits))) e known
 known_after place.Headed account (entry_of.Fact (head.Holds claim)) next known fine e = known_there place.FactLog next (with_record account (entry_of.Fact (head.Holds claim))) e tt
 known_after place.Headed account (entry_of.Ban ban) next known fine e = known_there place.Headed next (with_record account (entry_of.Ban ban)) e known
-known_after place.Headed account (entry_of.DropFact fact) next known fine e = known_there place.Headed next account e known
-known_after place.Headed account (entry_of.DropBan ban) next known fine e = known_there place.Headed next account e known
+known_after place.Headed account (entry_of.DropFact fact) next known fine e = known_there place.Headed next (with_record account (entry_of.DropFact fact)) e known
+known_after place.Headed account (entry_of.DropBan ban) next known fine e = known_there place.Headed next (with_record account (entry_of.DropBan ban)) e known
 known_after place.Headed account (entry_of.Conclusion x) next known fine e =
     known_there (place.Logs (logs_asked x)) next (after_conclusion account x) e (fact_stays account x known, concluded account x fine)
 known_after place.FactLog account (entry_of.Line line) next known fine e =
