@@ -1,6 +1,7 @@
 pub mod TestLemmas
 pub mod LogLemmas
 pub mod PairLemmas
+pub mod DropLemmas
 pub mod FaultLemmas
 pub mod VerdictLemmas
 pub mod CheckingLemmas

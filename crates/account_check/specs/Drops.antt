@@ -29,9 +29,9 @@ IsFactKept given dropped fact = IsFactGiven given fact × IsUnmarked dropped.fac
 abbrev pub IsBanKept : Given → Dropped → ℕ → Type 0
 IsBanKept given dropped ban = IsBanGiven given ban × IsUnmarked dropped.bans ban
 
-abbrev pub IsReferenceKept : Dropped → Option ℕ → Type 0
-IsReferenceKept dropped None = Unit {0}
-IsReferenceKept dropped (Some ban) = IsUnmarked dropped.bans ban
+abbrev pub IsReferenceUnmarked : List Bool → Option ℕ → Type 0
+IsReferenceUnmarked marks None = Unit {0}
+IsReferenceUnmarked marks (Some number) = IsUnmarked marks number
 
 -- no fact and no ban that a step names was dropped
 abbrev pub AreNamesKept : Dropped → Step → Type 0
@@ -39,7 +39,7 @@ AreNamesKept dropped (step.Vector output values) = Unit {0}
 AreNamesKept dropped (step.Mismatch fails holds) = IsUnmarked dropped.facts fails × IsUnmarked dropped.facts holds
 AreNamesKept dropped (step.Tally kind have lack) =
     All (IsUnmarked dropped.facts) have × All (IsUnmarked dropped.facts) lack
-AreNamesKept dropped (step.Cover kind from to refs) = All (IsReferenceKept dropped) refs
+AreNamesKept dropped (step.Cover kind from to refs) = All (IsReferenceUnmarked dropped.bans) refs
 
 -- one fact more, and one ban more, was dropped
 abbrev pub without_fact : Dropped → ℕ → Dropped

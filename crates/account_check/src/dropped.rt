@@ -1,7 +1,7 @@
 //! The facts and bans that were dropped.
 
-ghost use Rattle.std.specs.Prelude.{◌≡◌, ◌↔◌, All, IsTrue, OnErr, OnOk};
-ghost use Rattle.account_check.specs.Drops.{AreNamesKept, IsReferenceKept, IsUnmarked, marked, nothing_dropped};
+ghost use Rattle.std.specs.Prelude.{◌≡◌, ◌<◌, ◌↔◌, All, IsTrue, OnErr, OnOk, length, take};
+ghost use Rattle.account_check.specs.Drops.{AreNamesKept, IsReferenceUnmarked, IsUnmarked, marked, nothing_dropped};
 ghost use Rattle.account_check.specs.Drops.{without_ban, without_fact};
 
 use account_core::Step;
@@ -61,25 +61,7 @@ impl Dropped {
             Step::Tally { have, lack, .. } => {
                 are_unmarked(&self.facts, have) & are_unmarked(&self.facts, lack)
             }
-            Step::Cover { refs, .. } => self.keeps_references(refs),
-        }
-    }
-
-    // Whether no ban that is referred to was dropped.
-    fn keeps_references(&self, refs: &[Option<u64>]) -> bool
-        ensures { IsTrue result ↔ All (IsReferenceKept self.now) refs.now }
-    {
-        refs.iter()
-            .all(|reference| self.keeps_reference(*reference))
-    }
-
-    // Whether the ban that is referred to wasn't dropped, if one is.
-    fn keeps_reference(&self, reference: Option<u64>) -> bool
-        ensures { IsTrue result ↔ IsReferenceKept self.now reference }
-    {
-        match reference {
-            Some(ban) => self.keeps_ban(ban),
-            None => true,
+            Step::Cover { refs, .. } => are_references_unmarked(&self.bans, refs),
         }
     }
 
@@ -121,18 +103,46 @@ fn are_unmarked(marks: &[bool], numbers: &[u64]) -> bool
     numbers.iter().all(|number| is_unmarked(marks, *number))
 }
 
+// Whether none of the numbers that are referred to is marked.
+fn are_references_unmarked(marks: &[bool], refs: &[Option<u64>]) -> bool
+    ensures { IsTrue result ↔ All (IsReferenceUnmarked marks.now) refs.now }
+{
+    refs.iter()
+        .all(|reference| is_reference_unmarked(marks, *reference))
+}
+
+// Whether the number that is referred to isn't marked, if there is one.
+fn is_reference_unmarked(marks: &[bool], reference: Option<u64>) -> bool
+    ensures { IsTrue result ↔ IsReferenceUnmarked marks.now reference }
+{
+    match reference {
+        Some(number) => is_unmarked(marks, number),
+        None => true,
+    }
+}
+
 // Marks one number more.
 fn mark(marks: &mut Items<bool>, number: u64) -> Result<(), AllocError>
     ensures marked { OnOk result (marks.new ≡ marked marks.old number) }
     ensures refused { OnErr result (marks.new ≡ marks.old) }
 {
     let count = marks.len();
-    while marks.len() as u64 <= number {
-        if marks.push(false).is_err() {
-            marks.truncate(count);
-            return Err(AllocError);
-        }
+    if let Err(stop) = lengthen(marks, number) {
+        marks.truncate(count);
+        return Err(stop);
     }
     marks.set(number as usize, true);
+    Ok(())
+}
+
+// Adds marks of numbers that aren't marked, up to this one's.
+fn lengthen(marks: &mut Items<bool>, number: u64) -> Result<(), AllocError>
+    ensures before { take (length marks.old) marks.new ≡ marks.old }
+    ensures same { marked marks.new number ≡ marked marks.old number }
+    ensures there { OnOk result (number < length marks.new) }
+{
+    while marks.len() as u64 <= number {
+        marks.push(false)?;
+    }
     Ok(())
 }

@@ -1,8 +1,9 @@
 //! Accounts of version 2, worked out by hand.
 
-use crate::graphs::and_or;
-use account_check::{CheckStop, check};
-use account_file::{FileStop, Reader, RecordFault, put_record2};
+use crate::accounts::put_refusal_with;
+use crate::graphs::{and_or, zero_wire};
+use account_check::{CheckStop, Verdict, check};
+use account_file::{FileStop, Reader, Record, RecordFault, put_record2};
 use net_core::Graphs;
 use std::alloc::{AllocError, Global};
 use std::test::Fail;
@@ -21,8 +22,34 @@ const DROPS: [u8; 43] = [
 /// How an account ends: its fault, and the number of the last record.
 type Ending = (Option<RecordFault>, u64);
 
-/// Reads a short account, and writes its records as they are read.
-fn read_back(alloc: Global, account: &[u8], out: &mut Vec<u8>) -> Result<Ending, AllocError> {
+/// A drop that is put after a record, which is named by its number: of a fact, or else of a ban, and of which.
+type Placed = (u64, bool, u64);
+
+/// Writes the drops that are put after a record.
+fn put_drops(drops: &[Placed], record: u64, out: &mut Vec<u8>) -> Result<(), AllocError> {
+    for (after, is_of_fact, number) in drops.iter() {
+        if *after == record {
+            put_record2(&drop_of(*is_of_fact, *number), out)?;
+        }
+    }
+    Ok(())
+}
+
+fn drop_of(is_of_fact: bool, number: u64) -> Record {
+    if is_of_fact {
+        Record::DropFact(number)
+    } else {
+        Record::DropBan(number)
+    }
+}
+
+/// Reads a short account, and writes its records as they are read, with drops between them.
+fn rewrite(
+    alloc: Global,
+    account: &[u8],
+    drops: &[Placed],
+    out: &mut Vec<u8>,
+) -> Result<Ending, AllocError> {
     if account.len() > 1000 {
         return Err(AllocError);
     }
@@ -31,7 +58,10 @@ fn read_back(alloc: Global, account: &[u8], out: &mut Vec<u8>) -> Result<Ending,
     reader.finish();
     for _ in 0..100 {
         match reader.next(alloc) {
-            Ok(Some(entry)) => put_record2(&entry, out)?,
+            Ok(Some(entry)) => {
+                put_record2(&entry, out)?;
+                put_drops(drops, reader.line(), out)?;
+            }
             Ok(None) => return Ok((None, reader.line())),
             Err(FileStop::Fault(fault)) => return Ok((Some(fault), reader.line())),
             Err(FileStop::Memory) => return Err(AllocError),
@@ -43,7 +73,7 @@ fn read_back(alloc: Global, account: &[u8], out: &mut Vec<u8>) -> Result<Ending,
 /// Whether an account is read whole, and written as it is.
 fn is_read_back(alloc: Global, account: &[u8], records: u64) -> Result<bool, AllocError> {
     let mut out = Vec::new(alloc);
-    let ending = read_back(alloc, account, &mut out)?;
+    let ending = rewrite(alloc, account, &[], &mut out)?;
     Ok((out.as_slice() == account) & (ending == (None, records)))
 }
 
@@ -91,7 +121,7 @@ static BAD_ACCOUNTS: [(&[u8], RecordFault, u64); 7] = [
 /// How a short account ends.
 fn ending_of(alloc: Global, account: &[u8]) -> Result<Ending, AllocError> {
     let mut out = Vec::new(alloc);
-    read_back(alloc, account, &mut out)
+    rewrite(alloc, account, &[], &mut out)
 }
 
 #[test]
@@ -114,7 +144,7 @@ fn version_of(alloc: Global, bytes: &[u8]) -> Result<Option<u8>, AllocError> {
 }
 
 #[test]
-fn the_first_bytes_tell_the_version(rt: HostRuntime) -> Result<(), Fail> {
+fn finds_the_version_by_the_first_bytes(rt: HostRuntime) -> Result<(), Fail> {
     assert_eq!(rt; version_of(rt.alloc(), b"NPNPACC")?, None);
     assert_eq!(rt; version_of(rt.alloc(), b"NPNPACC2")?, Some(2));
     assert_eq!(rt; version_of(rt.alloc(), b"NPNPACD")?, Some(1));
@@ -140,5 +170,76 @@ fn checks_binary_accounts(rt: HostRuntime) -> Result<(), Fail> {
         (none_ports, drops),
         (Some((2, "conclusion")), Some((2, "id")))
     );
+    Ok(())
+}
+
+/// Drops of all facts and bans of the refusal, each after the last record that names it.
+static GOOD_DROPS: [Placed; 8] = [
+    (8, true, 0),
+    (8, true, 1),
+    (9, false, 0),
+    (9, false, 1),
+    (10, false, 2),
+    (10, false, 3),
+    (11, false, 4),
+    (11, false, 5),
+];
+
+/// Drops in the refusal, the first bad record, and the word for it: a fact that is dropped twice; one that wasn't given
+/// yet; one that a mismatch names afterwards; a ban that is dropped twice; one that a cover names afterwards; one that
+/// the conclusion names; a drop after the conclusion.
+static BAD_DROPS: [(&[Placed], u64, &str); 7] = [
+    (&[(8, true, 0), (10, true, 0)], 12, "id"),
+    (&[(2, true, 1)], 3, "id"),
+    (&[(5, true, 1)], 9, "id"),
+    (&[(9, false, 1), (9, false, 1)], 11, "id"),
+    (&[(6, false, 0)], 10, "id"),
+    (&[(11, false, 6)], 13, "id"),
+    (&[(12, false, 0)], 13, "order"),
+];
+
+/// Writes the refusal in bytes, with drops between its records.
+fn put_refusal(alloc: Global, drops: &[Placed], out: &mut Vec<u8>) -> Result<(), AllocError> {
+    let mut text = String::new(alloc);
+    put_refusal_with(0, "", &mut text)?;
+    rewrite(alloc, text.as_bytes(), drops, out)?;
+    Ok(())
+}
+
+/// Whether the refusal with drops proves that there is no match.
+fn proves_with(alloc: Global, graphs: &Graphs<'_>, drops: &[Placed]) -> bool {
+    let mut account = Vec::new(alloc);
+    if put_refusal(alloc, drops, &mut account).is_err() {
+        return false;
+    }
+    match check(alloc, graphs, &account) {
+        Ok(Verdict::None) => true,
+        _ => false,
+    }
+}
+
+/// The first bad record of the refusal with drops; none when out of memory.
+fn bad_record_with(
+    alloc: Global,
+    graphs: &Graphs<'_>,
+    drops: &[Placed],
+) -> Option<(u64, &'static str)> {
+    let mut account = Vec::new(alloc);
+    if put_refusal(alloc, drops, &mut account).is_err() {
+        return None;
+    }
+    bad_record(alloc, graphs, &account)
+}
+
+#[test]
+fn what_is_dropped_is_named_no_more(rt: HostRuntime) -> Result<(), Fail> {
+    let both = zero_wire(rt.alloc())?;
+    let graphs = both.graphs();
+    assert!(rt; proves_with(rt.alloc(), &graphs, &[]));
+    assert!(rt; proves_with(rt.alloc(), &graphs, &GOOD_DROPS));
+    for (drops, record, word) in BAD_DROPS.iter() {
+        let found = bad_record_with(rt.alloc(), &graphs, drops);
+        assert_eq!(rt; found, Some((*record, *word)), "{drops:?}");
+    }
     Ok(())
 }

@@ -31,7 +31,7 @@ use Rattle.account_file.specs.declared.record.Record.TheVariants as entry
 use Rattle.account_file.specs.Spelling.{IsWritable}
 use Rattle.account_check.specs.declared.verdict.Verdict.TheVariants as verdict
 use Rattle.account_check.specs.Accounts.{Account, empty_account}
-use Rattle.account_check.specs.Drops.{AreNamesKept, IsReferenceKept, IsUnmarked, nothing_dropped}
+use Rattle.account_check.specs.Drops.{AreNamesKept, IsReferenceUnmarked, IsUnmarked, nothing_dropped}
 use Rattle.account_check.specs.Facts.{AreInputs, IsLesserFirst}
 use Rattle.account_check.specs.Logs.{nothing, refutation_of, with_fact}
 use Rattle.account_check.specs.Verdicts.{IsAccepted}
@@ -50,10 +50,10 @@ numbers_kept : (numbers : List ℕ) → All (IsUnmarked []) numbers
 numbers_kept [] = All-nil (IsUnmarked [])
 numbers_kept (number ∷ numbers) = All-cons (IsUnmarked []) number numbers refl (numbers_kept numbers)
 
-references_kept : (refs : List (Option ℕ)) → All (IsReferenceKept nothing_dropped) refs
-references_kept [] = All-nil (IsReferenceKept nothing_dropped)
-references_kept (None ∷ refs) = All-cons (IsReferenceKept nothing_dropped) None refs tt (references_kept refs)
-references_kept (Some ban ∷ refs) = All-cons (IsReferenceKept nothing_dropped) (Some ban) refs refl (references_kept refs)
+references_kept : (refs : List (Option ℕ)) → All (IsReferenceUnmarked []) refs
+references_kept [] = All-nil (IsReferenceUnmarked [])
+references_kept (None ∷ refs) = All-cons (IsReferenceUnmarked []) None refs tt (references_kept refs)
+references_kept (Some ban ∷ refs) = All-cons (IsReferenceUnmarked []) (Some ban) refs refl (references_kept refs)
 
 names_kept : (step : Step) → AreNamesKept nothing_dropped step
 names_kept (Vector output values) = tt
