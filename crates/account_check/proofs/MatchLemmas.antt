@@ -1,4 +1,5 @@
--- An account that is accepted as a match is one: its records lead from the conclusion through all logs of the match to the end.
+-- An account that is accepted as a match is one: its records lead from the conclusion through all logs of the match to
+-- the end.
 use Rattle.std.proofs.Common.{◌≡◌, ℕ, zero, suc, ◌+◌, ◌-◌, ◌/◌, ◌%◌, ◌==◌, ◌<◌, Bool, true, false, List, [], ◌∷◌, ◌++◌, Option, None, Some, refl, sym, ap, subst, ◌∙◌, arith, eqb-true, if◌then◌else◌}
 use Rattle.std.proofs.lemmas.List.Sums.{fold_push}
 use Rattle.circuits.specs.declared.port.Pair.{Pair}
@@ -36,7 +37,8 @@ use Rattle.account_check.proofs.RightLemmas.{last_empty, no_reject}
 use Rattle.account_check.proofs.TestLemmas.{through}
 use Rattle.std.proofs.lemmas.Option.{same_Some, none-some}
 
--- The logs of a match, of which this many are left: those that are closed refute, and the lines of the open one are derived.
+-- The logs of a match, of which this many are left: those that are closed refute, and the lines of the open one are
+-- derived.
 record AreLogsSoFar (graphs : Graphs) (proof : Proof) (left : ℕ) : Type 0 where
   ports : HavePorts graphs.first graphs.second proof.matching.inputs proof.matching.outputs
   counted : proof.closed + left ≡ log_count proof.matching

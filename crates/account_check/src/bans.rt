@@ -12,8 +12,8 @@ use ban_check::{
 use std::alloc::{AllocError, Global};
 
 /// What is wrong with a ban: the circuits differ in their numbers of ports; a port of its pairs doesn't exist; its
-/// pairs are out of order; what its step names isn't there, or was dropped; the step's rule is broken; the step's vector shows no
-/// difference.
+/// pairs are out of order; what its step names isn't there, or was dropped; the step's rule is broken; the step's
+/// vector shows no difference.
 pub(crate) fn test_ban(
     alloc: Global,
     evaluator: &mut Evaluator<'_>,

@@ -1,5 +1,5 @@
 -- What bytes of version 2 say after records is one thing.
-use Rattle.std.proofs.Common.{◌≡◌, ◌≢◌, ℕ, zero, suc, ◌+◌, ◌<◌, ◌≤◌, Bool, true, false, List, [], ◌∷◌, ◌++◌, length, get_or, take, drop, Option, None, Some, IsSome, Result, Ok, Err, refl, sym, ap, subst, ◌∙◌, arith, inl, inr, append_assoc, length-append, length-drop, take_all, take-append-drop}
+use Rattle.std.proofs.Common.{◌≡◌, ◌≢◌, ℕ, zero, suc, ◌+◌, ◌<◌, ◌≤◌, Bool, true, false, List, [], ◌∷◌, ◌++◌, length, get_or, take, drop, Option, None, Some, Result, Ok, Err, refl, sym, ap, subst, ◌∙◌, arith, inl, inr, append_assoc, length-append, length-drop, take_all, take-append-drop}
 use Rattle.std.proofs.Math.Seq.{get_or-append_seam}
 use Rattle.byte_form.specs.Codes.{BeginsNone, BeginsWith}
 use Rattle.account_bytes.specs.declared.entry.Entry.{Entry}
@@ -150,8 +150,8 @@ no_more_entries bytes records more account are less =
         sym (take-append-drop (length records) more) ∙ (ap (λ l. l ++ drop (length records) more) (sym same) ∙ (ap (λ l. records ++ l) e ∙ sym (append_assoc records (entry ∷ []) rest))) in
         none_after_end records entry account.ended (front_in_order (records ++ entry ∷ []) rest (subst AreInOrder all are.records_are.order))
 
--- Each text says something, as far as that can be said without deciding what bytes begin with: it isn't so that it is no account
--- and has no first fault.
+-- Each text says something, as far as that can be said without deciding what bytes begin with: it isn't so that it is
+-- no account and has no first fault.
 no_push : (before : List Record) (entry : Record) → before ++ entry ∷ [] ≡ [] → ⊥
 no_push [] entry e = cc
 no_push (first ∷ before) entry e = cc

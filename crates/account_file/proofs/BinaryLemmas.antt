@@ -1,5 +1,5 @@
 -- Records in bytes: no bytes begin with two of them, and what is so of the first records of bytes.
-use Rattle.std.proofs.Common.{◌≡◌, ◌≢◌, ◌⊎◌, ℕ, zero, suc, ◌+◌, ◌<◌, ◌≤◌, Bool, true, false, List, [], ◌∷◌, ◌++◌, length, get_or, take, drop, All, Option, None, Some, IsSome, refl, sym, ap, subst, ◌∙◌, arith, inl, inr, append_assoc, append-nil, length-append, take-append-drop}
+use Rattle.std.proofs.Common.{◌≡◌, ◌≢◌, ℕ, zero, suc, ◌+◌, ◌<◌, ◌≤◌, true, false, List, [], ◌∷◌, ◌++◌, length, get_or, take, drop, All, Option, None, Some, IsSome, refl, sym, ap, subst, ◌∙◌, arith, inl, inr, append_assoc, append-nil, take-append-drop}
 use Rattle.std.specs.List.{flat_map}
 use Rattle.std.proofs.Math.Seq.{take-append_seam}
 use Rattle.std.proofs.lemmas.Bool.{cases_Bool, cases_lt}
@@ -14,7 +14,7 @@ use Rattle.std.proofs.lemmas.List.Elements.{All-head, All-push, All-tail, All-ta
 use Rattle.std.proofs.lemmas.Grind.{flat_map-append}
 use Rattle.account_core.specs.declared.conclusion.Conclusion.TheVariants.{NonePorts, NoneBan, Match}
 use Rattle.account_core.specs.declared.fact.FactHead.TheVariants.{Fails, Holds}
-use Rattle.byte_form.specs.Codes.{BeginsNone, BeginsWith, HasItems, IsPrefixCode}
+use Rattle.byte_form.specs.Codes.{BeginsNone, BeginsWith, IsPrefixCode}
 use Rattle.byte_form.proofs.CodeLemmas.{same_left}
 use Rattle.account_bytes.specs.declared.entry.Entry.{Entry}
 use Rattle.account_bytes.specs.declared.entry.Entry.TheVariants as entry_of
@@ -24,14 +24,14 @@ use Rattle.account_file.specs.declared.record.Record.{Record}
 use Rattle.account_file.specs.declared.record.Record.TheVariants as record_of
 use Rattle.account_file.specs.declared.place.Place.{Place}
 use Rattle.account_file.specs.declared.place.Place.TheVariants.{Start, Headed, FactLog, Logs, Ended}
-use Rattle.account_file.specs.Order.{next_place, place_after, AreInOrder, HaveEnded, MayStand}
+use Rattle.account_file.specs.Order.{next_place, place_after, HaveEnded, MayStand}
 use Rattle.account_file.specs.Lines.{whole_lines}
 use Rattle.account_file.specs.Binary.{FitsBy, HasBytes, bytes_by, entry_in, is_binary, record_bytes, record_with, signature}
 use Rattle.account_file.specs.BinaryAccounts.{AreEntries}
 use Rattle.account_file.specs.TextAccounts.{AreUnderWay}
-use Rattle.account_file.proofs.OrderLemmas.{at_start, front_in_order, place_after_last, place_there, take_in_order}
+use Rattle.account_file.proofs.OrderLemmas.{at_start, place_after_last, place_there, take_in_order}
 
--- a record is told by its entry
+-- a record is known by its entry
 tag_small : (entry : Entry) → entry_tag entry ≤ 10
 tag_small (entry_of.Fact (Fails claim bits)) = omega arith
 tag_small (entry_of.Fact (Holds claim)) = omega arith
@@ -44,19 +44,19 @@ tag_small entry_of.End = omega arith
 tag_small (entry_of.DropFact fact) = omega arith
 tag_small (entry_of.DropBan ban) = omega arith
 
-abbrev told_by : Option Entry → Record
-told_by None = record_of.Header
-told_by (Some entry) = record_with entry
+abbrev record_by : Option Entry → Record
+record_by None = record_of.Header
+record_by (Some entry) = record_with entry
 
-told : (entry : Record) → told_by (entry_in entry) ≡ entry
-told record_of.Header = refl
-told (record_of.Fact head) = refl
-told (record_of.Line line) = refl
-told (record_of.Ban ban) = refl
-told (record_of.Conclusion conclusion) = refl
-told (record_of.DropFact fact) = refl
-told (record_of.DropBan ban) = refl
-told record_of.End = refl
+known : (entry : Record) → record_by (entry_in entry) ≡ entry
+known record_of.Header = refl
+known (record_of.Fact head) = refl
+known (record_of.Line line) = refl
+known (record_of.Ban ban) = refl
+known (record_of.Conclusion conclusion) = refl
+known (record_of.DropFact fact) = refl
+known (record_of.DropBan ban) = refl
+known record_of.End = refl
 
 pub entry_back : (entry : Entry) → entry_in (record_with entry) ≡ Some entry
 entry_back (entry_of.Fact head) = refl
@@ -80,7 +80,7 @@ one_by (Some x) (Some y) after other fits fit same = ap (λ e. Some e) (entry_co
 
 pub record_code : IsPrefixCode record_bytes HasBytes
 record_code = record {
-  one = λ x y after other fits fit same. sym (told x) ∙ (ap told_by (one_by (entry_in x) (entry_in y) after other fits fit same) ∙ told y);
+  one = λ x y after other fits fit same. sym (known x) ∙ (ap record_by (one_by (entry_in x) (entry_in y) after other fits fit same) ∙ known y);
 }
 
 -- of two lists that begin the same bytes the shorter one is the first part of the other
@@ -162,7 +162,7 @@ by_entry : (left after : List ℕ) (entry : Record) (of : Option Entry) → entr
 by_entry left after entry None e fits left_is other = absurd (other refl)
 by_entry left after entry (Some of) e fits left_is other = record {
   of = of;
-  is = sym (told entry) ∙ ap told_by e;
+  is = sym (known entry) ∙ ap record_by e;
   begins = record { fits = subst FitsBy e fits; text_is = left_is ∙ ap (λ o. bytes_by o ++ after) e };
 }
 
@@ -173,7 +173,7 @@ next_begins bytes before entry left after under are more =
     no_head : entry_in entry ≡ None → ⊥
     no_head e =
         let at' = place_there before are.order in
-        let head : entry ≡ record_of.Header = sym (told entry) ∙ ap told_by e in
+        let head : entry ≡ record_of.Header = sym (known entry) ∙ ap record_by e in
         let none : place_after (before ++ entry ∷ []) ≡ None =
         place_after_last before entry at'.0 at'.1 ∙ (ap (λ r. next_place at'.0 r) head ∙ no_header at'.0 (λ start. under.begun (at_start before (at'.1 ∙ ap (λ p. Some p) start)))) in
         false≢true (subst IsSome none more.order)

@@ -1,16 +1,10 @@
 -- How far an account of either version was read after a step, and what its answer says of all bytes.
-use Rattle.std.proofs.Common.{◌≡◌, ◌≢◌, ℕ, zero, suc, ◌+◌, ◌<◌, ◌≤◌, Bool, true, false, cond, codes, List, [], ◌∷◌, ◌++◌, length, fold, take, drop, All, Option, Some, None, IsSome, IfSome, is_some, Result, Ok, Err, refl, sym, ap, subst, ◌∙◌, arith, inl, inr, eqb, nat_eq, append_assoc, append-nil, length-append}
+use Rattle.std.proofs.Common.{◌≡◌, ◌≢◌, ℕ, ◌+◌, ◌<◌, Bool, true, false, cond, List, [], ◌∷◌, ◌++◌, length, fold, drop, All, Option, Some, None, IsSome, IfSome, is_some, Result, Ok, Err, refl, sym, ap, subst, ◌∙◌, arith, append_assoc, append-nil, length-append}
 use Rattle.std.specs.List.{flat_map}
 use Rattle.std.specs.Result.{IsErrAnd}
-use Rattle.std.proofs.Math.Seq.{take-append_seam}
-use Rattle.std.proofs.lemmas.Bool.{cases_Bool, cases_lt, false≢true}
-use Rattle.std.proofs.lemmas.List.{take-append-le}
 use Rattle.std.proofs.lemmas.List.Elements.{All-nil, All-push}
 use Rattle.std.proofs.lemmas.Option.{IfSome_then}
 use Rattle.std.proofs.lemmas.Grind.{flat_map-append}
-use Rattle.std.proofs.lemmas.Bool.Decides.{Decides-eqb}
-use Rattle.std.proofs.lemmas.Slice.Eq.{starts_is}
-use Rattle.text_core.specs.Bytes.{is_line_feed}
 use Rattle.account_file.specs.declared.record.Record.{Record}
 use Rattle.account_file.specs.declared.record.Record.TheVariants as record_of
 use Rattle.account_file.specs.declared.fault.RecordFault.{RecordFault}
@@ -21,14 +15,13 @@ use Rattle.account_file.specs.declared.place.Place.TheVariants.{Start, Headed, F
 use Rattle.account_file.specs.declared.next_record.NextRecord.{NextRecord}
 use Rattle.account_file.specs.declared.next_record.NextRecord.TheVariants.{Wait, Read, Refuse}
 use Rattle.account_file.specs.Lines.{whole_lines}
-use Rattle.account_file.specs.Order.{next_place, place_after, place_after_one, AreInOrder}
+use Rattle.account_file.specs.Order.{next_place, place_after, place_after_one}
 use Rattle.account_file.specs.TextAccounts.{SaysLine}
-use Rattle.account_file.specs.Binary.{is_binary, signature}
-use Rattle.account_file.specs.BinaryAccounts.{AreEntries, SaysEntry}
+use Rattle.account_file.specs.Binary.{is_binary}
 use Rattle.account_file.specs.Accounts.{SaysBy, SaysNext, may_be_binary, version_by, version_of}
 use Rattle.account_file.specs.Reading.{Reading, HasRead, IsSpelled, given_by, spelled}
 use Rattle.account_file.specs.Spelling.{record_line}
-use Rattle.account_file.specs.NextRecords.{FindsNext, IsNext, StepsFrom, StepsOn, answer_by, form_at, form_of, next_of, reading_after, told_version}
+use Rattle.account_file.specs.NextRecords.{FindsNext, IsNext, StepsFrom, StepsOn, answer_by, form_at, form_of, reading_after, known_version}
 use Rattle.account_file.specs.Texts.{Says}
 use Rattle.account_file.proofs.BinaryReadingLemmas.{binary_fault_stays, entry_says}
 use Rattle.account_file.proofs.BinaryLemmas.{binary_longer, text_longer}
@@ -105,20 +98,20 @@ module _ (reading : Reading) (bytes : List ℕ) (records : List Record) (has : H
   spelled_so : IsSpelledSo (form_of reading) bytes records reading.left
   spelled_so = spelled_at reading.place has.place
 
-  -- the version that a reader tells
+  -- the version that a reader answers
   pub version_at_first : place_after records ≡ Some Start → version_of reading.left reading.finished ≡ version_of bytes reading.finished
   version_at_first at' =
       let none = at_start records at' in
       ap (λ l. version_of l reading.finished) (sym (has.text ∙ ap (λ l. flat_map (spelled reading.binary) l ++ reading.left) none))
 
-  pub version_later : (place : Place) → place_after records ≡ Some place → place ≢ Start → told_version reading.binary ≡ version_of bytes reading.finished
+  pub version_later : (place : Place) → place_after records ≡ Some place → place ≢ Start → known_version reading.binary ≡ version_of bytes reading.finished
   version_later place at' open' = by reading.binary has.text
     where
       either : (f : Bool) → version_by false (cond f false false) ≡ Some 1
       either true = refl
       either false = refl
 
-      by : (b : Bool) → bytes ≡ flat_map (spelled b) records ++ reading.left → told_version b ≡ version_of bytes reading.finished
+      by : (b : Bool) → bytes ≡ flat_map (spelled b) records ++ reading.left → known_version b ≡ version_of bytes reading.finished
       by true text =
           sym (ap (λ b. version_by b (cond reading.finished false (may_be_binary bytes))) (form_is true bytes reading.left records place text at' open'))
       by false text =

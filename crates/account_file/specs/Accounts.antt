@@ -1,5 +1,5 @@
--- An account as its whole bytes, of either version (this project's format): its records, and its first fault of form. The
--- version is told by the first eight bytes.
+-- An account as its whole bytes, of either version (this project's format): its records, and its first fault of form.
+-- The first eight bytes say which.
 use Rattle.std.specs.Prelude.{ℕ, Bool, true, false, List, [], ◌∷◌, ◌++◌, length, take, nat_eq, Option, None, Some, Result, if◌then◌else◌}
 use Rattle.std.specs.List.{starts_with}
 use Rattle.account_file.specs.declared.record.Record.{Record}
@@ -63,7 +63,7 @@ SaysNext bytes finished before says = SaysBy (is_binary bytes) bytes finished be
 abbrev pub may_be_binary : List ℕ → Bool
 may_be_binary bytes = starts_with nat_eq signature bytes
 
--- The version of an account of which these bytes came, and perhaps more will: it isn't told by a part of the signature.
+-- The version of an account of which these bytes came, and perhaps more will: a part of the signature doesn't say it.
 abbrev pub version_by : Bool → Bool → Option ℕ
 version_by true undecided = Some 2
 version_by false true = None

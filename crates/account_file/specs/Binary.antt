@@ -1,5 +1,5 @@
--- The records of an account of version 2 in bytes (this project's binary format): eight bytes in place of the header's line,
--- and then entries.
+-- The records of an account of version 2 in bytes (this project's binary format): eight bytes in place of the header's
+-- line, and then entries.
 use Rattle.std.specs.Prelude.{ℕ, Bool, List, codes, nat_eq, Option, None, Some}
 use Rattle.std.specs.List.{starts_with}
 use Rattle.account_bytes.specs.declared.entry.Entry.{Entry}

@@ -1,5 +1,5 @@
--- An account of version 2 as its whole bytes: its records, one after the other, and its first fault of form (this project's
--- binary format).
+-- An account of version 2 as its whole bytes: its records, one after the other, and its first fault of form (this
+-- project's binary format).
 use Rattle.std.specs.Prelude.{◌≡◌, ◌≢◌, ◌⊎◌, ℕ, Bool, true, false, List, [], ◌∷◌, ◌++◌, Option, None, Some, Result, Ok, Err}
 use Rattle.byte_form.specs.Codes.{BeginsNone, BeginsWith, HasItems}
 use Rattle.account_bytes.specs.declared.entry.Entry.{Entry}
@@ -23,8 +23,8 @@ pub record IsMisplaced (before : List Record) (left : List ℕ) : Type 0 where
   pub begins : BeginsWith entry_bytes EntryFits left entry after
   pub out_of_order : MayStand before (record_with entry) → ⊥
 
--- What is wrong after records, by the bytes that are left: they end before the next record does; they begin with a whole frame
--- that is no entry's, or with an entry that may not stand there; or the end stands before them.
+-- What is wrong after records, by the bytes that are left: they end before the next record does; they begin with a
+-- whole frame that is no entry's, or with an entry that may not stand there; or the end stands before them.
 abbrev pub BinaryFault : List Record → List ℕ → RecordFault → Type 0
 BinaryFault before left fault.Header = ⊥
 BinaryFault before left fault.Word = AreUnderWay before × IsMalformed left
@@ -59,8 +59,8 @@ pub record AreFirstEntries (bytes : List ℕ) (records : List Record) : Type 0 w
   pub left : List ℕ
   pub records_are : AreEntries bytes records left
 
--- What bytes say after these records: the next record, nothing, or the first fault. Where more bytes may come, a record that
--- isn't whole says nothing yet.
+-- What bytes say after these records: the next record, nothing, or the first fault. Where more bytes may come, a record
+-- that isn't whole says nothing yet.
 abbrev pub SaysEntry : List ℕ → Bool → List Record → Result (Option Record) RecordFault → Type 0
 SaysEntry bytes finished before (Ok (Some entry)) = AreFirstEntries bytes (before ++ entry ∷ [])
 SaysEntry bytes true before (Ok None) = IsBinaryAccount bytes before

@@ -1,6 +1,7 @@
 -- What the reader makes of the bytes that are left, for contracts of private functions; what it comes to is said in
 -- `Accounts`.
-use Rattle.std.specs.Prelude.{◌≡◌, ◌≢◌, ℕ, ◌+◌, ◌≤◌, Bool, true, false, List, [], ◌∷◌, ◌++◌, codes, length, drop, Option, None, Some, Result, Ok, Err, nat_lt, if◌then◌else◌}
+use Rattle.std.specs.Prelude.{◌≡◌, ◌≢◌, ℕ, ◌+◌, ◌≤◌, Bool, true, false, List, [], ◌∷◌, ◌++◌, codes}
+use Rattle.std.specs.Prelude.{length, drop, Option, None, Some, Result, Ok, Err, nat_lt, if◌then◌else◌}
 use Rattle.std.specs.List.{before_first, position_or_len}
 use Rattle.std.specs.Str.{bytes_eq}
 use Rattle.text_core.specs.Bytes.{is_line_feed}
@@ -140,9 +141,9 @@ abbrev pub looked_after : Bool → ℕ → ℕ
 looked_after binary count = if binary then 0 else count
 
 -- the version once a record was read
-abbrev pub told_version : Bool → Option ℕ
-told_version true = Some 2
-told_version false = Some 1
+abbrev pub known_version : Bool → Option ℕ
+known_version true = Some 2
+known_version false = Some 1
 
 abbrev pub form_of : Reading → Bool
 form_of reading = form_at reading.place reading.left reading.binary

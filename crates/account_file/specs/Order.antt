@@ -1,5 +1,5 @@
--- What may stand after what in an account (this project's format): the header; facts and bans in any order, after a fact
--- that holds the lines of its log, and drops between them; a conclusion; the logs that prove it; the end.
+-- What may stand after what in an account (this project's format): the header; facts and bans in any order, after a
+-- fact that holds the lines of its log, and drops between them; a conclusion; the logs that prove it; the end.
 use Rattle.std.specs.Prelude.{◌≡◌, ℕ, ◌-◌, ◌*◌, ◌==◌, Bool, true, false, List, [], ◌∷◌, ◌++◌, count_by, fold, Option, None, Some, IsSome, option_and_then}
 use Rattle.std.specs.Prelude.{if◌then◌else◌}
 use Rattle.circuits.specs.declared.port.Pair.{Pair}

@@ -1,5 +1,6 @@
 -- How far an account was read.
-use Rattle.std.specs.Prelude.{◌≡◌, ℕ, ◌+◌, ◌-◌, ◌*◌, ◌≤◌, Bool, true, false, List, [], ◌∷◌, ◌++◌, length, drop, All, Option, None, Some, IfSome, is_some, Result, Ok, Err}
+use Rattle.std.specs.Prelude.{◌≡◌, ℕ, ◌+◌, ◌-◌, ◌*◌, ◌≤◌, Bool, true, false, List, [], ◌∷◌, ◌++◌, length}
+use Rattle.std.specs.Prelude.{drop, All, Option, None, Some, IfSome, is_some, Result, Ok, Err}
 use Rattle.std.specs.Prelude.{if◌then◌else◌}
 use Rattle.std.specs.List.{flat_map, position_or_len}
 use Rattle.text_core.specs.Bytes.{is_line_feed}
@@ -11,9 +12,9 @@ use Rattle.account_file.specs.Order.{place_after}
 use Rattle.account_file.specs.Spelling.{IsWritable, record_line}
 use Rattle.account_file.specs.Binary.{HasBytes, record_bytes}
 
--- How far an account was read: the bytes that are left; whether no more come; the number of the record that was given or
--- refused last; where the account stands; whether it is of version 2, which is told once a record was given; the fault that was
--- given; and how many bytes came in all.
+-- How far an account was read: the bytes that are left; whether no more come; the number of the record that was given
+-- or refused last; where the account stands; whether it is of version 2, which is known once a record was given; the
+-- fault that was given; and how many bytes came in all.
 pub record Reading : Type 0 where
   pub left : List ℕ
   pub finished : Bool

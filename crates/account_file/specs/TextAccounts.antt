@@ -1,5 +1,5 @@
--- An account of version 1 as its whole bytes, which are text: the records of its lines, and its first fault of form (this
--- project's format).
+-- An account of version 1 as its whole bytes, which are text: the records of its lines, and its first fault of form
+-- (this project's format).
 use Rattle.std.specs.Prelude.{◌≡◌, ◌≢◌, ℕ, ◌+◌, ◌<◌, ◌≤◌, ◌^◌, Bool, true, false, List, [], ◌∷◌, ◌++◌, codes, length, take, slice_index_or, Option, None, Some}
 use Rattle.std.specs.Prelude.{Result, Ok, Err}
 use Rattle.std.specs.Fmt.{decimal}

@@ -16,7 +16,7 @@ use byte_form::ByteReader;
 use std::alloc::{AllocError, Global};
 
 /// Writes a record of an account of version 2 at the end of `out`: of the header `NPNPACC2`, and of every other one the
-/// entry that `account_bytes` tells. Running out of memory leaves `out` as it was.
+/// entry of `account_bytes`. Running out of memory leaves `out` as it was.
 pub fn put_record2(entry: &Record, out: &mut Vec<u8>) -> Result<(), AllocError>
     ensures bytes { OnOk result (out.new.items ≡ out.old.items ++ record_bytes entry.now) }
     ensures fits { OnOk result (HasBytes entry.now) }

@@ -4,7 +4,7 @@ ghost use Rattle.account_file.specs.declared.record.Record.{Record as Entry};
 ghost use Rattle.account_file.specs.declared.fault.RecordFault.{RecordFault as AnyFault};
 ghost use Rattle.account_file.specs.Accounts.{SaysNext, version_of};
 ghost use Rattle.account_file.specs.Reading.{HasRead, given_by};
-ghost use Rattle.account_file.specs.NextRecords.{StepsFrom, form_at, looked_after, told_version};
+ghost use Rattle.account_file.specs.NextRecords.{StepsFrom, form_at, looked_after, known_version};
 ghost use Rattle.account_file.specs.Texts.{Says};
 
 use crate::binary::{is_binary, may_be_binary};
@@ -15,8 +15,8 @@ use crate::record::Record;
 use std::alloc::{AllocError, Global};
 use std::marker::Model;
 
-/// Reads an account record by record, as its bytes come, in whatever pieces: one of version 2 where the first eight bytes
-/// are `NPNPACC2`, and else one of version 1.
+/// Reads an account record by record, as its bytes come, in whatever pieces: one of version 2 where the first eight
+/// bytes are `NPNPACC2`, and else one of version 1.
 #[derive(Debug, Drop)]
 pub struct Reader {
     bytes: Vec<u8>,
@@ -113,13 +113,13 @@ impl Reader {
     {
         match self.place {
             Place::Start => first_version(&self.bytes[self.start..], self.finished),
-            _ => told_version(self.binary),
+            _ => known_version(self.binary),
         }
     }
 
-    /// What the account says after the records that were given: the next record, or the first fault. It is None where no
-    /// whole record is left and more may come, and after the end where nothing is left. After a fault it is that fault
-    /// again; running out of memory changes nothing.
+    /// What the account says after the records that were given: the next record, or the first fault. It is None where
+    /// no whole record is left and more may come, and after the end where nothing is left. After a fault it is that
+    /// fault again; running out of memory changes nothing.
     pub fn next(&mut self, alloc: Global) -> Result<Option<Record>, FileStop>
         ensures answer { (bytes : List ℕ) (records : List Entry) → HasRead self.old bytes records
             → Says result (SaysNext bytes self.old.finished records) }
@@ -214,8 +214,8 @@ fn first_version(bytes: &[u8], finished: bool) -> Option<u8>
 }
 
 // The version of an account of which a record was read.
-fn told_version(binary: bool) -> Option<u8>
-    ensures { result ≡ told_version binary }
+fn known_version(binary: bool) -> Option<u8>
+    ensures { result ≡ known_version binary }
 {
     if binary { Some(2) } else { Some(1) }
 }

@@ -84,8 +84,8 @@ fn binary_accounts_are_written_as_they_are_read(rt: HostRuntime) -> Result<(), F
     Ok(())
 }
 
-/// Accounts with a fault, and the record that has it: a first part of the signature; the signature alone; a record that is
-/// cut; a tag that no record has; a body where none should be; the end before the conclusion; a byte after the end.
+/// Accounts with a fault, and the record that has it: a first part of the signature; the signature alone; a record that
+/// is cut; a tag that no record has; a body where none should be; the end before the conclusion; a byte after the end.
 static BAD_ACCOUNTS: [(&[u8], RecordFault, u64); 7] = [
     (&[78, 80, 78, 80, 65, 67, 67], RecordFault::Truncated, 1),
     (&[78, 80, 78, 80, 65, 67, 67, 50], RecordFault::Truncated, 2),

@@ -82,7 +82,8 @@ pub record Concludes (tells : Bool) (name text : List ℕ) (ending : Ending) (ol
   pub last : NoCallFollows old new
   pub failed : result ≡ Err WriteFault → Rose old.faults new.faults
 
--- what stands under the account's name is as before, or the first bytes of an account of two graphs that is accepted, a text
+-- what stands under the account's name is as before, or the first bytes of an account of two graphs that is accepted, a
+-- text
 abbrev pub IsCutOf : Graphs → Option (List ℕ) → Option (List ℕ) → Type 0
 IsCutOf graphs before after =
     (after ≡ before)

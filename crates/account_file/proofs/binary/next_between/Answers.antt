@@ -1,6 +1,5 @@
 -- The entry that comes next.
-use Rattle.std.proofs.Common.{◌≡◌, Option, refl, sym, ap, subst, ◌∙◌}
-use Rattle.account_file.specs.declared.place.Place.{Place}
+use Rattle.std.proofs.Common.{refl, sym, subst, ◌∙◌}
 use Rattle.account_file.specs.declared.record.Record.{Record}
 use Rattle.account_file.specs.Binary.{record_with}
 use Rattle.account_file.specs.Order.{next_place}

@@ -1,7 +1,6 @@
 -- The header, and what stands after the end.
-use Rattle.std.proofs.Common.{sym, ap, subst, ◌∙◌}
+use Rattle.std.proofs.Common.{sym, subst}
 use Rattle.account_file.specs.declared.place.Place.{Place}
-use Rattle.account_file.specs.declared.place.Place.TheVariants.{Ended}
 use Rattle.account_file.specs.NextRecords.{IsBinaryNext, next_at_end}
 use Rattle.account_file.specs.declared.next_record.NextRecord.TheVariants.{Read}
 use Rattle.account_file.specs.declared.record.Record.TheVariants.{Header}

@@ -1,4 +1,4 @@
--- The version, by the first bytes or as the first record told it.
+-- The version, by the first bytes, or as it was when the first record was read.
 use Rattle.std.proofs.Common.{◌≡◌, ◌-◌, Some, length, take, drop, sym, ap, subst, ◌∙◌, length-drop}
 use Rattle.std.proofs.Math.Seq.{take-length}
 use Rattle.account_file.specs.Accounts.{version_of}
@@ -22,4 +22,4 @@ returns-in_default c = λ bytes records has.
     let inside = c.self.inside in
     let old : Reading = record { left = drop inside.start inside.bytes.items; finished = inside.finished; line = inside.line; place = inside.place; binary = inside.binary; fault = inside.fault; total = inside.total } in
     let there = subst (λ (r : Reading). HasRead r bytes records) (sym c.self.view_is) has in
-    c.told_version.ensures ∙ (version_later old bytes records there inside.place there.place c.in_default.not-Start ∙ ap (λ (r : Reading). version_of bytes r.finished) c.self.view_is)
+    c.known_version.ensures ∙ (version_later old bytes records there inside.place there.place c.in_default.not-Start ∙ ap (λ (r : Reading). version_of bytes r.finished) c.self.view_is)
