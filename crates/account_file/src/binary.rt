@@ -35,7 +35,7 @@ pub fn put_record2(entry: &Record, out: &mut Vec<u8>) -> Result<(), AllocError>
 }
 
 /// Whether bytes begin as an account of version 2 does.
-pub(crate) fn is_binary(bytes: &[u8]) -> bool
+pub fn is_binary(bytes: &[u8]) -> bool
     ensures { result ≡ is_binary bytes.now }
 {
     bytes.starts_with(b"NPNPACC2")

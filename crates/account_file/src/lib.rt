@@ -14,7 +14,7 @@ mod spelling;
 mod values;
 mod words;
 
-pub use binary::put_record2;
+pub use binary::{is_binary, put_record2};
 pub use fault::{FileStop, RecordFault};
 pub use laws::{
     account_or_fault, one_answer, one_fault, one_list_of_records, one_record, one_record_in_bytes,
