@@ -9,4 +9,5 @@ pub mod AccountLemmas
 pub mod RightLemmas
 pub mod RefusalLemmas
 pub mod AfterLemmas
+pub mod TakingLemmas
 pub mod MatchLemmas
