@@ -1,9 +1,9 @@
 -- Each step of the check answers the verdict of the bytes, or goes on.
-use Rattle.std.proofs.Common.{◌≡◌, ℕ, ◌+◌, ◌≤◌, Bool, true, false, cond, List, [], ◌∷◌, ◌++◌, length, take, Option, None, Some, IsSome, Result, Ok, Err, refl, sym, ap, subst, ◌∙◌, arith, length-append, length-take}
+use Rattle.std.proofs.Common.{◌≡◌, ℕ, ◌+◌, Bool, true, false, cond, List, [], ◌∷◌, ◌++◌, length, Option, None, Some, IsSome, Result, Ok, Err, refl, sym, ap, subst, ◌∙◌, arith, length-append}
 use Rattle.std.specs.Prelude.{is_some}
 use Rattle.std.specs.Result.{IsErrAnd}
 use Rattle.std.proofs.lemmas.Result.{err_from_is_err_and}
-use Rattle.std.proofs.lemmas.List.{append-nil, take-append-le}
+use Rattle.std.proofs.lemmas.List.{append-nil}
 use Rattle.circuits.specs.Matches.{IsMatchOfFunctions}
 use Rattle.net_core.specs.Sides.{Graphs}
 use Rattle.net_core.specs.declared.matching.Matching.{Matching}
@@ -12,15 +12,14 @@ use Rattle.account_file.specs.declared.fault.RecordFault.{RecordFault}
 use Rattle.account_file.specs.declared.fault.FileStop.{FileStop}
 use Rattle.account_file.specs.declared.fault.FileStop.TheVariants as file
 use Rattle.account_file.specs.declared.place.Place.TheVariants as place
-use Rattle.account_file.specs.Lines.{whole_lines}
 use Rattle.account_file.specs.Order.{next_place}
-use Rattle.account_file.specs.Accounts.{AreRecords, HasFormFault, IsNextRecord, SaysNext}
+use Rattle.account_file.specs.Accounts.{HasFormFault, IsNextRecord, SaysNext}
 use Rattle.account_file.specs.Reading.{Reading, HasRead}
 use Rattle.account_file.specs.Texts.{Says}
-use Rattle.account_file.proofs.LawLemmas.{as_many}
-use Rattle.account_file.proofs.LineLemmas.{lines_stay}
 use Rattle.account_file.proofs.OrderLemmas.{place_after_last}
-use Rattle.account_file.proofs.ReadingLemmas.{fault_stays}
+use Rattle.account_file.proofs.StepLemmas.{fault_stays}
+use Rattle.account_file.proofs.VersionLemmas.{account_ended, account_said, all_said, fault_said, next_may_stand, none_first}
+use Rattle.account_file.proofs.VersionLemmas as version
 use Rattle.account_check.specs.declared.reject.Reject.{Reject}
 use Rattle.account_check.specs.declared.reject.RecordStop.{RecordStop}
 use Rattle.account_check.specs.declared.reject.RecordStop.TheVariants as stop
@@ -44,7 +43,7 @@ pub may_stand : (finished : Bool) (graphs : Graphs) (bytes : List ℕ) (reading 
 may_stand finished graphs bytes reading account entry so_far next =
     let place = reading.place in
     let there : account.place ≡ place = ap (λ (a : Account). a.place) so_far.account_is ∙ account_place graphs so_far.records place so_far.read.place in
-    subst IsSome (place_after_last so_far.records entry place so_far.read.place ∙ ap (λ p. next_place p entry) (sym there)) next.order
+    subst IsSome (place_after_last so_far.records entry place so_far.read.place ∙ ap (λ p. next_place p entry) (sym there)) (next_may_stand bytes so_far.records entry next)
 
 -- a record more was taken
 pub goes_on : (finished : Bool) (graphs : Graphs) (bytes : List ℕ) (old new : Reading) (account then : Account) (entry : Record) → (so_far : IsChecking finished graphs bytes old account) → HasRead new bytes (so_far.records ++ entry ∷ []) → new.finished ≡ old.finished → new.fault ≡ None → HasFault account entry None → then ≡ after account entry → IsChecking finished graphs bytes new then
@@ -61,7 +60,7 @@ goes_on finished graphs bytes old new account then entry so_far read stays no_fa
 pub through : (finished : Bool) (graphs : Graphs) (bytes : List ℕ) (old new : Reading) (account : Account) → (so_far : IsChecking finished graphs bytes old account) → SaysNext bytes old.finished so_far.records (Ok None) → HasRead new bytes (so_far.records ++ []) → new.finished ≡ old.finished → new.fault ≡ None → IsThrough finished graphs bytes new account
 through true graphs bytes old new account so_far says read stays no_fault = record {
   records = so_far.records;
-  are = subst (λ b. SaysNext bytes b so_far.records (Ok None)) so_far.finished_is says;
+  are = account_said bytes so_far.records (subst (λ b. SaysNext bytes b so_far.records (Ok None)) so_far.finished_is says);
   valid = so_far.valid;
   account_is = so_far.account_is;
 }
@@ -74,7 +73,7 @@ through false graphs bytes old new account so_far says read stays no_fault = rec
     valid = so_far.valid;
     account_is = so_far.account_is;
   };
-  lines = subst (λ b. SaysNext bytes b so_far.records (Ok None)) so_far.finished_is says;
+  all = all_said bytes so_far.records (subst (λ b. SaysNext bytes b so_far.records (Ok None)) so_far.finished_is says);
 }
 
 -- what is said of a text is said as something else
@@ -90,19 +89,12 @@ memory_told false graphs bytes = λ more. tt
 -- the next record of a text stays where the text goes on
 next_stays : (finished : Bool) (bytes : List ℕ) (before : List Record) (entry : Record) → IsNextRecord bytes before entry → WhateverFollows finished bytes (λ text. IsNextRecord text before entry)
 next_stays true bytes before entry next = next
-next_stays false bytes before entry next = λ more.
-    let n = length before + 1 in
-    let lines = whole_lines bytes in
-    let longer = lines_stay bytes more in
-    let count = as_many (take n lines) (before ++ entry ∷ []) next.form in
-    let within : n ≤ length lines = omega (arith, count, length-take n lines, length-append before (entry ∷ [])) in
-    let same : take n (whole_lines (bytes ++ more)) ≡ take n lines = ap (take n) longer.1 ∙ take-append-le n lines longer.0 within in
-    subst (λ l. AreRecords l (before ++ entry ∷ [])) (sym same) next
+next_stays false bytes before entry next = λ more. version.next_stays bytes more before entry next
 
 -- and so does its fault
 form_fault_stays : (finished : Bool) (bytes : List ℕ) (before : List Record) (fault : RecordFault) → SaysNext bytes finished before (Err fault) → WhateverFollows finished bytes (λ text. HasFormFault text before fault)
-form_fault_stays true bytes before fault bad = bad
-form_fault_stays false bytes before fault bad = λ more. (fault_stays bytes more before fault bad).0
+form_fault_stays true bytes before fault bad = fault_said bytes true before fault bad
+form_fault_stays false bytes before fault bad = λ more. fault_said (bytes ++ more) false before fault (fault_stays bytes more before fault bad)
 
 -- a line isn't read
 pub unread_goes : (finished : Bool) (graphs : Graphs) (bytes : List ℕ) (old new : Reading) (account then : Account) (file_stop : FileStop) → (so_far : IsChecking finished graphs bytes old account) → Says {X = Option Record} (Err file_stop) (SaysNext bytes old.finished so_far.records) → HasRead new bytes (so_far.records ++ []) → ((fault : RecordFault) → file_stop ≡ file.Fault fault → new.fault ≡ Some fault) → Goes finished graphs bytes new then (Err (unread new.line file_stop))
@@ -123,7 +115,7 @@ refused_goes finished graphs bytes old new account then entry (stop.Reject rejec
 -- where all records were taken, the account has ended
 pub ended_place : (graphs : Graphs) (bytes : List ℕ) (account : Account) → IsDone graphs bytes account → account.place ≡ place.Ended
 ended_place graphs bytes account is =
-    ap (λ (a : Account). a.place) is.account_is ∙ account_place graphs is.records place.Ended is.are.ended
+    ap (λ (a : Account). a.place) is.account_is ∙ account_place graphs is.records place.Ended (account_ended bytes is.records is.are)
 
 -- and its verdict is that of the bytes
 pub verdict_there : (graphs : Graphs) (bytes : List ℕ) (account : Account) (told : Verdict) → IsDone graphs bytes account → Some told ≡ verdict_of account → IsVerdict graphs bytes (Ok told)
@@ -159,7 +151,7 @@ begun graphs reading account read finished no_fault is = record {
     valid = λ k d below. absurd (omega (arith, below));
     account_is = is;
   };
-  lines = record { form = tt; order = refl };
+  all = none_first;
 }
 
 -- more bytes came, or no more come

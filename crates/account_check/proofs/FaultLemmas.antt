@@ -16,6 +16,7 @@ use Rattle.account_check.specs.declared.reject.RecordStop.{RecordStop}
 use Rattle.account_check.specs.declared.reject.RecordStop.TheVariants as stop
 use Rattle.account_check.specs.Accounts.{Account, HasFault}
 use Rattle.account_check.specs.Bans.{BanTests}
+use Rattle.account_check.specs.Drops.{Dropped}
 use Rattle.account_check.specs.Conclusions.{ConclusionTests}
 use Rattle.account_check.specs.Facts.{ClaimTests, FactTests}
 use Rattle.account_check.proofs.TestLemmas.{one_passed, one_unless}
@@ -27,21 +28,23 @@ one_fact_fault : (graphs : Graphs) (head : FactHead) (a b : Option Reject) → F
 one_fact_fault graphs (fact.Fails claim bits) = one_claim_fault graphs claim _ (one_unless _ _ _ one_passed)
 one_fact_fault graphs (fact.Holds claim) = one_claim_fault graphs claim _ one_passed
 
-one_ban_fault : (graphs : Graphs) (given : Given) (ban : Ban) (a b : Option Reject) → BanTests graphs given ban a → BanTests graphs given ban b → a ≡ b
-one_ban_fault graphs given ban =
+one_ban_fault : (graphs : Graphs) (given : Given) (dropped : Dropped) (ban : Ban) (a b : Option Reject) → BanTests graphs given dropped ban a → BanTests graphs given dropped ban b → a ≡ b
+one_ban_fault graphs given dropped ban =
     one_unless _ _ _ (one_unless _ _ _ (one_unless _ _ _ (one_unless _ _ _ (one_unless _ _ _ one_passed))))
 
-one_conclusion_fault : (graphs : Graphs) (given : Given) (x : Conclusion) (a b : Option Reject) → ConclusionTests graphs given x a → ConclusionTests graphs given x b → a ≡ b
-one_conclusion_fault graphs given conclusion.NonePorts = one_unless _ _ _ one_passed
-one_conclusion_fault graphs given (conclusion.NoneBan ban) = one_unless _ _ _ (one_unless _ _ _ (one_unless _ _ _ one_passed))
-one_conclusion_fault graphs given (conclusion.Match pairs) = one_unless _ _ _ (one_unless _ _ _ (one_unless _ _ _ one_passed))
+one_conclusion_fault : (graphs : Graphs) (given : Given) (dropped : Dropped) (x : Conclusion) (a b : Option Reject) → ConclusionTests graphs given dropped x a → ConclusionTests graphs given dropped x b → a ≡ b
+one_conclusion_fault graphs given dropped conclusion.NonePorts = one_unless _ _ _ one_passed
+one_conclusion_fault graphs given dropped (conclusion.NoneBan ban) = one_unless _ _ _ (one_unless _ _ _ (one_unless _ _ _ one_passed))
+one_conclusion_fault graphs given dropped (conclusion.Match pairs) = one_unless _ _ _ (one_unless _ _ _ (one_unless _ _ _ one_passed))
 
 pub one_fault : (account : Account) (record_ : Record) (a b : Option Reject) → HasFault account record_ a → HasFault account record_ b → a ≡ b
 one_fault account entry.Header = one_passed
 one_fault account (entry.Fact head) = one_unless _ _ _ (one_fact_fault account.graphs head)
 one_fault account (entry.Line line) = λ a b one other. one ∙ sym other
-one_fault account (entry.Ban ban) = one_unless _ _ _ (one_ban_fault account.graphs account.given ban)
-one_fault account (entry.Conclusion x) = one_conclusion_fault account.graphs account.given x
+one_fault account (entry.Ban ban) = one_unless _ _ _ (one_ban_fault account.graphs account.given account.dropped ban)
+one_fault account (entry.Conclusion x) = one_conclusion_fault account.graphs account.given account.dropped x
+one_fault account (entry.DropFact fact) = one_unless _ _ _ (one_unless _ _ _ one_passed)
+one_fault account (entry.DropBan ban) = one_unless _ _ _ (one_unless _ _ _ one_passed)
 one_fault account entry.End = one_passed
 
 -- the fault that an answer names is the record's, and the record's fault is named

@@ -1,6 +1,7 @@
 pub mod TestLemmas
 pub mod LogLemmas
 pub mod PairLemmas
+pub mod DropLemmas
 pub mod FaultLemmas
 pub mod VerdictLemmas
 pub mod CheckingLemmas
@@ -8,4 +9,5 @@ pub mod AccountLemmas
 pub mod RightLemmas
 pub mod RefusalLemmas
 pub mod AfterLemmas
+pub mod TakingLemmas
 pub mod MatchLemmas

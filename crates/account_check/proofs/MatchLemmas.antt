@@ -1,4 +1,5 @@
--- An account that is accepted as a match is one: its records lead from the conclusion through all logs of the match to the end.
+-- An account that is accepted as a match is one: its records lead from the conclusion through all logs of the match to
+-- the end.
 use Rattle.std.proofs.Common.{◌≡◌, ℕ, zero, suc, ◌+◌, ◌-◌, ◌/◌, ◌%◌, ◌==◌, ◌<◌, Bool, true, false, List, [], ◌∷◌, ◌++◌, Option, None, Some, refl, sym, ap, subst, ◌∙◌, arith, eqb-true, if◌then◌else◌}
 use Rattle.std.proofs.lemmas.List.Sums.{fold_push}
 use Rattle.circuits.specs.declared.port.Pair.{Pair}
@@ -20,6 +21,7 @@ use Rattle.account_file.specs.declared.place.Place.TheVariants as place
 use Rattle.account_file.specs.declared.record.Record.{Record}
 use Rattle.account_file.specs.declared.record.Record.TheVariants as entry_of
 use Rattle.account_file.specs.Order.{logs_asked, logs_after, place_after, place_in_log, place_after_one, next_place}
+use Rattle.account_file.proofs.VersionLemmas.{account_ended}
 use Rattle.account_check.specs.declared.verdict.Verdict.{Verdict}
 use Rattle.account_check.specs.declared.verdict.Verdict.TheVariants as verdict
 use Rattle.account_check.specs.Accounts.{Account, AreValid, HasFault, account_after, with_record, after_conclusion, rest_after_line, empty_account}
@@ -35,7 +37,8 @@ use Rattle.account_check.proofs.RightLemmas.{last_empty, no_reject}
 use Rattle.account_check.proofs.TestLemmas.{through}
 use Rattle.std.proofs.lemmas.Option.{same_Some, none-some}
 
--- The logs of a match, of which this many are left: those that are closed refute, and the lines of the open one are derived.
+-- The logs of a match, of which this many are left: those that are closed refute, and the lines of the open one are
+-- derived.
 record AreLogsSoFar (graphs : Graphs) (proof : Proof) (left : ℕ) : Type 0 where
   ports : HavePorts graphs.first graphs.second proof.matching.inputs proof.matching.outputs
   counted : proof.closed + left ≡ log_count proof.matching
@@ -113,7 +116,7 @@ other_verdict matching e = cc
 same_matching : (a b : Matching) → ◌≡◌ {A = Option Verdict} (Some (verdict.Match a)) (Some (verdict.Match b)) → a ≡ b
 same_matching a b e = cc
 
-concluded : (account : Account) (x : Conclusion) → ConclusionTests account.graphs account.given x None → IsMatchSoFar (after_conclusion account x) (logs_asked x)
+concluded : (account : Account) (x : Conclusion) → ConclusionTests account.graphs account.given account.dropped x None → IsMatchSoFar (after_conclusion account x) (logs_asked x)
 concluded account conclusion.NonePorts tests = record {
   same = λ matching e. absurd (other_verdict matching e);
   logs = λ matching e. absurd (other_verdict matching e);
@@ -188,6 +191,8 @@ known_after place.Start account entry_of.Header next known fine e = known_there 
 known_after place.Headed account (entry_of.Fact (head.Fails claim bits)) next known fine e = known_there place.Headed next (with_record account (entry_of.Fact (head.Fails claim bits))) e known
 known_after place.Headed account (entry_of.Fact (head.Holds claim)) next known fine e = known_there place.FactLog next (with_record account (entry_of.Fact (head.Holds claim))) e tt
 known_after place.Headed account (entry_of.Ban ban) next known fine e = known_there place.Headed next (with_record account (entry_of.Ban ban)) e known
+known_after place.Headed account (entry_of.DropFact fact) next known fine e = known_there place.Headed next (with_record account (entry_of.DropFact fact)) e known
+known_after place.Headed account (entry_of.DropBan ban) next known fine e = known_there place.Headed next (with_record account (entry_of.DropBan ban)) e known
 known_after place.Headed account (entry_of.Conclusion x) next known fine e =
     known_there (place.Logs (logs_asked x)) next (after_conclusion account x) e (fact_stays account x known, concluded account x fine)
 known_after place.FactLog account (entry_of.Line line) next known fine e =
@@ -249,7 +254,7 @@ right_match graphs bytes matching first second accepted =
     let records = accepted.records in
     let account = account_after graphs records in
     let same : account.graphs ≡ graphs = account_graphs graphs records in
-    let so_far = known_records graphs records accepted.valid place.Ended accepted.account.ended in
+    let so_far = known_records graphs records accepted.valid place.Ended (account_ended bytes records accepted.account) in
     let concluded = concluded_so account.place account.concluded (verdict.Match matching) accepted.verdict_is in
     let first_there = subst (λ (g : Graphs). IsGraph g.first) (sym same) first in
     let second_there = subst (λ (g : Graphs). IsGraph g.second) (sym same) second in

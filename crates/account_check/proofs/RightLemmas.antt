@@ -1,9 +1,11 @@
 -- Valid records keep an account right: facts are true, bans exclude, and a refusal that it concludes in is one.
 use Rattle.std.proofs.Common.{◌≡◌, ℕ, ◌++◌, ◌||◌, Bool, true, false, List, [], ◌∷◌, Option, None, Some, refl, sym, ap, subst, ◌∙◌, if◌then◌else◌}
 use Rattle.std.specs.List.{list_any}
-use Rattle.std.proofs.lemmas.List.Elements.{All-nil, All-push}
+use Rattle.std.proofs.lemmas.List.Elements.{All-head, All-nil, All-push, All-set, All-tail}
+use Rattle.std.proofs.lemmas.Bool.{false≢true}
 use Rattle.std.proofs.lemmas.List.Folds.{list_any-append}
 use Rattle.circuits.specs.declared.port.Pair.{Pair}
+use Rattle.circuits.specs.declared.port.PortKind.TheVariants.{Input}
 use Rattle.cnf_core.specs.declared.fault.LineFault.{LineFault}
 use Rattle.cnf_core.specs.declared.literal.SatLit.{SatLit}
 use Rattle.cnf_core.specs.declared.log.LogLine.{LogLine}
@@ -18,12 +20,14 @@ use Rattle.claim_core.specs.declared.claims.Shape.TheVariants.{Up, Down, Swap}
 use Rattle.claim_core.specs.Claims.{Breaks, Holds, IsClaim, IsPlaced}
 use Rattle.claim_core.specs.ClaimQueries.{claim_query}
 use Rattle.claim_core.specs.Formulas.{IsRefuted}
+use Rattle.claim_core.specs.Images.{HasPair}
 use Rattle.claim_core.proofs.ClaimQueryLemmas.{claim_query_fits, holds-unmet}
 use Rattle.claim_core.proofs.RefutedLemmas.{unmet}
 use Rattle.account_core.specs.declared.conclusion.Conclusion.{Conclusion}
 use Rattle.account_core.specs.declared.conclusion.Conclusion.TheVariants as conclusion
 use Rattle.account_core.specs.declared.fact.FactHead.TheVariants as head
 use Rattle.account_core.specs.declared.step.Ban.{Ban}
+use Rattle.account_core.specs.Covers.{way}
 use Rattle.account_core.specs.Exclusions.{AreRight, Excludes}
 use Rattle.account_core.specs.Given.{Given, IsTrueFact, decided}
 use Rattle.account_core.specs.Steps.{IsValidBan}
@@ -31,6 +35,8 @@ use Rattle.account_core.proofs.StepLemmas.{ban_contradicts, no_pairs, other_coun
 use Rattle.account_file.specs.declared.place.Place.{Place}
 use Rattle.account_file.specs.declared.record.Record.{Record}
 use Rattle.account_file.specs.declared.record.Record.TheVariants as entry_of
+use Rattle.ban_check.specs.More.{clashing_pairs, without_pairs}
+use Rattle.account_check.specs.Drops.{Dropped}
 use Rattle.account_check.specs.declared.reject.Reject.{Reject}
 use Rattle.account_check.specs.declared.reject.Reject.TheVariants as reject
 use Rattle.account_check.specs.declared.verdict.Verdict.{Verdict}
@@ -68,14 +74,14 @@ claim_passed graphs claim Rest tests =
     (claim_there graphs claim there.0 lesser.0, lesser.1)
 
 -- what passes the tests of a ban is valid
-pub ban_passed : (graphs : Graphs) (given : Given) (ban : Ban) → BanTests graphs given ban None → IsValidBan graphs given ban
-ban_passed graphs given ban tests =
+pub ban_passed : (graphs : Graphs) (given : Given) (dropped : Dropped) (ban : Ban) → BanTests graphs given dropped ban None → IsValidBan graphs given ban
+ban_passed graphs given dropped ban tests =
     let known = through tests in
     let ordered = through known.1 in
     let names = through ordered.1 in
     let rule = through names.1 in
     let shown = through rule.1 in
-    record { known = known.0; ordered = ordered.0; names = names.0; rule = rule.0; shown = shown.0 }
+    record { known = known.0; ordered = ordered.0; names = names.0.0; rule = rule.0; shown = shown.0 }
 
 shown : (graphs : Graphs) (claim : Claim) → IsGraph graphs.first → IsGraph graphs.second → IsRefuted graphs (claim_query graphs claim) → Holds graphs claim
 shown graphs claim first second refuted = (holds-unmet graphs claim).1 (unmet graphs (claim_query graphs claim) first second refuted)
@@ -91,6 +97,21 @@ ban_more : (graphs : Graphs) (given : Given) (pairs : List Pair) → AreRight gr
 ban_more graphs given pairs right excludes = record {
   facts = right.facts;
   bans = All-push (Excludes graphs) given.bans pairs right.bans excludes;
+}
+
+-- pairs that clash are no match's, so that a ban may be forgotten
+clashing_excluded : (graphs : Graphs) → Excludes graphs clashing_pairs
+clashing_excluded graphs p q matches extends =
+    let plain = All-head (HasPair p q) (way Input 0 0 false) (way Input 0 0 true ∷ []) extends in
+    let rest = All-tail (HasPair p q) (way Input 0 0 false) (way Input 0 0 true ∷ []) extends in
+    let inverted = All-head (HasPair p q) (way Input 0 0 true) [] rest in
+    let same = sym plain.goes ∙ inverted.goes in
+    false≢true (ap (λ (e : ℕ × Bool). e.1) same)
+
+ban_forgotten : (graphs : Graphs) (given : Given) (ban : ℕ) → AreRight graphs given → AreRight graphs (without_pairs given ban)
+ban_forgotten graphs given ban right = record {
+  facts = right.facts;
+  bans = All-set (Excludes graphs) given.bans ban clashing_pairs (clashing_excluded graphs) right.bans;
 }
 
 -- an account that is right stays so wherever it stands, and whatever the match's logs are
@@ -163,9 +184,9 @@ right_line account (Some fact) line first second right being none =
     }
 
 -- a ban
-right_ban : (account : Account) (ban : Ban) → IsGraph account.graphs.first → IsGraph account.graphs.second → IsRight account → BanTests account.graphs account.given ban None → IsRight (with_record account (entry_of.Ban ban))
+right_ban : (account : Account) (ban : Ban) → IsGraph account.graphs.first → IsGraph account.graphs.second → IsRight account → BanTests account.graphs account.given account.dropped ban None → IsRight (with_record account (entry_of.Ban ban))
 right_ban account ban first second right tests = record {
-  given = ban_more account.graphs account.given ban.pairs right.given (ban_contradicts account.graphs account.given ban first second right.given (ban_passed account.graphs account.given ban tests));
+  given = ban_more account.graphs account.given ban.pairs right.given (ban_contradicts account.graphs account.given ban first second right.given (ban_passed account.graphs account.given account.dropped ban tests));
   fact = right.fact;
   refused = right.refused;
 }
@@ -174,7 +195,7 @@ right_ban account ban first second right tests = record {
 other_verdict : (matching : Matching) → ◌≡◌ {A = Option Verdict} (Some (verdict.Match matching)) (Some verdict.None) → ⊥
 other_verdict matching e = cc
 
-right_conclusion : (account : Account) (x : Conclusion) → IsRight account → ConclusionTests account.graphs account.given x None → IsRight (after_conclusion account x)
+right_conclusion : (account : Account) (x : Conclusion) → IsRight account → ConclusionTests account.graphs account.given account.dropped x None → IsRight (after_conclusion account x)
 right_conclusion account conclusion.NonePorts right tests =
     let differ = through tests in
     record {
@@ -189,7 +210,7 @@ right_conclusion account (conclusion.NoneBan ban) right tests =
     record {
       given = right.given;
       fact = right.fact;
-      refused = λ e. no_pairs account.graphs (subst (Excludes account.graphs) none.0 (right.given.bans ban [] there.0));
+      refused = λ e. no_pairs account.graphs (subst (Excludes account.graphs) none.0 (right.given.bans ban [] there.0.0));
     }
 right_conclusion account (conclusion.Match pairs) right tests = record {
   given = right.given;
@@ -207,6 +228,8 @@ right_by_record account (entry_of.Line line) first second right fine = right_lin
 right_by_record account (entry_of.Ban ban) first second right fine =
     right_ban account ban first second right (through fine).1
 right_by_record account (entry_of.Conclusion x) first second right fine = right_conclusion account x right fine
+right_by_record account (entry_of.DropFact fact) first second right fine = record { given = right.given; fact = right.fact; refused = right.refused }
+right_by_record account (entry_of.DropBan ban) first second right fine = record { given = ban_forgotten account.graphs account.given ban right.given; fact = right.fact; refused = right.refused }
 right_by_record account entry_of.End first second right fine = right
 
 -- one valid record more

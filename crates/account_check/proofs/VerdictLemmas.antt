@@ -7,9 +7,8 @@ use Rattle.net_core.specs.Sides.{Graphs}
 use Rattle.account_file.specs.declared.record.Record.{Record}
 use Rattle.account_file.specs.declared.record.Record.TheVariants as record_of
 use Rattle.account_file.specs.declared.fault.RecordFault.{RecordFault}
-use Rattle.account_file.specs.Lines.{whole_lines}
-use Rattle.account_file.specs.Accounts.{AreRecords, IsAccountOf, IsNextRecord}
-use Rattle.account_file.proofs.LawLemmas.{at_all, front_records, further, one_answer, one_place, same_records}
+use Rattle.account_file.specs.Accounts.{AreFirst, IsAccountOf, IsNextRecord}
+use Rattle.account_file.proofs.VersionLemmas.{account_is_said, at_all, before_next, fault_after_first, fault_is_said, further, next_is_said, one_account, one_answer, one_place}
 use Rattle.account_check.specs.declared.reject.Reject.{Reject}
 use Rattle.account_check.specs.declared.verdict.Verdict.{Verdict}
 use Rattle.account_check.specs.declared.verdict.Why.{Why}
@@ -38,47 +37,43 @@ valid_more graphs records entry valid fine k d below =
     ]
 
 -- the records before a bad line
-before_bad : (graphs : Graphs) (bytes : List ℕ) (before : List Record) (reason : Why) → IsBad graphs bytes before reason → AreRecords (take (length before) (whole_lines bytes)) before
-before_bad graphs bytes before (why.Form fault) bad = bad.records
-before_bad graphs bytes before (why.Record reject) bad =
-    let n = length before in
-    let front = front_records (whole_lines bytes) (before ++ bad.0 ∷ []) n (n + 1) bad.1 (omega arith) in
-    let same : take n (before ++ bad.0 ∷ []) ≡ before = take-append-le n before (bad.0 ∷ []) (omega arith) ∙ take-length before in
-    subst (AreRecords (take n (whole_lines bytes))) same front
+before_bad : (graphs : Graphs) (bytes : List ℕ) (before : List Record) (reason : Why) → IsBad graphs bytes before reason → AreFirst bytes before
+before_bad graphs bytes before (why.Form fault) bad = fault_after_first bytes before fault bad
+before_bad graphs bytes before (why.Record reject) bad = before_next bytes before bad.0 bad.1
 
 -- a bad line isn't a valid record
 bad_and_valid : (graphs : Graphs) (bytes : List ℕ) (before : List Record) (entry : Record) (reason : Why) → IsBad graphs bytes before reason → IsNextRecord bytes before entry → HasFault (account_after graphs before) entry None → ⊥
 bad_and_valid graphs bytes before entry (why.Form fault) bad next fine =
-    let e : Err fault ≡ Ok (Some entry) = one_answer bytes true before (Err fault) (Ok (Some entry)) bad next in
+    let e : Err fault ≡ Ok (Some entry) = one_answer bytes true before (Err fault) (Ok (Some entry)) (fault_is_said bytes before fault bad) (next_is_said bytes true before entry next) in
     cc
 bad_and_valid graphs bytes before entry (why.Record reject) bad next fine =
-    let e : ◌≡◌ {A = Result (Option Record) RecordFault} (Ok (Some bad.0)) (Ok (Some entry)) = one_answer bytes true before (Ok (Some bad.0)) (Ok (Some entry)) bad.1 next in
+    let e : ◌≡◌ {A = Result (Option Record) RecordFault} (Ok (Some bad.0)) (Ok (Some entry)) = one_answer bytes true before (Ok (Some bad.0)) (Ok (Some entry)) (next_is_said bytes true before bad.0 bad.1) (next_is_said bytes true before entry next) in
     let same : bad.0 ≡ entry = cc in
     let has = subst (λ r. HasFault (account_after graphs before) r (Some reject)) same bad.2 in
     let clash : None ≡ Some reject = one_fault (account_after graphs before) entry None (Some reject) fine has in
     cc
 
 -- more records, of which the first are these
-bad_and_more : (graphs : Graphs) (bytes : List ℕ) (before more : List Record) (reason : Why) → IsBad graphs bytes before reason → AreRecords (take (length more) (whole_lines bytes)) more → AreValid graphs more → length before < length more → ⊥
+bad_and_more : (graphs : Graphs) (bytes : List ℕ) (before more : List Record) (reason : Why) → IsBad graphs bytes before reason → AreFirst bytes more → AreValid graphs more → length before < length more → ⊥
 bad_and_more graphs bytes before more reason bad many valid below =
     let entry = get_or more (length before) record_of.End in
-    let on = further (whole_lines bytes) before more (before_bad graphs bytes before reason bad) many below in
+    let on = further bytes before more (before_bad graphs bytes before reason bad) many below in
     bad_and_valid graphs bytes before entry reason bad on.next (subst (λ rs. HasFault (account_after graphs rs) entry None) (sym on.same) (valid (length before) record_of.End below))
 
 -- a line is bad for one reason
 same_bad : (graphs : Graphs) (bytes : List ℕ) (before : List Record) (first second : Why) → IsBad graphs bytes before first → IsBad graphs bytes before second → first ≡ second
 same_bad graphs bytes before (why.Form a) (why.Form b) one other =
-    let e : ◌≡◌ {A = Result (Option Record) RecordFault} (Err a) (Err b) = one_answer bytes true before (Err a) (Err b) one other in
+    let e : ◌≡◌ {A = Result (Option Record) RecordFault} (Err a) (Err b) = one_answer bytes true before (Err a) (Err b) (fault_is_said bytes before a one) (fault_is_said bytes before b other) in
     let same : a ≡ b = cc in
     ap (λ f. why.Form f) same
 same_bad graphs bytes before (why.Form a) (why.Record b) one other =
-    let e : Err a ≡ Ok (Some other.0) = one_answer bytes true before (Err a) (Ok (Some other.0)) one other.1 in
+    let e : Err a ≡ Ok (Some other.0) = one_answer bytes true before (Err a) (Ok (Some other.0)) (fault_is_said bytes before a one) (next_is_said bytes true before other.0 other.1) in
     cc
 same_bad graphs bytes before (why.Record a) (why.Form b) one other =
-    let e : Ok (Some one.0) ≡ Err b = one_answer bytes true before (Ok (Some one.0)) (Err b) one.1 other in
+    let e : Ok (Some one.0) ≡ Err b = one_answer bytes true before (Ok (Some one.0)) (Err b) (next_is_said bytes true before one.0 one.1) (fault_is_said bytes before b other) in
     cc
 same_bad graphs bytes before (why.Record a) (why.Record b) one other =
-    let e : ◌≡◌ {A = Result (Option Record) RecordFault} (Ok (Some one.0)) (Ok (Some other.0)) = one_answer bytes true before (Ok (Some one.0)) (Ok (Some other.0)) one.1 other.1 in
+    let e : ◌≡◌ {A = Result (Option Record) RecordFault} (Ok (Some one.0)) (Ok (Some other.0)) = one_answer bytes true before (Ok (Some one.0)) (Ok (Some other.0)) (next_is_said bytes true before one.0 one.1) (next_is_said bytes true before other.0 other.1) in
     let same : one.0 ≡ other.0 = cc in
     let has = subst (λ r. HasFault (account_after graphs before) r (Some a)) same one.2 in
     let fault : ◌≡◌ {A = Option Reject} (Some a) (Some b) = one_fault (account_after graphs before) other.0 (Some a) (Some b) has other.2 in
@@ -88,7 +83,7 @@ same_bad graphs bytes before (why.Record a) (why.Record b) one other =
 -- an account has one first bad line
 pub one_rejection : (graphs : Graphs) (bytes : List ℕ) (line other : ℕ) (first second : Why) → IsRejected graphs bytes line first → IsRejected graphs bytes other second → (line ≡ other) × (first ≡ second)
 one_rejection graphs bytes line other first second f s =
-    let same = one_place (whole_lines bytes) (λ records. (reason : Why) × IsBad graphs bytes records reason × AreValid graphs records) (λ records bad. before_bad graphs bytes records bad.0 bad.1)
+    let same = one_place bytes (λ records. (reason : Why) × IsBad graphs bytes records reason × AreValid graphs records) (λ records bad. before_bad graphs bytes records bad.0 bad.1)
     (λ records more bad others less. bad_and_more graphs bytes records more bad.0 bad.1 (before_bad graphs bytes more others.0 others.1) others.2 less)
     f.before s.before (first, f.bad, f.valid) (second, s.bad, s.valid) in
     (f.line_is ∙ (ap (λ records. length records + 1) same ∙ sym s.line_is), same_bad graphs bytes s.before first second (subst (λ r. IsBad graphs bytes r first) same f.bad) s.bad)
@@ -96,7 +91,7 @@ one_rejection graphs bytes line other first second f s =
 -- and it proves one verdict
 pub one_proved : (graphs : Graphs) (bytes : List ℕ) (first second : Verdict) → IsAccepted graphs bytes first → IsAccepted graphs bytes second → first ≡ second
 one_proved graphs bytes first second f s =
-    let same : f.records ≡ s.records = same_records (whole_lines bytes) f.records s.records f.account.records_are.form s.account.records_are.form in
+    let same : f.records ≡ s.records = one_account bytes f.records s.records f.account s.account in
     let e : Some first ≡ Some second = sym f.verdict_is ∙ (ap (λ r. verdict_of (account_after graphs r)) same ∙ s.verdict_is) in
     cc
 
@@ -104,16 +99,16 @@ one_proved graphs bytes first second f s =
 pub never_both : (graphs : Graphs) (bytes : List ℕ) (told : Verdict) (line : ℕ) (reason : Why) → IsAccepted graphs bytes told → IsRejected graphs bytes line reason → ⊥
 never_both graphs bytes told line reason accepted rejected =
     let records = accepted.records in
-    let same = at_all (whole_lines bytes) records rejected.before accepted.account.records_are (before_bad graphs bytes rejected.before reason rejected.bad)
+    let same = at_all bytes records rejected.before accepted.account (before_bad graphs bytes rejected.before reason rejected.bad)
     (λ are less. bad_and_more graphs bytes rejected.before records reason rejected.bad are accepted.valid less) in
     ends records reason (subst (λ r. IsBad graphs bytes r reason) same rejected.bad) accepted.account
   where
     ends : (records : List Record) (reason : Why) → IsBad graphs bytes records reason → IsAccountOf bytes records → ⊥
     ends records (why.Form fault) bad account =
-        let e : Err fault ≡ Ok None = one_answer bytes true records (Err fault) (Ok None) bad account in
+        let e : Err fault ≡ Ok None = one_answer bytes true records (Err fault) (Ok None) (fault_is_said bytes records fault bad) (account_is_said bytes records account) in
         cc
     ends records (why.Record reject) bad account =
-        let e : ◌≡◌ {A = Result (Option Record) RecordFault} (Ok (Some bad.0)) (Ok None) = one_answer bytes true records (Ok (Some bad.0)) (Ok None) bad.1 account in
+        let e : ◌≡◌ {A = Result (Option Record) RecordFault} (Ok (Some bad.0)) (Ok None) = one_answer bytes true records (Ok (Some bad.0)) (Ok None) (next_is_said bytes true records bad.0 bad.1) (account_is_said bytes records account) in
         cc
 
 -- an answer that is the verdict says it exactly

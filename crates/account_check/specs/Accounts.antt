@@ -22,16 +22,19 @@ use Rattle.account_check.specs.declared.verdict.Verdict.TheVariants as verdict
 use Rattle.account_check.specs.Tests.{Passed}
 use Rattle.account_check.specs.Facts.{FactTests}
 use Rattle.account_check.specs.Bans.{BanTests}
-use Rattle.account_check.specs.Conclusions.{matching_of, ConclusionTests, PortsTest}
+use Rattle.account_check.specs.Drops.{Dropped, IsBanKept, IsFactKept, nothing_dropped, without_ban, without_fact}
+use Rattle.account_check.specs.Conclusions.{matching_of, ConclusionTests, DropTest, PortsTest}
 use Rattle.account_check.specs.Logs.{OpenFact, Proof, line_reject, nothing, unproved, unshown, with_ban, with_fact, with_line}
+use Rattle.ban_check.specs.More.{without_pairs}
 
--- What an account of two circuits has come to: what may stand next; the facts and bans that were given; the fact whose
--- log is open, which counts only once its log is closed; the match that it concludes in; and its conclusion as a
--- verdict.
+-- What an account of two circuits has come to: what may stand next; the facts and bans that were given, and which of
+-- them were dropped; the fact whose log is open, which counts only once its log is closed; the match that it concludes
+-- in; and its conclusion as a verdict.
 pub record Account : Type 0 where
   pub graphs : Graphs
   pub place : Place
   pub given : Given
+  pub dropped : Dropped
   pub fact : Option OpenFact
   pub proof : Proof
   pub concluded : Option Verdict
@@ -42,6 +45,7 @@ empty_account graphs = record {
   graphs = graphs;
   place = place.Start;
   given = record { facts = []; bans = [] };
+  dropped = nothing_dropped;
   fact = None;
   proof = nothing;
   concluded = None;
@@ -53,8 +57,13 @@ abbrev pub HasFault : Account → Record → Option Reject → Type 0
 HasFault account entry.Header fault = Passed fault
 HasFault account (entry.Fact head) fault = PortsTest account.graphs (FactTests account.graphs head) fault
 HasFault account (entry.Line line) fault = fault ≡ line_reject account.graphs account.fact account.proof line
-HasFault account (entry.Ban ban) fault = PortsTest account.graphs (BanTests account.graphs account.given ban) fault
-HasFault account (entry.Conclusion conclusion) fault = ConclusionTests account.graphs account.given conclusion fault
+HasFault account (entry.Ban ban) fault = PortsTest account.graphs (BanTests account.graphs account.given account.dropped ban) fault
+HasFault account (entry.Conclusion conclusion) fault =
+    ConclusionTests account.graphs account.given account.dropped conclusion fault
+HasFault account (entry.DropFact fact) fault =
+    PortsTest account.graphs (DropTest (IsFactKept account.given account.dropped fact)) fault
+HasFault account (entry.DropBan ban) fault =
+    PortsTest account.graphs (DropTest (IsBanKept account.given account.dropped ban)) fault
 HasFault account entry.End fault = Passed fault
 
 -- where a line of the open log leads: after the empty one the fact is given
@@ -84,6 +93,9 @@ with_record account (entry.Fact head) = after_fact account head
 with_record account (entry.Line line) = rest_after_line account account.fact line
 with_record account (entry.Ban ban) = record account { given = with_ban account.given ban.pairs }
 with_record account (entry.Conclusion conclusion) = after_conclusion account conclusion
+with_record account (entry.DropFact fact) = record account { dropped = without_fact account.dropped fact }
+with_record account (entry.DropBan ban) =
+    record account { given = without_pairs account.given ban; dropped = without_ban account.dropped ban }
 with_record account entry.End = account
 
 abbrev pub after : Account → Record → Account

@@ -4,8 +4,7 @@ use Rattle.net_core.specs.Sides.{Graphs}
 use Rattle.account_file.specs.declared.record.Record.{Record}
 use Rattle.account_file.specs.declared.fault.FileStop.{FileStop}
 use Rattle.account_file.specs.declared.fault.FileStop.TheVariants as file
-use Rattle.account_file.specs.Accounts.{AreRecords, IsAccountOf}
-use Rattle.account_file.specs.Lines.{whole_lines}
+use Rattle.account_file.specs.Accounts.{AreAll, IsAccountOf}
 use Rattle.account_file.specs.Reading.{Reading, HasRead}
 use Rattle.account_check.specs.declared.reject.RecordStop.{RecordStop}
 use Rattle.account_check.specs.declared.reject.RecordStop.TheVariants as stop
@@ -32,7 +31,7 @@ IsUnderCheck reading account =
 -- All records of a text were taken, of which more bytes may come.
 pub record AreTaken (graphs : Graphs) (bytes : List ℕ) (reading : Reading) (account : Account) : Type 0 where
   pub so_far : IsChecking false graphs bytes reading account
-  pub lines : AreRecords (whole_lines bytes) so_far.records
+  pub all : AreAll bytes so_far.records
 
 -- All records of a text were taken, and it is whole.
 pub record IsDone (graphs : Graphs) (bytes : List ℕ) (account : Account) : Type 0 where
@@ -70,7 +69,7 @@ pub record Progress : Type 0 where
   pub reading : Reading
   pub account : Account
 
--- Of these bytes of an account of two circuits, all whole lines are valid records, and were taken.
+-- Of these bytes of an account of two circuits, all whole records are valid, and were taken.
 abbrev pub HasTaken : Graphs → List ℕ → Progress → Type 0
 HasTaken graphs bytes progress = AreTaken graphs bytes progress.reading progress.account
 
@@ -78,8 +77,8 @@ HasTaken graphs bytes progress = AreTaken graphs bytes progress.reading progress
 abbrev pub IsUnderWay : Progress → Type 0
 IsUnderWay progress = (graphs : Graphs) × (bytes : List ℕ) × HasTaken graphs bytes progress
 
--- Feeding: of the bytes so far all whole lines are valid records; or one of them is the first bad line, whatever comes
--- after it.
+-- Feeding: of the bytes so far all whole records are valid; or one of them is the first bad one, whatever comes after
+-- it.
 abbrev pub Feeds : Graphs → List ℕ → Progress → Result (Unit {0}) CheckStop → Type 0
 Feeds graphs bytes progress result = TakesAll false graphs bytes progress.reading progress.account result
 

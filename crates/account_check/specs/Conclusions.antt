@@ -11,9 +11,10 @@ use Rattle.net_core.specs.declared.matching.Matching.{Matching}
 use Rattle.account_core.specs.declared.conclusion.Conclusion.{Conclusion}
 use Rattle.account_core.specs.declared.conclusion.Conclusion.TheVariants as conclusion
 use Rattle.account_core.specs.Ports.{HaveAsMany, IsKnown}
-use Rattle.account_core.specs.Given.{Given, ban_at, IsBanGiven}
+use Rattle.account_core.specs.Given.{Given, ban_at}
 use Rattle.account_check.specs.declared.reject.Reject.{Reject}
 use Rattle.account_check.specs.declared.reject.Reject.TheVariants as reject
+use Rattle.account_check.specs.Drops.{Dropped, IsBanKept}
 use Rattle.account_check.specs.Tests.{Passed, Unless}
 
 -- pair k is of port k of a kind
@@ -58,12 +59,17 @@ PairTests graphs pairs fault =
     Unless (All (IsKnown graphs) pairs) reject.UnknownId (Unless (AreWhole graphs pairs) reject.Conclusion Passed) fault
 
 -- the tests of a ban without pairs that shows that there is no match
-abbrev pub EmptyBanTests : Given → ℕ → Option Reject → Type 0
-EmptyBanTests given ban fault =
-    Unless (IsBanGiven given ban) reject.UnknownId (Unless (ban_at given ban ≡ []) reject.Conclusion Passed) fault
+abbrev pub EmptyBanTests : Given → Dropped → ℕ → Option Reject → Type 0
+EmptyBanTests given dropped ban fault =
+    Unless (IsBanKept given dropped ban) reject.UnknownId (Unless (ban_at given ban ≡ []) reject.Conclusion Passed) fault
+
+-- the test of a drop: what it names was given and wasn't dropped
+abbrev pub DropTest : Type 0 → Option Reject → Type 0
+DropTest IsKept fault = Unless IsKept reject.UnknownId Passed fault
 
 -- the tests of a conclusion
-abbrev pub ConclusionTests : Graphs → Given → Conclusion → Option Reject → Type 0
-ConclusionTests graphs given conclusion.NonePorts fault = OtherPortsTest graphs fault
-ConclusionTests graphs given (conclusion.NoneBan ban) fault = PortsTest graphs (EmptyBanTests given ban) fault
-ConclusionTests graphs given (conclusion.Match pairs) fault = PortsTest graphs (PairTests graphs pairs) fault
+abbrev pub ConclusionTests : Graphs → Given → Dropped → Conclusion → Option Reject → Type 0
+ConclusionTests graphs given dropped conclusion.NonePorts fault = OtherPortsTest graphs fault
+ConclusionTests graphs given dropped (conclusion.NoneBan ban) fault =
+    PortsTest graphs (EmptyBanTests given dropped ban) fault
+ConclusionTests graphs given dropped (conclusion.Match pairs) fault = PortsTest graphs (PairTests graphs pairs) fault

@@ -1,5 +1,6 @@
 pub mod Tests
 pub mod Facts
+pub mod Drops
 pub mod Bans
 pub mod Conclusions
 pub mod Logs

@@ -15,16 +15,17 @@ ghost use Rattle.account_check.specs.declared.verdict.Verdict.TheVariants as ver
 ghost use Rattle.net_core.specs.declared.matching.Matching.{Matching as AnyMatching};
 
 use crate::bans::test_ban;
+use crate::dropped::Dropped;
 use crate::fact_log::FactLog;
 use crate::fact_logs::FactLogs;
 use crate::facts::{test_fails, test_holds};
 use crate::logs::Logs;
-use crate::pairs::{matching, test_empty_ban, test_ports};
+use crate::pairs::{matching, test_drop_ban, test_drop_fact, test_empty_ban, test_ports};
 use crate::reject::RecordStop;
 use crate::verdict::Verdict;
 use account_core::{Ban, Conclusion, FactHead};
 use account_file::Record;
-use ban_check::{Evaluator, Given};
+use ban_check::{Evaluator, Given, clashing_pairs};
 use bit_list::Bits;
 use circuits::Pair;
 use claim_core::Claim;
@@ -59,6 +60,7 @@ pub(crate) enum CheckStage<'a> {
 pub struct Checker<'a> {
     evaluator: Evaluator<'a>,
     given: Given,
+    dropped: Dropped,
     facts: FactLogs<'a>,
     stage: CheckStage<'a>,
 }
@@ -73,6 +75,7 @@ impl<'a> Model for Checker<'a> {
       graphs = a.evaluator;
       place = place_of a.stage;
       given = a.given;
+      dropped = a.dropped;
       fact = fact_of a.stage;
       proof = proof_of a.stage;
       concluded = concluded_of a.stage;
@@ -87,6 +90,7 @@ impl Drop for Checker<'_> {
         let Checker {
             evaluator: _evaluator,
             given: _given,
+            dropped: _dropped,
             facts: _facts,
             stage: _stage,
         } = self;
@@ -101,6 +105,7 @@ impl<'a> Checker<'a> {
         Ok(Checker {
             evaluator: Evaluator::new(alloc, graphs),
             given: Given::new(alloc),
+            dropped: Dropped::new(alloc),
             facts: FactLogs::new(graphs),
             stage: CheckStage::Empty,
         })
@@ -147,6 +152,8 @@ impl<'a> Checker<'a> {
             Record::Line(line) => self.line(alloc, line),
             Record::Ban(ban) => self.ban(alloc, ban),
             Record::Conclusion(conclusion) => self.conclude(alloc, conclusion),
+            Record::DropFact(fact) => self.drop_fact(*fact),
+            Record::DropBan(ban) => self.drop_ban(alloc, *ban),
             Record::End => {
                 self.end();
                 Ok(())
@@ -239,7 +246,13 @@ impl<'a> Checker<'a> {
         requires { IsSome (next_place self.old.place (entry.Ban ban.now)) }
         ensures { Takes self.old (entry.Ban ban.now) self.new result }
     {
-        if let Some(reject) = test_ban(alloc, &mut self.evaluator, &self.given, ban)? {
+        if let Some(reject) = test_ban(
+            alloc,
+            &mut self.evaluator,
+            &self.given,
+            &self.dropped,
+            ban,
+        )? {
             return Err(RecordStop::Reject(reject));
         }
         self.given.add_ban(alloc, &ban.pairs)?;
@@ -275,7 +288,12 @@ impl<'a> Checker<'a> {
         requires { IsSome (next_place self.old.place (entry.Conclusion (conclusion.NoneBan ban))) }
         ensures { Takes self.old (entry.Conclusion (conclusion.NoneBan ban)) self.new result }
     {
-        if let Some(reject) = test_empty_ban(self.evaluator.graphs(), &self.given, ban) {
+        if let Some(reject) = test_empty_ban(
+            self.evaluator.graphs(),
+            &self.given,
+            &self.dropped,
+            ban,
+        ) {
             return Err(RecordStop::Reject(reject));
         }
         go_to(&mut self.stage, CheckStage::Refusing);
@@ -291,6 +309,34 @@ impl<'a> Checker<'a> {
         let matching = matching(alloc, graphs, pairs)?;
         let logs = Logs::new(alloc, graphs, matching)?;
         go_to(&mut self.stage, CheckStage::Proving(logs));
+        Ok(())
+    }
+
+    // Takes a drop of a fact.
+    fn drop_fact(&mut self, fact: u64) -> Result<(), RecordStop>
+        requires { IsSome (next_place self.old.place (entry.DropFact fact)) }
+        ensures { Takes self.old (entry.DropFact fact) self.new result }
+    {
+        let graphs = self.evaluator.graphs();
+        if let Some(reject) = test_drop_fact(graphs, &self.given, &self.dropped, fact) {
+            return Err(RecordStop::Reject(reject));
+        }
+        self.dropped.drop_fact(fact)?;
+        Ok(())
+    }
+
+    // Takes a drop of a ban, whose pairs are forgotten.
+    fn drop_ban(&mut self, alloc: Global, ban: u64) -> Result<(), RecordStop>
+        requires { IsSome (next_place self.old.place (entry.DropBan ban)) }
+        ensures { Takes self.old (entry.DropBan ban) self.new result }
+    {
+        let graphs = self.evaluator.graphs();
+        if let Some(reject) = test_drop_ban(graphs, &self.given, &self.dropped, ban) {
+            return Err(RecordStop::Reject(reject));
+        }
+        let clashing = clashing_pairs(alloc)?;
+        self.dropped.drop_ban(ban)?;
+        self.given.forget_ban(ban, clashing);
         Ok(())
     }
 

@@ -6,6 +6,7 @@
 
 mod bans;
 mod checker;
+mod dropped;
 mod fact_log;
 mod fact_logs;
 mod facts;

@@ -4,10 +4,12 @@ ghost use Rattle.std.specs.Prelude.{◌≡◌, ◌+◌, ◌≤◌, ◌↔◌, Is
 ghost use Rattle.circuits.specs.Matches.{HavePorts};
 ghost use Rattle.net_core.specs.Graph.{IsGraph};
 ghost use Rattle.account_check.specs.Conclusions.{entry_of, matching_of, AreInOrder, AreOfKind, EmptyBanTests};
-ghost use Rattle.account_check.specs.Conclusions.{OtherPortsTest, PairTests, PortsTest};
+ghost use Rattle.account_check.specs.Conclusions.{DropTest, OtherPortsTest, PairTests, PortsTest};
+ghost use Rattle.account_check.specs.Drops.{IsBanKept, IsFactKept};
 ghost use Rattle.account_check.specs.declared.reject.RecordStop.TheVariants as stop;
 ghost use Rattle.account_check.specs.declared.reject.Reject.{Reject as AnyReject};
 
+use crate::dropped::Dropped;
 use crate::reject::{RecordStop, Reject};
 use ban_check::{Given, are_known, have_as_many};
 use circuits::{Pair, PortKind};
@@ -26,21 +28,76 @@ pub(crate) fn test_ports(graphs: &Graphs<'_>) -> Option<Reject>
     None
 }
 
-/// What is wrong with the conclusion that there is no match since a ban has no pairs: the circuits differ in their
-/// numbers of ports; the ban wasn't given; it has pairs.
-pub(crate) fn test_empty_ban(graphs: &Graphs<'_>, given: &Given, ban: u64) -> Option<Reject>
-    ensures { PortsTest graphs.now (EmptyBanTests given.now ban) result }
+/// What is wrong with a drop of a fact: the circuits differ in their numbers of ports; it wasn't given, or was dropped.
+pub(crate) fn test_drop_fact(
+    graphs: &Graphs<'_>,
+    given: &Given,
+    dropped: &Dropped,
+    fact: u64,
+) -> Option<Reject>
+    ensures { PortsTest graphs.now (DropTest (IsFactKept given.now dropped.now fact)) result }
 {
     if !have_as_many(graphs) {
         return Some(Reject::Conclusion);
     }
-    if !given.has_ban(ban) {
+    if !is_fact_kept(given, dropped, fact) {
+        return Some(Reject::UnknownId);
+    }
+    None
+}
+
+/// The same of a ban.
+pub(crate) fn test_drop_ban(
+    graphs: &Graphs<'_>,
+    given: &Given,
+    dropped: &Dropped,
+    ban: u64,
+) -> Option<Reject>
+    ensures { PortsTest graphs.now (DropTest (IsBanKept given.now dropped.now ban)) result }
+{
+    if !have_as_many(graphs) {
+        return Some(Reject::Conclusion);
+    }
+    if !is_ban_kept(given, dropped, ban) {
+        return Some(Reject::UnknownId);
+    }
+    None
+}
+
+/// What is wrong with the conclusion that there is no match since a ban has no pairs: the circuits differ in their
+/// numbers of ports; the ban wasn't given, or was dropped; it has pairs.
+pub(crate) fn test_empty_ban(
+    graphs: &Graphs<'_>,
+    given: &Given,
+    dropped: &Dropped,
+    ban: u64,
+) -> Option<Reject>
+    ensures { PortsTest graphs.now (EmptyBanTests given.now dropped.now ban) result }
+{
+    if !have_as_many(graphs) {
+        return Some(Reject::Conclusion);
+    }
+    if !is_ban_kept(given, dropped, ban) {
         return Some(Reject::UnknownId);
     }
     if !given.ban(ban).is_empty() {
         return Some(Reject::Conclusion);
     }
     None
+}
+
+// Whether a fact was given and wasn't dropped.
+fn is_fact_kept(given: &Given, dropped: &Dropped, fact: u64) -> bool
+    ensures { IsTrue result ↔ IsFactKept given.now dropped.now fact }
+{
+    given.has_fact(fact) & dropped.keeps_fact(fact)
+}
+
+// Whether a ban was given and wasn't dropped.
+fn is_ban_kept(given: &Given, dropped: &Dropped, ban: u64) -> bool
+    ensures { IsTrue result ↔ IsBanKept given.now dropped.now ban }
+{
+    given.has_ban(ban) & dropped.keeps_ban(ban)
 }
 
 /// The matching of pairs. They are refused as a conclusion where the circuits differ in their numbers of ports; else as

@@ -17,7 +17,7 @@ use Rattle.account_file.specs.Forms.{record_in}
 use Rattle.account_file.specs.Words.{words_of}
 use Rattle.account_file.specs.Lines.{whole_lines, after_lines}
 use Rattle.account_file.specs.Order.{next_place, place_after}
-use Rattle.account_file.specs.Accounts.{HasForm, AreUnderWay, LineFault}
+use Rattle.account_file.specs.TextAccounts.{HasForm, AreUnderWay, LineFault}
 use Rattle.account_file.specs.Spelling.{IsWritable, line_text, record_line}
 use Rattle.account_file.specs.NextRecords.{in_place, placed, next_from, next_at_line}
 use Rattle.account_file.proofs.BadWordLemmas.{bad_number_found, bad_number_read, bad_word_found, bad_word_read, bad_words}

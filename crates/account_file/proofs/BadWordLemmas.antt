@@ -7,7 +7,7 @@ use Rattle.account_file.specs.declared.fault.RecordFault.TheVariants.{Word, Numb
 use Rattle.account_file.specs.Forms.{record_in}
 use Rattle.account_file.specs.Words.{words_of}
 use Rattle.account_file.specs.Spelling.{line_text}
-use Rattle.account_file.specs.Accounts.{BeginsLine, HasBadNumber, HasBadWord}
+use Rattle.account_file.specs.TextAccounts.{BeginsLine, HasBadNumber, HasBadWord}
 use Rattle.account_file.proofs.GrammarLemmas.{line_is_read}
 use Rattle.account_file.proofs.NumberLemmas.{zero_decimal}
 use Rattle.account_file.proofs.ReadLemmas.{CanRead, IsWordOrNumber}

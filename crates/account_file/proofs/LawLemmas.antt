@@ -19,7 +19,7 @@ use Rattle.account_file.specs.Forms.{record_in}
 use Rattle.account_file.specs.Words.{words_of}
 use Rattle.account_file.specs.Lines.{whole_lines, after_lines}
 use Rattle.account_file.specs.Order.{next_place, place_after, AreInOrder, MayStand}
-use Rattle.account_file.specs.Accounts.{HasForm, AreRecords, LineFault, EndFault, HasFormFault, IsAccountOf, SaysNext}
+use Rattle.account_file.specs.TextAccounts.{HasForm, AreRecords, LineFault, EndFault, HasTextFault, IsTextAccount, SaysLine}
 use Rattle.account_file.specs.NextRecords.{in_place, placed, next_from, next_at_line}
 use Rattle.account_file.proofs.AccountLemmas.{FaultThere, NextSays, fault_there, line_fault, next_at_line_says}
 use Rattle.account_file.proofs.OrderLemmas.{place_after_last, place_there, take_in_order}
@@ -203,22 +203,22 @@ at_all lines records before all few no_more =
     ]
 
 module _ (bytes : List ℕ) (before : List Record) where
-  fault_and_next : (entry : Record) (fault : RecordFault) → HasFormFault bytes before fault → IsNext (whole_lines bytes) before entry → ⊥
+  fault_and_next : (entry : Record) (fault : RecordFault) → HasTextFault bytes before fault → IsNext (whole_lines bytes) before entry → ⊥
   fault_and_next entry fault has next =
       no_fault before (get_or (whole_lines bytes) (length before) []) entry fault has.records.order next.form next.may (has.at_line next.below)
 
-  fault_and_more : (more : List Record) (fault : RecordFault) → HasFormFault bytes before fault → AreRecords (take (length more) (whole_lines bytes)) more → length before < length more → ⊥
+  fault_and_more : (more : List Record) (fault : RecordFault) → HasTextFault bytes before fault → AreRecords (take (length more) (whole_lines bytes)) more → length before < length more → ⊥
   fault_and_more more fault has many less =
       let entry = get_or more (length before) record_of.End in
       fault_and_next entry fault has (next_record (whole_lines bytes) before entry (further (whole_lines bytes) before more has.records many less).next)
 
-  same_fault : (first second : RecordFault) → HasFormFault bytes before first → HasFormFault bytes before second → first ≡ second
+  same_fault : (first second : RecordFault) → HasTextFault bytes before first → HasTextFault bytes before second → first ≡ second
   same_fault first second f s = elim (cases_lt (length before) (length (whole_lines bytes))) [
     | inl below ↦ same_line_fault before (get_or (whole_lines bytes) (length before) []) first second f.records.order (f.at_line below) (s.at_line below)
     | inr past ↦ same_end_fault before (after_lines bytes) first second (f.at_end past) (s.at_end past)
   ]
 
-  account_has_none : (wrong : RecordFault) → IsAccountOf bytes before → HasFormFault bytes before wrong → ⊥
+  account_has_none : (wrong : RecordFault) → IsTextAccount bytes before → HasTextFault bytes before wrong → ⊥
   account_has_none wrong account has =
       let count = as_many (whole_lines bytes) before account.records_are.form in
       by wrong (has.at_end (omega (arith, count)))
@@ -235,7 +235,7 @@ module _ (bytes : List ℕ) (before : List Record) where
   next_and_all entry next all = let count = as_many (whole_lines bytes) before all.form in absurd (omega (arith, count, next.below))
 
 -- after records a text says one thing
-pub one_answer : (bytes : List ℕ) (finished : Bool) (before : List Record) (first second : Result (Option Record) RecordFault) → SaysNext bytes finished before first → SaysNext bytes finished before second → first ≡ second
+pub one_answer : (bytes : List ℕ) (finished : Bool) (before : List Record) (first second : Result (Option Record) RecordFault) → SaysLine bytes finished before first → SaysLine bytes finished before second → first ≡ second
 one_answer bytes finished before (Ok (Some a)) (Ok (Some b)) f s =
     let first = next_record (whole_lines bytes) before a f in
     let second = next_record (whole_lines bytes) before b s in
@@ -257,22 +257,22 @@ one_answer bytes true before (Err a) (Err b) f s = ap Err (same_fault bytes befo
 one_answer bytes false before (Err a) (Err b) f s = ap Err (same_fault bytes before a b f.0 s.0)
 
 -- a text has one first fault
-pub one_fault : (bytes : List ℕ) (before other : List Record) (first second : RecordFault) → HasFormFault bytes before first → HasFormFault bytes other second → (before ≡ other) × (first ≡ second)
+pub one_fault : (bytes : List ℕ) (before other : List Record) (first second : RecordFault) → HasTextFault bytes before first → HasTextFault bytes other second → (before ≡ other) × (first ≡ second)
 one_fault bytes before other first second f s =
-    let same = one_place (whole_lines bytes) (λ records. (fault : RecordFault) × HasFormFault bytes records fault) (λ records has. has.1.records)
+    let same = one_place (whole_lines bytes) (λ records. (fault : RecordFault) × HasTextFault bytes records fault) (λ records has. has.1.records)
     (λ records more has others less. fault_and_more bytes records more has.0 has.1 others.1.records less) before other (first, f) (second, s) in
-    (same, same_fault bytes other first second (subst (λ r. HasFormFault bytes r first) same f) s)
+    (same, same_fault bytes other first second (subst (λ r. HasTextFault bytes r first) same f) s)
 
 -- a text that is an account has no fault
-pub account_or_fault : (bytes : List ℕ) (records before : List Record) (fault : RecordFault) → IsAccountOf bytes records → HasFormFault bytes before fault → ⊥
+pub account_or_fault : (bytes : List ℕ) (records before : List Record) (fault : RecordFault) → IsTextAccount bytes records → HasTextFault bytes before fault → ⊥
 account_or_fault bytes records before fault account has =
     let same = at_all (whole_lines bytes) records before account.records_are has.records (λ are less. fault_and_more bytes before records fault has are less) in
-    account_has_none bytes records fault account (subst (λ r. HasFormFault bytes r fault) same has)
+    account_has_none bytes records fault account (subst (λ r. HasTextFault bytes r fault) same has)
 
 -- each text is an account or has a first fault
 
 abbrev pub SaysSomething : List ℕ → Type 0
-SaysSomething bytes = ((records : List Record) × IsAccountOf bytes records) ⊎ ((before : List Record) × ((fault : RecordFault) × HasFormFault bytes before fault))
+SaysSomething bytes = ((records : List Record) × IsTextAccount bytes records) ⊎ ((before : List Record) × ((fault : RecordFault) × HasTextFault bytes before fault))
 
 -- the first lines are those of records, after which an account stands so
 module _ (bytes : List ℕ) (done left : List (List ℕ)) (before : List Record) (place : Place) (lines : whole_lines bytes ≡ done ++ left) (form : AllZip HasForm done before) (at' : place_after before ≡ Some place) where
@@ -282,7 +282,7 @@ module _ (bytes : List ℕ) (done left : List (List ℕ)) (before : List Record)
       let front : take (length before) (whole_lines bytes) ≡ done = ap (take (length before)) lines ∙ ap (λ n. take n (done ++ left)) (sym count) ∙ take-append_seam done left in
       record { form = subst (λ l. AllZip HasForm l before) (sym front) form; order = subst IsSome (sym at') refl }
 
-  pub refused_at : (line : List ℕ) (more : List (List ℕ)) → left ≡ line ∷ more → (wrong : RecordFault) → FaultThere place line wrong → HasFormFault bytes before wrong
+  pub refused_at : (line : List ℕ) (more : List (List ℕ)) → left ≡ line ∷ more → (wrong : RecordFault) → FaultThere place line wrong → HasTextFault bytes before wrong
   refused_at line more first wrong said =
       let count = as_many done before form in
       let all : whole_lines bytes ≡ done ++ line ∷ more = lines ∙ ap (λ l. done ++ l) first in
@@ -294,7 +294,7 @@ module _ (bytes : List ℕ) (done left : List (List ℕ)) (before : List Record)
         at_end = λ past. absurd (omega (arith, past, count, ap length all, length-append done (line ∷ more)));
       }
 
-  pub refused_end : left ≡ [] → (wrong : RecordFault) → EndFault before (after_lines bytes) wrong → HasFormFault bytes before wrong
+  pub refused_end : left ≡ [] → (wrong : RecordFault) → EndFault before (after_lines bytes) wrong → HasTextFault bytes before wrong
   refused_end none wrong h =
       let count = as_many done before form in
       record {
@@ -303,7 +303,7 @@ module _ (bytes : List ℕ) (done left : List (List ℕ)) (before : List Record)
         at_end = λ _. h;
       }
 
-  pub cut_off : left ≡ [] → place ≢ Ended → HasFormFault bytes before fault.Truncated
+  pub cut_off : left ≡ [] → place ≢ Ended → HasTextFault bytes before fault.Truncated
   cut_off none open' = refused_end none fault.Truncated (λ ended. open' (let same : Some place ≡ Some Ended = sym at' ∙ ended in cc))
 
   accepted : left ≡ [] → place ≡ Ended → after_lines bytes ≡ [] → SaysSomething bytes

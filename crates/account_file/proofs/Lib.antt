@@ -1,5 +1,8 @@
 pub mod AccountLemmas
 pub mod BadWordLemmas
+pub mod BinaryLawLemmas
+pub mod BinaryLemmas
+pub mod BinaryReadingLemmas
 pub mod GrammarLemmas
 pub mod LawLemmas
 pub mod LineLemmas
@@ -11,6 +14,8 @@ pub mod ReadLemmas
 pub mod ReadingLemmas
 pub mod RecordLemmas
 pub mod SpellingLemmas
+pub mod StepLemmas
 pub mod NextLemmas
 pub mod ValueLemmas
+pub mod VersionLemmas
 pub mod WordLemmas

@@ -15,7 +15,9 @@ use Rattle.account_file.specs.declared.next_record.NextRecord.TheVariants.{Wait,
 use Rattle.account_file.specs.Forms.{record_in}
 use Rattle.account_file.specs.Words.{words_of}
 use Rattle.account_file.specs.Reading.{IsCounted, IsReader}
-use Rattle.account_file.specs.NextRecords.{has_line, in_place, line_at, next_from, next_at_line, next_at_end, next_of}
+use Rattle.account_file.specs.Binary.{is_binary}
+use Rattle.account_file.specs.NextRecords.{IsNext, form_at, has_line, in_place, line_at, looked_after, next_from, next_at_line, next_at_end, next_of}
+use Rattle.account_file.proofs.ReadingLemmas.{waits}
 
 by_used : (used : ℕ) (found : Result (Record × Place) RecordFault) (entry : Record) (place : Place) (n : ℕ) → next_from used found ≡ Read entry place n → used ≡ n
 by_used used (Ok found) entry place n e = cc
@@ -46,13 +48,31 @@ used_within left finished place entry after n e =
     no_read true read = at_end place left entry after n read
     no_read false read = cc
 
--- the same of bytes of which the first were read
-pub used_of : (bytes all : List ℕ) (start : ℕ) (finished : Bool) (place : Place) (entry : Record) (after : Place) (n : ℕ) → all ≡ bytes → next_of (take (length all - start) (drop start all)) finished place ≡ Read entry after n → (2 ≤ n) × (n ≤ length bytes - start)
-used_of bytes all start finished place entry after n same e =
-    let used = used_within (take (length all - start) (drop start all)) finished place entry after n e in
+-- the same in either version, of bytes of which the first were read
+used_in : (binary : Bool) (left : List ℕ) (finished : Bool) (place : Place) (entry : Record) (after : Place) (n : ℕ) → IsNext binary left finished place (Read entry after n) → (2 ≤ n) × (n ≤ length left)
+used_in false left finished place entry after n is = used_within left finished place entry after n (sym is)
+used_in true left finished place entry after n is = (is.some_used, is.within)
+
+pub used_of : (binary : Bool) (bytes all : List ℕ) (start : ℕ) (finished : Bool) (place : Place) (entry : Record) (after : Place) (n : ℕ) → all ≡ bytes → IsNext binary (take (length all - start) (drop start all)) finished place (Read entry after n) → (2 ≤ n) × (n ≤ length bytes - start)
+used_of binary bytes all start finished place entry after n same is =
+    let used = used_in binary (take (length all - start) (drop start all)) finished place entry after n is in
     (used.0, omega (arith, used.1, length-take (length all - start) (drop start all), length-drop start all, ap length same))
 
--- one line more was given
+-- a reader of text waits where no line feed is left
+pub waits_in : (binary : Bool) (left : List ℕ) (finished : Bool) (place : Place) → IsNext binary left finished place Wait → looked_after binary (length left) ≤ position_or_len is_line_feed left
+waits_in false left finished place is = waits left finished place (sym is)
+waits_in true left finished place is = omega arith
+
+-- the version, where no record was given
+pub form_told : (place : Place) (left : List ℕ) (binary found : Bool) → found ≡ form_at place left binary → place ≡ Start → is_binary left ≡ found
+form_told place left binary found e start = sym (e ∙ ap (λ p. form_at p left binary) start)
+
+-- what is done, by the bytes that a reader has
+pub next_here : (slice left : List ℕ) (found binary finished : Bool) (place : Place) (next : NextRecord) → slice ≡ left → found ≡ form_at place slice binary → IsNext found slice finished place next → IsNext (form_at place left binary) left finished place next
+next_here slice left found binary finished place next same form is =
+    subst (λ l. IsNext (form_at place l binary) l finished place next) same (subst (λ f. IsNext f slice finished place next) form is)
+
+-- one record more was given
 pub counted_more : (given : Option RecordFault) (line left total used : ℕ) → ((x : RecordFault) → given ≡ Some x → ⊥) → IsCounted given line left total → 2 ≤ used → used ≤ left → IsCounted given (line + 1) (left - used) total
 counted_more None line left total used none counted two within = omega (arith, counted, two, within)
 counted_more (Some fault) line left total used none counted two within = absurd (none fault refl)

@@ -1,31 +1,24 @@
--- What the next record, or the first fault, says of the whole text, and how far the text was read after it.
-use Rattle.std.proofs.Common.{◌≡◌, ◌≢◌, ℕ, ◌+◌, ◌<◌, ◌≤◌, Bool, true, false, cond, List, [], ◌∷◌, ◌++◌, length, get_or, take, drop, All, Option, Some, None, IsSome, IfSome, is_some, Result, Ok, Err, refl, sym, ap, subst, ◌∙◌, arith, append_assoc, append-nil, length-append, length-take-le}
+-- What the next line, or the first fault, says of a whole text, and what is left after it.
+use Rattle.std.proofs.Common.{◌≡◌, ℕ, ◌+◌, ◌<◌, ◌≤◌, Bool, true, false, cond, List, [], ◌∷◌, ◌++◌, length, get_or, take, drop, All, Some, IsSome, Err, refl, sym, ap, subst, ◌∙◌, arith, append_assoc, append-nil, length-append, length-take-le}
 use Rattle.std.specs.List.{AllZip, flat_map, before_first, after_first, position_or_len}
 use Rattle.std.proofs.Math.Seq.{take-append-add}
 use Rattle.std.proofs.lemmas.Bool.{ltb-true, ltb-false}
 use Rattle.std.proofs.lemmas.List.{take-append-le, get_or_append_left}
-use Rattle.std.proofs.lemmas.List.Elements.{All-push}
-use Rattle.std.proofs.lemmas.Option.{IfSome_then}
-use Rattle.std.proofs.lemmas.Grind.{flat_map-append}
 use Rattle.std.proofs.lemmas.Slice.Zip.{all_zipped_more}
 use Rattle.text_core.specs.Bytes.{is_line_feed}
 use Rattle.text_core.specs.Lines.{IsLine}
 use Rattle.account_file.specs.declared.record.Record.{Record}
 use Rattle.account_file.specs.declared.fault.RecordFault.{RecordFault}
 use Rattle.account_file.specs.declared.fault.RecordFault.TheVariants as fault
-use Rattle.account_file.specs.declared.fault.FileStop.{FileStop}
-use Rattle.account_file.specs.declared.fault.FileStop.TheVariants.{Fault, Memory}
 use Rattle.account_file.specs.declared.place.Place.{Place}
 use Rattle.account_file.specs.declared.place.Place.TheVariants.{Ended}
 use Rattle.account_file.specs.declared.next_record.NextRecord.{NextRecord}
 use Rattle.account_file.specs.declared.next_record.NextRecord.TheVariants.{Wait, Read, Refuse}
 use Rattle.account_file.specs.Lines.{whole_lines, after_lines}
 use Rattle.account_file.specs.Order.{next_place, place_after, AreInOrder}
-use Rattle.account_file.specs.Accounts.{HasForm, AreRecords, LineFault, EndFault, HasFormFault, SaysNext}
-use Rattle.account_file.specs.Reading.{Reading, HasRead, given_by}
+use Rattle.account_file.specs.TextAccounts.{HasForm, AreRecords, LineFault, EndFault, HasTextFault, SaysLine}
 use Rattle.account_file.specs.Spelling.{IsWritable, record_line}
-use Rattle.account_file.specs.NextRecords.{has_line, next_at_line, next_at_end, next_of, answer_by, reading_after, next_answer, next_reading}
-use Rattle.account_file.specs.Texts.{Answers, Says}
+use Rattle.account_file.specs.NextRecords.{has_line, next_at_line, next_at_end, next_of, answer_by}
 use Rattle.account_file.proofs.AccountLemmas.{texts_of, length_texts, lines_of_records, after_records, have_forms, FaultThere, NextSays, next_at_line_says}
 use Rattle.account_file.proofs.LineLemmas.{lines_first, lines_none, after_none, cut_first, before_first_is_line, no_line_feed_is_line, lines_stay}
 use Rattle.account_file.proofs.LawLemmas.{cut_off, refused_at, refused_end}
@@ -58,10 +51,10 @@ module _ (bytes left : List ℕ) (records : List Record) (place : Place) (text :
         ap (take (length records + 1)) with_line ∙ ap (λ n. take (n + 1) (texts_of records ++ line ∷ whole_lines more)) (sym (length_texts records))
         ∙ take-append-add (texts_of records) (line ∷ whole_lines more) 1
 
-    refused : (wrong : RecordFault) → FaultThere place line wrong → HasFormFault bytes records wrong
+    refused : (wrong : RecordFault) → FaultThere place line wrong → HasTextFault bytes records wrong
     refused = refused_at bytes (texts_of records) (whole_lines left) records place lines_are (have_forms records w) at' line (whole_lines more) first
 
-    line_says : (finished : Bool) (next : NextRecord) → NextSays place line next → SaysNext bytes finished records (answer_by next)
+    line_says : (finished : Bool) (next : NextRecord) → NextSays place line next → SaysLine bytes finished records (answer_by next)
     line_says finished Wait said = absurd said
     line_says finished (Read entry after used) said = record {
       form = subst (λ l. AllZip HasForm l (records ++ entry ∷ [])) (sym front_is) (all_zipped_more HasForm (texts_of records) records line entry (have_forms records w) said.0);
@@ -81,13 +74,13 @@ module _ (bytes left : List ℕ) (records : List Record) (place : Place) (text :
     left_is : after_lines bytes ≡ left
     left_is = rest_is ∙ after_none left none
 
-    end_fault : (wrong : RecordFault) → EndFault records left wrong → HasFormFault bytes records wrong
+    end_fault : (wrong : RecordFault) → EndFault records left wrong → HasTextFault bytes records wrong
     end_fault wrong h =
         refused_end bytes (texts_of records) (whole_lines left) records place lines_are (have_forms records w) at' (lines_none left none) wrong
         (subst (λ l. EndFault records l wrong) (sym left_is) h)
 
 end_says : (bytes left : List ℕ) (records : List Record) (place : Place) → bytes ≡ flat_map record_line records ++ left → All IsWritable records → place_after records ≡ Some place
-    → IsLine left → SaysNext bytes true records (answer_by (next_at_end place left))
+    → IsLine left → SaysLine bytes true records (answer_by (next_at_end place left))
 end_says bytes [] records Ended text w at' none = record {
   records_are = all_are bytes [] records Ended text w at' none;
   ended = at';
@@ -106,15 +99,15 @@ line_missing : (left : List ℕ) → has_line left ≡ false → IsLine left
 line_missing left missing = no_line_feed_is_line left (ltb-false (position_or_len is_line_feed left) (length left) missing)
 
 pub next_of_says : (bytes left : List ℕ) (records : List Record) (place : Place) (finished : Bool) → bytes ≡ flat_map record_line records ++ left → All IsWritable records
-    → place_after records ≡ Some place → SaysNext bytes finished records (answer_by (next_of left finished place))
+    → place_after records ≡ Some place → SaysLine bytes finished records (answer_by (next_of left finished place))
 next_of_says bytes left records place finished text w at' = by (has_line left) refl
   where
-    at_end : (f : Bool) → IsLine left → SaysNext bytes f records (answer_by (cond f (next_at_end place left) Wait))
+    at_end : (f : Bool) → IsLine left → SaysLine bytes f records (answer_by (cond f (next_at_end place left) Wait))
     at_end true none = end_says bytes left records place text w at' none
     at_end false none = all_are bytes left records place text w at' none
 
     by : (b : Bool) → has_line left ≡ b
-        → SaysNext bytes finished records (answer_by (cond b (next_at_line place (before_first is_line_feed left)) (cond finished (next_at_end place left) Wait)))
+        → SaysLine bytes finished records (answer_by (cond b (next_at_line place (before_first is_line_feed left)) (cond finished (next_at_end place left) Wait)))
     by true there =
         let line = before_first is_line_feed left in
         line_says bytes left records place text w at' line (after_first is_line_feed left) (cut_first left (line_below left there)) (before_first_is_line left)
@@ -133,8 +126,8 @@ waits left finished place e = by (has_line left) refl
     by false missing = ltb-false (position_or_len is_line_feed left) (length left) missing
 
 -- the fault of a text stays where the text goes on after its line
-pub fault_stays : (bytes piece : List ℕ) (records : List Record) (wrong : RecordFault) → SaysNext bytes false records (Err wrong) → SaysNext (bytes ++ piece) false records (Err wrong)
-fault_stays bytes piece records wrong said =
+pub text_fault_stays : (bytes piece : List ℕ) (records : List Record) (wrong : RecordFault) → SaysLine bytes false records (Err wrong) → SaysLine (bytes ++ piece) false records (Err wrong)
+text_fault_stays bytes piece records wrong said =
     let k = length records in
     let more = lines_stay bytes piece in
     let has = said.0 in
@@ -152,40 +145,15 @@ fault_stays bytes piece records wrong said =
       longer,
     )
 
-pub read_feed : (reading : Reading) (bytes piece : List ℕ) (records : List Record) → reading.finished ≡ false → HasRead reading bytes records
-    → HasRead (record reading { left = reading.left ++ piece; total = reading.total + length piece }) (bytes ++ piece) records
-read_feed reading bytes piece records more has = record {
-  text = ap (λ l. l ++ piece) has.text ∙ append_assoc (flat_map record_line records) reading.left piece;
-  writable = has.writable;
-  place = has.place;
-  line = has.line;
-  total = omega (arith, has.total, length-append bytes piece);
-  fault = IfSome_then reading.fault has.fault
-      (λ wrong said. subst (λ f. SaysNext (bytes ++ piece) f records (Err wrong)) (sym more) (fault_stays bytes piece records wrong (subst (λ f. SaysNext bytes f records (Err wrong)) more said)));
-}
-
--- what the next record says, and leaves
-
-pub next_says : (reading : Reading) (bytes : List ℕ) (records : List Record) → HasRead reading bytes records → SaysNext bytes reading.finished records (next_answer reading.fault reading)
-next_says reading bytes records has = by reading.fault has.fault
-  where
-    by : (given : Option RecordFault) → IfSome given (λ wrong. SaysNext bytes reading.finished records (Err wrong)) → SaysNext bytes reading.finished records (next_answer given reading)
-    by None h = next_of_says bytes reading.left records reading.place reading.finished has.text has.writable has.place
-    by (Some wrong) h = h
-
--- as the line's number counts a fault
-abbrev faults_given : Option RecordFault → ℕ
-faults_given given = cond (is_some given) 1 0
-
 -- what is left after a record
-record NextLeaves (place : Place) (left : List ℕ) (entry : Record) (after : Place) (used : ℕ) : Type 0 where
+pub record TextLeaves (place : Place) (left : List ℕ) (entry : Record) (after : Place) (used : ℕ) : Type 0 where
   pub writable : IsWritable entry
   pub text : left ≡ record_line entry ++ drop used left
   pub place_is : next_place place entry ≡ Some after
 
-abbrev Leaves : Place → List ℕ → NextRecord → Type 0
+abbrev pub Leaves : Place → List ℕ → NextRecord → Type 0
 Leaves place left Wait = Unit {0}
-Leaves place left (Read entry after used) = NextLeaves place left entry after used
+Leaves place left (Read entry after used) = TextLeaves place left entry after used
 Leaves place left (Refuse wrong) = Unit {0}
 
 leaves : (place : Place) (left : List ℕ) (next : NextRecord) → position_or_len is_line_feed left < length left → NextSays place (before_first is_line_feed left) next → Leaves place left next
@@ -203,7 +171,7 @@ leaves place left (Read entry after used) below said =
       place_is = said.1;
     }
 
-next_leaves : (place : Place) (left : List ℕ) (finished : Bool) → Leaves place left (next_of left finished place)
+pub next_leaves : (place : Place) (left : List ℕ) (finished : Bool) → Leaves place left (next_of left finished place)
 next_leaves place left finished = by (has_line left) refl
   where
     ended : (p : Place) (l : List ℕ) → Leaves p l (next_at_end p l)
@@ -217,57 +185,3 @@ next_leaves place left finished = by (has_line left) refl
     by : (b : Bool) → has_line left ≡ b → Leaves place left (cond b (next_at_line place (before_first is_line_feed left)) (cond finished (next_at_end place left) Wait))
     by true there = leaves place left (next_at_line place (before_first is_line_feed left)) (line_below left there) (next_at_line_says place (before_first is_line_feed left))
     by false missing = at_end finished
-
-without_fault : (given : Option RecordFault) → given ≡ None → faults_given given ≡ 0
-without_fault given none = ap faults_given none
-
-module _ (reading : Reading) (bytes : List ℕ) (records : List Record) (has : HasRead reading bytes records) where
-  reads_nothing : HasRead reading bytes (records ++ [])
-  reads_nothing = subst (λ l. HasRead reading bytes l) (sym (append-nil records)) has
-
-  reads_next : (next : NextRecord) → reading.fault ≡ None → Leaves reading.place reading.left next → SaysNext bytes reading.finished records (answer_by next)
-      → HasRead (reading_after reading next) bytes (records ++ given_by (answer_by next))
-  reads_next Wait none left' said = reads_nothing
-  reads_next (Read entry after used) none left' said = record {
-    text = has.text ∙ ap (λ l. flat_map record_line records ++ l) left'.text ∙ sym (append_assoc (flat_map record_line records) (record_line entry) (drop used reading.left))
-        ∙ ap (λ l. l ++ drop used reading.left) (ap (λ l. flat_map record_line records ++ l) (sym (append-nil (record_line entry))) ∙ sym (flat_map-append record_line records (entry ∷ [])));
-    writable = All-push IsWritable records entry has.writable left'.writable;
-    place = place_after_last records entry reading.place has.place ∙ left'.place_is;
-    line = let given = without_fault reading.fault none in omega (arith, given, has.line, length-append records (entry ∷ []));
-    total = has.total;
-    fault = subst (λ o. IfSome o (λ wrong. SaysNext bytes reading.finished (records ++ entry ∷ []) (Err wrong))) (sym none) tt;
-  }
-  reads_next (Refuse wrong) none left' said = record {
-    text = has.text ∙ ap (λ l. flat_map record_line l ++ reading.left) (sym (append-nil records));
-    writable = subst (All IsWritable) (sym (append-nil records)) has.writable;
-    place = ap place_after (append-nil records) ∙ has.place;
-    line = let given = without_fault reading.fault none in omega (arith, given, has.line, length-append records []);
-    total = has.total;
-    fault = subst (λ l. SaysNext bytes reading.finished l (Err wrong)) (sym (append-nil records)) said;
-  }
-
-  next_reads : HasRead (next_reading reading.fault reading) bytes (records ++ given_by (next_answer reading.fault reading))
-  next_reads = by reading.fault refl
-    where
-      by : (given : Option RecordFault) → reading.fault ≡ given → HasRead (next_reading given reading) bytes (records ++ given_by (next_answer given reading))
-      by None none =
-          reads_next (next_of reading.left reading.finished reading.place) none (next_leaves reading.place reading.left reading.finished)
-          (next_of_says bytes reading.left records reading.place reading.finished has.text has.writable has.place)
-      by (Some wrong) given = reads_nothing
-
--- where an answer is what the next record says, or memory ran out
-
-pub answer_says : (result : Result (Option Record) FileStop) (meant : Result (Option Record) RecordFault) (P : Result (Option Record) RecordFault → Type 0) → Answers (λ found. found) result meant → P meant → Says result P
-answer_says (Ok found) meant P is h = subst P is h
-answer_says (Err (Fault wrong)) meant P is h = subst P is h
-answer_says (Err Memory) meant P is h = tt
-
-pub answer_reads : (result : Result (Option Record) FileStop) (old new : Reading) (bytes : List ℕ) (records : List Record) → Answers (λ found. found) result (next_answer old.fault old)
-    → (result ≢ Err Memory → new ≡ next_reading old.fault old) → (result ≡ Err Memory → new ≡ old) → HasRead old bytes records → HasRead new bytes (records ++ given_by result)
-answer_reads (Ok found) old new bytes records is moved stayed has =
-    let read = subst (λ a. HasRead (next_reading old.fault old) bytes (records ++ given_by a)) is (next_reads old bytes records has) in
-    subst (λ r. HasRead r bytes (records ++ given_by {E = FileStop} (Ok found))) (sym (moved (λ e. cc))) read
-answer_reads (Err (Fault wrong)) old new bytes records is moved stayed has =
-    let read = subst (λ a. HasRead (next_reading old.fault old) bytes (records ++ given_by a)) is (next_reads old bytes records has) in
-    subst (λ r. HasRead r bytes (records ++ [])) (sym (moved (λ e. cc))) read
-answer_reads (Err Memory) old new bytes records is moved stayed has = subst (λ r. HasRead r bytes (records ++ [])) (sym (stayed refl)) (reads_nothing old bytes records has)

@@ -89,6 +89,8 @@ front_back (record_of.Ban ban) w =
     ∙ ap (λ (a : Parsed Step). followed a (λ step words. Ok (record_of.Ban (record { pairs = ban.pairs; step = step }), words))) (step_back ban.step w.step)
 front_back (record_of.Conclusion (NoneBan ban)) w = give number_is_word ban [] _ w
 front_back (record_of.Conclusion (Match pairs)) w = give_last pair_is_word pair_items pairs _ w
+front_back (record_of.DropFact fact) w = absurd w
+front_back (record_of.DropBan ban) w = absurd w
 front_back other w = refl
 
 pub record_read : (entry : Record) → IsWritable entry → record_in (record_words entry) ≡ Ok entry

@@ -1,98 +1,73 @@
--- An account as its whole bytes: the records of its lines, and its first fault of form (this project's format).
-use Rattle.std.specs.Prelude.{◌≡◌, ◌≢◌, ℕ, ◌+◌, ◌<◌, ◌≤◌, ◌^◌, Bool, true, false, List, [], ◌∷◌, ◌++◌, codes, length, take, slice_index_or, Option, None, Some}
-use Rattle.std.specs.Prelude.{Result, Ok, Err}
-use Rattle.std.specs.Fmt.{decimal}
-use Rattle.std.specs.List.{AllZip}
-use Rattle.text_core.specs.Numbers.{is_numeral}
+-- An account as its whole bytes, of either version (this project's format): its records, and its first fault of form.
+-- The first eight bytes say which.
+use Rattle.std.specs.Prelude.{ℕ, Bool, true, false, List, [], ◌∷◌, ◌++◌, length, take, nat_eq, Option, None, Some, Result, if◌then◌else◌}
+use Rattle.std.specs.List.{starts_with}
 use Rattle.account_file.specs.declared.record.Record.{Record}
 use Rattle.account_file.specs.declared.fault.RecordFault.{RecordFault}
-use Rattle.account_file.specs.declared.fault.RecordFault.TheVariants as fault
-use Rattle.account_file.specs.Words.{words_of}
-use Rattle.account_file.specs.Lines.{whole_lines, after_lines}
-use Rattle.account_file.specs.Order.{AreInOrder, MayStand, HaveEnded}
-use Rattle.account_file.specs.Spelling.{IsWritable, record_line}
+use Rattle.account_file.specs.Lines.{whole_lines}
+use Rattle.account_file.specs.TextAccounts.{AreRecords, HasTextFault, IsNextLine, IsTextAccount, SaysLine}
+use Rattle.account_file.specs.Binary.{is_binary, signature}
+use Rattle.account_file.specs.BinaryAccounts.{AreAllEntries, AreFirstEntries, HasBinaryFault, IsBinaryAccount, SaysEntry}
 
--- A line has the form of a record where it is the one spelling of it.
-abbrev pub HasForm : List ℕ → Record → Type 0
-HasForm line entry = IsWritable entry × (record_line entry ≡ line ++ 10 ∷ [])
+-- each by whether bytes are of version 2
 
--- Lines are these records: each has its record's form, and each record may stand where it does.
-pub record AreRecords (lines : List (List ℕ)) (records : List Record) : Type 0 where
-  pub form : AllZip HasForm lines records
-  pub order : AreInOrder records
+abbrev pub AreFirstBy : Bool → List ℕ → List Record → Type 0
+AreFirstBy false bytes records = AreRecords (take (length records) (whole_lines bytes)) records
+AreFirstBy true bytes records = AreFirstEntries bytes records
 
--- Records stand after the header, and their account hasn't ended.
-pub record AreUnderWay (records : List Record) : Type 0 where
-  pub begun : records ≢ []
-  pub not_ended : HaveEnded records → ⊥
+abbrev pub AreAllBy : Bool → List ℕ → List Record → Type 0
+AreAllBy false bytes records = AreRecords (whole_lines bytes) records
+AreAllBy true bytes records = AreAllEntries bytes records
 
--- Words begin the line of some record.
-pub record BeginsLine (words : List (List ℕ)) : Type 0 where
-  pub line : List ℕ
-  pub entry : Record
-  pub form : HasForm line entry
-  pub after : List (List ℕ)
-  pub words_are : words_of line ≡ words ++ after
+abbrev pub HasFaultBy : Bool → List ℕ → List Record → RecordFault → Type 0
+HasFaultBy false bytes before fault = HasTextFault bytes before fault
+HasFaultBy true bytes before fault = HasBinaryFault bytes before fault
 
--- The first word of a line with which its words begin no record's line is digits, where any number may stand.
-pub record HasBadNumber (line : List ℕ) : Type 0 where
-  pub before : List (List ℕ)
-  pub word : List ℕ
-  pub after : List (List ℕ)
-  pub words_are : words_of line ≡ before ++ word ∷ after
-  pub digits : is_numeral word ≡ true
-  pub begins_none : BeginsLine (before ++ word ∷ []) → ⊥
-  pub number_fits : (n : ℕ) → n < 2 ^ 32 → BeginsLine (before ++ decimal n ∷ [])
+abbrev pub IsAccountBy : Bool → List ℕ → List Record → Type 0
+IsAccountBy false bytes records = IsTextAccount bytes records
+IsAccountBy true bytes records = IsBinaryAccount bytes records
 
--- A line has no record's form, and not for a bad number.
-pub record HasBadWord (line : List ℕ) : Type 0 where
-  pub no_record : (entry : Record) → HasForm line entry → ⊥
-  pub no_number : HasBadNumber line → ⊥
+abbrev pub IsNextBy : Bool → List ℕ → List Record → Record → Type 0
+IsNextBy false bytes before entry = IsNextLine bytes before entry
+IsNextBy true bytes before entry = AreFirstEntries bytes (before ++ entry ∷ [])
 
--- a line has the form of a record that may not stand after these
-pub record IsOutOfOrder (before : List Record) (line : List ℕ) : Type 0 where
-  pub entry : Record
-  pub form : HasForm line entry
-  pub out_of_order : MayStand before entry → ⊥
+abbrev pub SaysBy : Bool → List ℕ → Bool → List Record → Result (Option Record) RecordFault → Type 0
+SaysBy false bytes finished before says = SaysLine bytes finished before says
+SaysBy true bytes finished before says = SaysEntry bytes finished before says
 
--- what is wrong with a whole line after records
-abbrev pub LineFault : List Record → List ℕ → RecordFault → Type 0
-LineFault before line fault.Header = (before ≡ []) × (line ≢ codes "npnp 1")
-LineFault before line fault.Word = AreUnderWay before × HasBadWord line
-LineFault before line fault.Number = AreUnderWay before × HasBadNumber line
-LineFault before line fault.Order = AreUnderWay before × IsOutOfOrder before line
-LineFault before line fault.Truncated = ⊥
-LineFault before line fault.Trailing = HaveEnded before
+-- the first records of bytes are these
+abbrev pub AreFirst : List ℕ → List Record → Type 0
+AreFirst bytes records = AreFirstBy (is_binary bytes) bytes records
 
--- what is wrong where no whole line is left after records, but this rest
-abbrev pub EndFault : List Record → List ℕ → RecordFault → Type 0
-EndFault before rest fault.Truncated = HaveEnded before → ⊥
-EndFault before rest fault.Trailing = HaveEnded before × (rest ≢ [])
-EndFault before rest other = ⊥
+-- all whole records of bytes are these
+abbrev pub AreAll : List ℕ → List Record → Type 0
+AreAll bytes records = AreAllBy (is_binary bytes) bytes records
 
--- The first fault of form of a text is after the lines of these records: at the next line, or where the whole lines
--- end.
-pub record HasFormFault (bytes : List ℕ) (before : List Record) (fault : RecordFault) : Type 0 where
-  pub records : AreRecords (take (length before) (whole_lines bytes)) before
-  pub at_line : length before < length (whole_lines bytes)
-      → LineFault before (slice_index_or (whole_lines bytes) (length before) []) fault
-  pub at_end : length (whole_lines bytes) ≤ length before → EndFault before (after_lines bytes) fault
+-- the first fault of form of bytes is after these records
+abbrev pub HasFormFault : List ℕ → List Record → RecordFault → Type 0
+HasFormFault bytes before fault = HasFaultBy (is_binary bytes) bytes before fault
 
--- A text has no fault of form: its lines are these records, the last is the end, and nothing stands after.
-pub record IsAccountOf (bytes : List ℕ) (records : List Record) : Type 0 where
-  pub records_are : AreRecords (whole_lines bytes) records
-  pub ended : HaveEnded records
-  pub nothing_after : after_lines bytes ≡ []
+-- bytes have no fault of form: they are these records, the last is the end, and nothing stands after
+abbrev pub IsAccountOf : List ℕ → List Record → Type 0
+IsAccountOf bytes records = IsAccountBy (is_binary bytes) bytes records
 
--- The next record of a text after these: the next line has its form, and it may stand there.
+-- the next record of bytes after these: it has its form, and may stand there
 abbrev pub IsNextRecord : List ℕ → List Record → Record → Type 0
-IsNextRecord bytes before entry = AreRecords (take (length before + 1) (whole_lines bytes)) (before ++ entry ∷ [])
+IsNextRecord bytes before entry = IsNextBy (is_binary bytes) bytes before entry
 
--- What a text says after the lines of these records: the next record, nothing, or the first fault. Where more bytes
--- may come, what stands after the last line feed says nothing yet.
+-- what bytes say after these records: the next one, nothing, or the first fault
 abbrev pub SaysNext : List ℕ → Bool → List Record → Result (Option Record) RecordFault → Type 0
-SaysNext bytes finished before (Ok (Some entry)) = IsNextRecord bytes before entry
-SaysNext bytes true before (Ok None) = IsAccountOf bytes before
-SaysNext bytes false before (Ok None) = AreRecords (whole_lines bytes) before
-SaysNext bytes true before (Err fault) = HasFormFault bytes before fault
-SaysNext bytes false before (Err fault) = HasFormFault bytes before fault × (length before < length (whole_lines bytes))
+SaysNext bytes finished before says = SaysBy (is_binary bytes) bytes finished before says
+
+-- bytes are a first part of the signature
+abbrev pub may_be_binary : List ℕ → Bool
+may_be_binary bytes = starts_with nat_eq signature bytes
+
+-- The version of an account of which these bytes came, and perhaps more will: a part of the signature doesn't say it.
+abbrev pub version_by : Bool → Bool → Option ℕ
+version_by true undecided = Some 2
+version_by false true = None
+version_by false false = Some 1
+
+abbrev pub version_of : List ℕ → Bool → Option ℕ
+version_of bytes finished = version_by (is_binary bytes) (if finished then false else may_be_binary bytes)

@@ -3,6 +3,9 @@ pub mod Words
 pub mod Forms
 pub mod Lines
 pub mod Order
+pub mod TextAccounts
+pub mod Binary
+pub mod BinaryAccounts
 pub mod Accounts
 pub mod Reading
 pub mod NextRecords

@@ -1,5 +1,5 @@
 -- What may stand after what in an account (this project's format): the header; facts and bans in any order, after a
--- fact that holds the lines of its log; a conclusion; the logs that prove it; the end.
+-- fact that holds the lines of its log, and drops between them; a conclusion; the logs that prove it; the end.
 use Rattle.std.specs.Prelude.{◌≡◌, ℕ, ◌-◌, ◌*◌, ◌==◌, Bool, true, false, List, [], ◌∷◌, ◌++◌, count_by, fold, Option, None, Some, IsSome, option_and_then}
 use Rattle.std.specs.Prelude.{if◌then◌else◌}
 use Rattle.circuits.specs.declared.port.Pair.{Pair}
@@ -42,6 +42,8 @@ next_place Start record_of.Header = Some Headed
 next_place Headed (record_of.Fact (Fails claim bits)) = Some Headed
 next_place Headed (record_of.Fact (Holds claim)) = Some FactLog
 next_place Headed (record_of.Ban ban) = Some Headed
+next_place Headed (record_of.DropFact fact) = Some Headed
+next_place Headed (record_of.DropBan ban) = Some Headed
 next_place Headed (record_of.Conclusion conclusion) = Some (Logs (logs_asked conclusion))
 next_place FactLog (record_of.Line line) = Some (place_in_log line.clause)
 next_place (Logs logs) (record_of.Line line) = if logs == 0 then None else Some (Logs (logs_after logs line.clause))

@@ -1,5 +1,6 @@
--- How far a text was read.
-use Rattle.std.specs.Prelude.{◌≡◌, ℕ, ◌+◌, ◌-◌, ◌*◌, ◌≤◌, Bool, List, [], ◌∷◌, ◌++◌, length, drop, All, Option, None, Some, IfSome, is_some, Result, Ok, Err}
+-- How far an account was read.
+use Rattle.std.specs.Prelude.{◌≡◌, ℕ, ◌+◌, ◌-◌, ◌*◌, ◌≤◌, Bool, true, false, List, [], ◌∷◌, ◌++◌, length}
+use Rattle.std.specs.Prelude.{drop, All, Option, None, Some, IfSome, is_some, Result, Ok, Err}
 use Rattle.std.specs.Prelude.{if◌then◌else◌}
 use Rattle.std.specs.List.{flat_map, position_or_len}
 use Rattle.text_core.specs.Bytes.{is_line_feed}
@@ -9,21 +10,33 @@ use Rattle.account_file.specs.declared.place.Place.{Place}
 use Rattle.account_file.specs.Accounts.{SaysNext}
 use Rattle.account_file.specs.Order.{place_after}
 use Rattle.account_file.specs.Spelling.{IsWritable, record_line}
+use Rattle.account_file.specs.Binary.{HasBytes, record_bytes}
 
--- How far a text was read: the bytes that are left; whether no more come; the number of the line that was given or
--- refused last; where the account stands; the fault that was given; and how many bytes came in all.
+-- How far an account was read: the bytes that are left; whether no more come; the number of the record that was given
+-- or refused last; where the account stands; whether it is of version 2, which is known once a record was given; the
+-- fault that was given; and how many bytes came in all.
 pub record Reading : Type 0 where
   pub left : List ℕ
   pub finished : Bool
   pub line : ℕ
   pub place : Place
+  pub binary : Bool
   pub fault : Option RecordFault
   pub total : ℕ
 
--- Of the text `bytes`, which came in whatever pieces, these records were given, and perhaps the fault after them.
+-- the bytes of a record in either version, and which records have some
+abbrev pub spelled : Bool → Record → List ℕ
+spelled false entry = record_line entry
+spelled true entry = record_bytes entry
+
+abbrev pub IsSpelled : Bool → Record → Type 0
+IsSpelled false entry = IsWritable entry
+IsSpelled true entry = HasBytes entry
+
+-- Of the account `bytes`, which came in whatever pieces, these records were given, and perhaps the fault after them.
 pub record HasRead (reading : Reading) (bytes : List ℕ) (records : List Record) : Type 0 where
-  pub text : bytes ≡ flat_map record_line records ++ reading.left
-  pub writable : All IsWritable records
+  pub text : bytes ≡ flat_map (spelled reading.binary) records ++ reading.left
+  pub writable : All (IsSpelled reading.binary) records
   pub place : place_after records ≡ Some reading.place
   pub line : reading.line ≡ length records + (if is_some reading.fault then 1 else 0)
   pub total : reading.total ≡ length bytes
@@ -35,7 +48,7 @@ given_by {E} (Ok (Some entry)) = entry ∷ []
 given_by {E} (Ok None) = []
 given_by {E} (Err stop) = []
 
--- each line that was given has a byte and its line feed
+-- each record that was given has two bytes at least
 abbrev pub IsCounted : Option RecordFault → ℕ → ℕ → ℕ → Type 0
 IsCounted None line left total = 2 * line + left ≤ total
 IsCounted (Some fault) line left total = Unit {0}

@@ -86,7 +86,7 @@ step_words (Cover kind from to refs) =
     codes "cover" ∷ kind_word kind
     ∷ (map decimal from ++ codes "/" ∷ (map decimal to ++ codes "/" ∷ map reference_word refs))
 
--- the first word of a record's line
+-- the first word of a record's line; a drop has no line
 abbrev pub first_word : Record → List ℕ
 first_word record_of.Header = codes "npnp"
 first_word (record_of.Fact (Fails claim bits)) = codes "fails"
@@ -97,6 +97,8 @@ first_word (record_of.Conclusion NonePorts) = codes "none"
 first_word (record_of.Conclusion (NoneBan ban)) = codes "none"
 first_word (record_of.Conclusion (Match pairs)) = codes "match"
 first_word record_of.End = codes "end"
+first_word (record_of.DropFact fact) = []
+first_word (record_of.DropBan ban) = []
 
 -- the words after it
 abbrev pub other_words : Record → List (List ℕ)
@@ -110,6 +112,8 @@ other_words (record_of.Conclusion NonePorts) = codes "ports" ∷ []
 other_words (record_of.Conclusion (NoneBan ban)) = codes "ban" ∷ decimal ban ∷ []
 other_words (record_of.Conclusion (Match pairs)) = map pair_word pairs
 other_words record_of.End = []
+other_words (record_of.DropFact fact) = []
+other_words (record_of.DropBan ban) = []
 
 -- words with a blank in front of each
 abbrev pub spaced : List (List ℕ) → List ℕ
@@ -171,3 +175,11 @@ IsWritable (record_of.Conclusion NonePorts) = Unit {0}
 IsWritable (record_of.Conclusion (NoneBan ban)) = IsNumber ban
 IsWritable (record_of.Conclusion (Match pairs)) = All HasPorts pairs
 IsWritable record_of.End = Unit {0}
+IsWritable (record_of.DropFact fact) = ⊥
+IsWritable (record_of.DropBan ban) = ⊥
+
+-- all records but drops have a line
+abbrev pub HasLine : Record → Type 0
+HasLine (record_of.DropFact fact) = ⊥
+HasLine (record_of.DropBan ban) = ⊥
+HasLine other = Unit {0}

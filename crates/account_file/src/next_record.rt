@@ -1,12 +1,14 @@
-//! The next record of an account's text.
+//! The next record of an account.
 
 ghost use Rattle.std.specs.Prelude.{◌≡◌, ◌≤◌, length, count_by};
 ghost use Rattle.std.specs.List.{position_or_len};
 ghost use Rattle.text_core.specs.Bytes.{is_line_feed};
 ghost use Rattle.account_file.specs.Order.{is_output, logs_asked, next_place, place_in_log};
-ghost use Rattle.account_file.specs.NextRecords.{line_at, placed, next_of, next_at_end, next_at_line};
+ghost use Rattle.account_file.specs.Binary.{is_binary};
+ghost use Rattle.account_file.specs.NextRecords.{FindsNext, line_at, placed, next_of, next_at_end, next_at_line};
 ghost use Rattle.account_file.specs.Texts.{Answers, AnswersNext};
 
+use crate::binary::next_entry;
 use crate::fault::{FileStop, RecordFault};
 use crate::forms::read_line;
 use crate::place::Place;
@@ -32,8 +34,28 @@ pub enum NextRecord {
     Refuse(RecordFault),
 }
 
-/// What is done with the bytes that are left, where the account stands there. No line feed is among the first `looked`.
-pub(crate) fn next_of(
+/// What is done with the bytes that are left, where the account is of version 2 or not, and stands there. No line feed
+/// is among the first `looked`.
+pub(crate) fn next_in(
+    alloc: Global,
+    binary: bool,
+    left: &[u8],
+    looked: usize,
+    finished: bool,
+    place: Place,
+) -> Result<NextRecord, FileStop>
+    requires looked { looked ≤ position_or_len is_line_feed left.now }
+    requires form { place ≡ Place.Start → is_binary left.now ≡ binary }
+    ensures { FindsNext binary left.now finished place result }
+{
+    if binary {
+        return next_entry(alloc, left, finished, place);
+    }
+    next_of(alloc, left, looked, finished, place)
+}
+
+// The same, in version 1.
+fn next_of(
     alloc: Global,
     left: &[u8],
     looked: usize,
@@ -65,8 +87,8 @@ fn line_end_after(bytes: &[u8], looked: usize) -> usize
     looked + line_length(&bytes[looked..])
 }
 
-// What is done where the bytes end.
-fn next_at_end(place: Place, left: &[u8]) -> NextRecord
+/// What is done where the bytes end.
+pub(crate) fn next_at_end(place: Place, left: &[u8]) -> NextRecord
     ensures { result ≡ next_at_end place left.now }
 {
     match place {
@@ -129,8 +151,8 @@ fn in_place(place: Place, entry: Record) -> Result<(Record, Place), RecordFault>
     Ok((entry, place))
 }
 
-// Where the account stands after a record, if the record may stand there.
-fn next_place(place: Place, entry: &Record) -> Option<Place>
+/// Where the account stands after a record, if the record may stand there.
+pub(crate) fn next_place(place: Place, entry: &Record) -> Option<Place>
     ensures { result ≡ next_place place entry.now }
 {
     match (place, entry) {
@@ -138,6 +160,7 @@ fn next_place(place: Place, entry: &Record) -> Option<Place>
         (Place::Headed, Record::Fact(FactHead::Fails { .. })) => Some(Place::Headed),
         (Place::Headed, Record::Fact(FactHead::Holds { .. })) => Some(Place::FactLog),
         (Place::Headed, Record::Ban(_)) => Some(Place::Headed),
+        (Place::Headed, Record::DropFact(_) | Record::DropBan(_)) => Some(Place::Headed),
         (Place::Headed, Record::Conclusion(conclusion)) => {
             Some(Place::Logs(logs_asked(conclusion)))
         }

@@ -1,20 +1,22 @@
-ghost use Rattle.std.specs.Prelude.{ℕ, ◌≡◌, ◌≢◌, ◌+◌, ◌<◌, ◌≤◌, ◌^◌, ◌++◌, [], List, true, false, None, Some, Ok, Err};
+ghost use Rattle.std.specs.Prelude.{ℕ, ◌≡◌, ◌+◌, ◌<◌, ◌≤◌, ◌^◌, ◌++◌, [], List, true, false, None, Some, Ok, Err};
 ghost use Rattle.std.specs.Prelude.{OnOk, OnErr, length, drop};
 ghost use Rattle.account_file.specs.declared.record.Record.{Record as Entry};
 ghost use Rattle.account_file.specs.declared.fault.RecordFault.{RecordFault as AnyFault};
-ghost use Rattle.account_file.specs.Accounts.{SaysNext};
+ghost use Rattle.account_file.specs.Accounts.{SaysNext, version_of};
 ghost use Rattle.account_file.specs.Reading.{HasRead, given_by};
-ghost use Rattle.account_file.specs.NextRecords.{next_answer, next_reading};
-ghost use Rattle.account_file.specs.Texts.{Answers, Says};
+ghost use Rattle.account_file.specs.NextRecords.{StepsFrom, form_at, looked_after, known_version};
+ghost use Rattle.account_file.specs.Texts.{Says};
 
+use crate::binary::{is_binary, may_be_binary};
 use crate::fault::{FileStop, RecordFault};
-use crate::next_record::{NextRecord, next_of};
+use crate::next_record::{NextRecord, next_in};
 use crate::place::Place;
 use crate::record::Record;
 use std::alloc::{AllocError, Global};
 use std::marker::Model;
 
-/// Reads an account's text record by record, as its bytes come, in whatever pieces.
+/// Reads an account record by record, as its bytes come, in whatever pieces: one of version 2 where the first eight
+/// bytes are `NPNPACC2`, and else one of version 1.
 #[derive(Debug, Drop)]
 pub struct Reader {
     bytes: Vec<u8>,
@@ -25,6 +27,8 @@ pub struct Reader {
     finished: bool,
     line: u64,
     place: Place,
+    /// Whether the account is of version 2, once a record was read.
+    binary: bool,
     fault: Option<RecordFault>,
     total: u64,
 }
@@ -40,6 +44,7 @@ impl Model for Reader {
       finished = a.finished;
       line = a.line;
       place = a.place;
+      binary = a.binary;
       fault = a.fault;
       total = a.total;
     } };
@@ -61,6 +66,7 @@ impl Reader {
             finished: false,
             line: 0,
             place: Place::Start,
+            binary: false,
             fault: None,
             total: 0,
         }
@@ -100,9 +106,20 @@ impl Reader {
         self.line
     }
 
-    /// What the text says after the records that were given: the next record, or the first fault. It is None where no
-    /// whole line is left and more may come, and after the end where nothing is left. After a fault it is that fault
-    /// again; running out of memory changes nothing.
+    /// The version of the account. It is None where no more bytes came than the first of `NPNPACC2`, and more may come.
+    pub fn version(&self) -> Option<u8>
+        ensures { (bytes : List ℕ) (records : List Entry) → HasRead self.now bytes records
+            → result ≡ version_of bytes self.now.finished }
+    {
+        match self.place {
+            Place::Start => first_version(&self.bytes[self.start..], self.finished),
+            _ => known_version(self.binary),
+        }
+    }
+
+    /// What the account says after the records that were given: the next record, or the first fault. It is None where
+    /// no whole record is left and more may come, and after the end where nothing is left. After a fault it is that
+    /// fault again; running out of memory changes nothing.
     pub fn next(&mut self, alloc: Global) -> Result<Option<Record>, FileStop>
         ensures answer { (bytes : List ℕ) (records : List Entry) → HasRead self.old bytes records
             → Says result (SaysNext bytes self.old.finished records) }
@@ -120,8 +137,7 @@ impl Reader {
 
     // The next record, or the first fault, by the bytes that are left.
     fn take_next(&mut self, alloc: Global) -> Result<Option<Record>, FileStop>
-        ensures answer { Answers (λ found. found) result (next_answer self.old.fault self.old) }
-        ensures reading { result ≢ Err FileStop.Memory → self.new ≡ next_reading self.old.fault self.old }
+        ensures steps { StepsFrom self.old.fault self.old result self.new }
         ensures refused { result ≡ Err FileStop.Memory → self.new ≡ self.old }
         ensures shrinks { (entry : Entry) → result ≡ Ok (Some entry) → length self.new.left < length self.old.left }
         ensures fault { (fault : AnyFault) → result ≡ Err (FileStop.Fault fault) → self.new.fault ≡ Some fault }
@@ -134,9 +150,10 @@ impl Reader {
         }
         let left = &self.bytes[self.start..];
         let count = left.len();
-        match next_of(alloc, left, self.looked, self.finished, self.place)? {
+        let binary = form_at(self.place, left, self.binary);
+        match next_in(alloc, binary, left, self.looked, self.finished, self.place)? {
             NextRecord::Wait => {
-                self.looked = count;
+                self.looked = looked_after(binary, count);
                 Ok(None)
             }
             NextRecord::Read { entry, place, used } => {
@@ -144,6 +161,7 @@ impl Reader {
                 self.looked = 0;
                 self.line += 1;
                 self.place = place;
+                self.binary = binary;
                 Ok(Some(entry))
             }
             NextRecord::Refuse(fault) => {
@@ -163,6 +181,43 @@ impl Reader {
             self.start = 0;
         }
     }
+}
+
+// Whether an account is of version 2: by its first bytes, where no record was read.
+fn form_at(place: Place, left: &[u8], binary: bool) -> bool
+    ensures { result ≡ form_at place left.now binary }
+{
+    match place {
+        Place::Start => is_binary(left),
+        _ => binary,
+    }
+}
+
+// In how many of the bytes that are left a line feed was sought.
+fn looked_after(binary: bool, count: usize) -> usize
+    ensures { result ≡ looked_after binary count }
+{
+    if binary { 0 } else { count }
+}
+
+// The version of an account whose first bytes are these.
+fn first_version(bytes: &[u8], finished: bool) -> Option<u8>
+    ensures { result ≡ version_of bytes.now finished }
+{
+    if is_binary(bytes) {
+        return Some(2);
+    }
+    if finished {
+        return Some(1);
+    }
+    if may_be_binary(bytes) { None } else { Some(1) }
+}
+
+// The version of an account of which a record was read.
+fn known_version(binary: bool) -> Option<u8>
+    ensures { result ≡ known_version binary }
+{
+    if binary { Some(2) } else { Some(1) }
 }
 
 // Drops the first bytes.

@@ -1,10 +1,10 @@
 use account_core::{Ban, Conclusion, FactHead};
 use cnf_core::LogLine;
 
-/// One line of an account.
+/// A record of an account: a line of its text, or in version 2 an entry of its bytes.
 #[derive(Debug)]
 pub enum Record {
-    /// The first line, which names the format.
+    /// The first one, which names the format.
     Header,
     /// A claim that fails, or one that holds, whose log follows.
     Fact(FactHead),
@@ -14,7 +14,11 @@ pub enum Record {
     Ban(Ban),
     /// What the account comes to.
     Conclusion(Conclusion),
-    /// The last line.
+    /// That no later record names the fact of this number. Only version 2 has it.
+    DropFact(u64),
+    /// That no later record names the ban of this number. Only version 2 has it.
+    DropBan(u64),
+    /// The last one.
     End,
 }
 
@@ -27,6 +31,8 @@ impl Drop for Record {
             Record::Line(_line) => {}
             Record::Ban(_ban) => {}
             Record::Conclusion(_conclusion) => {}
+            Record::DropFact(_fact) => {}
+            Record::DropBan(_ban) => {}
             Record::End => {}
         }
     }

@@ -3,7 +3,8 @@
 ghost use Rattle.std.specs.Prelude.{◌≡◌, ℕ, List, [], ◌∷◌, ◌++◌, codes, All, OnOk, OnErr, map};
 ghost use Rattle.std.specs.Fmt.{decimal as digits_of_number};
 ghost use Rattle.circuits.specs.Ports.{letter_of};
-ghost use Rattle.account_file.specs.Spelling.{BanHasNumbers, ClaimHasPorts, HasNumbers, HasPorts, IsNumber, IsPort};
+ghost use Rattle.account_file.specs.Spelling.{BanHasNumbers, ClaimHasPorts, HasLine, HasNumbers, HasPorts};
+ghost use Rattle.account_file.specs.Spelling.{IsNumber, IsPort};
 ghost use Rattle.account_file.specs.Spelling.{IsReference, IsWritable, ShapeHasPorts, StepHasNumbers};
 ghost use Rattle.account_file.specs.Spelling.{bit_digit, bits_word, claim_words, kind_word, line_text};
 ghost use Rattle.account_file.specs.Spelling.{pair_word, record_line, reference_word, shape_words, side_word, sign_of};
@@ -25,8 +26,9 @@ use word_sim::Tri;
 /// `fails b 0 swap 1 4 01 =01101`. A line of a log is `l`, the literals, `:` and the hints. A ban is `ban`, its pairs,
 /// `:` and its step. A conclusion is `none ports`, `none ban` and a ban's number, or `match` and the pairs of ports.
 /// The last line is `end`. A pair is `i3+5` where input 3 goes to input 5, and `o0-1` where output 0 goes to output 1
-/// inverted. Numbers have no leading zeros. Running out of memory leaves `out` as it was.
+/// inverted. Numbers have no leading zeros. A drop has no line. Running out of memory leaves `out` as it was.
 pub fn put_record(entry: &Record, out: &mut Vec<u8>) -> Result<(), AllocError>
+    requires { HasLine entry.now }
     ensures line { OnOk result (out.new.items ≡ out.old.items ++ record_line entry.now) }
     ensures writable { OnOk result (IsWritable entry.now) }
     ensures refused { OnErr result (out.new.items ≡ out.old.items) }
@@ -77,6 +79,7 @@ pub fn put_ban(ban: &Ban, out: &mut Vec<u8>) -> Result<(), AllocError>
 
 // Writes the line of a record without its line feed.
 fn put_text(entry: &Record, out: &mut Vec<u8>) -> Result<(), AllocError>
+    requires { HasLine entry.now }
     ensures text { OnOk result (out.new.items ≡ out.old.items ++ line_text entry.now) }
     ensures writable { OnOk result (IsWritable entry.now) }
 {
@@ -87,6 +90,7 @@ fn put_text(entry: &Record, out: &mut Vec<u8>) -> Result<(), AllocError>
         Record::Line(line) => put_log_text(line, out),
         Record::Ban(ban) => put_ban_text(ban, out),
         Record::Conclusion(conclusion) => put_conclusion(conclusion, out),
+        Record::DropFact(_) | Record::DropBan(_) => unreachable!(),
         Record::End => out.extend_from_slice(b"end"),
     }
 }

@@ -103,7 +103,7 @@ fn put_line(line: &str, account: &mut String) -> Result<(), AllocError> {
 }
 
 /// Writes the refusal with another line in the place of one, counted from 1; with none for 0.
-fn put_refusal_with(line: usize, text: &str, account: &mut String) -> Result<(), AllocError> {
+pub fn put_refusal_with(line: usize, text: &str, account: &mut String) -> Result<(), AllocError> {
     for (k, old) in REFUSAL.iter().enumerate() {
         if k + 1 == line {
             put_line(text, account)?;

@@ -4,6 +4,8 @@
 #[cfg(test)]
 mod accounts;
 #[cfg(test)]
+mod binary_accounts;
+#[cfg(test)]
 mod entries;
 #[cfg(test)]
 mod graphs;

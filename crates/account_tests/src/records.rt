@@ -3,7 +3,7 @@
 ghost use Rattle.std.specs.Prelude.{◌≡◌, ◌+◌, ◌<◌, ◌^◌, false, length, OnOk};
 
 use account_core::{Ban, Conclusion, FactHead, Step, Tallied};
-use account_file::{FileStop, Reader, Record, RecordFault, put_record};
+use account_file::{FileStop, Reader, Record, RecordFault, put_record, put_record2};
 use bit_list::Bits;
 use circuits::{Pair, PortKind};
 use claim_core::{Claim, Shape};
@@ -29,9 +29,12 @@ const PAIRS: [Pair; 2] = [
     },
 ];
 
-/// Writes the line of a record.
+/// Writes the line of a record, or of a drop its bytes.
 fn put_entry(entry: Record, out: &mut Vec<u8>) -> Result<(), AllocError> {
-    put_record(&entry, out)
+    match &entry {
+        Record::DropFact(_) | Record::DropBan(_) => put_record2(&entry, out),
+        _ => put_record(&entry, out),
+    }
 }
 
 /// Writes a claim about two inputs, which fails.

@@ -22,6 +22,7 @@ use Rattle.account_file.specs.declared.record.Record.TheVariants as entry
 use Rattle.account_file.specs.Order.{is_output, logs_after}
 use Rattle.account_file.specs.Spelling.{IsWritable}
 use Rattle.account_check.specs.declared.verdict.Verdict.TheVariants as verdict
+use Rattle.account_check.specs.Drops.{nothing_dropped}
 use Rattle.account_check.specs.Accounts.{Account, after, empty_account}
 use Rattle.account_check.specs.Logs.{log_query, nothing, refutation_of}
 use Rattle.account_check.specs.Verdicts.{IsAccepted}
@@ -33,7 +34,7 @@ use Rattle.account_write.proofs.PairLemmas.{matching_back, pairs_in_order, pairs
 
 -- an account after its header, with facts and bans
 abbrev pub headed : Graphs → Given → Account
-headed graphs given = record { graphs = graphs; place = place.Headed; given = given; fact = None; proof = nothing; concluded = None }
+headed graphs given = record { graphs = graphs; place = place.Headed; given = given; dropped = nothing_dropped; fact = None; proof = nothing; concluded = None }
 
 abbrev pub none_given : Given
 none_given = record { facts = []; bans = [] }
@@ -44,6 +45,7 @@ proving graphs given matching left closed taken = record {
   graphs = graphs;
   place = place.Logs left;
   given = given;
+  dropped = nothing_dropped;
   fact = None;
   proof = record { matching = matching; closed = closed; taken = taken };
   concluded = Some (verdict.Match matching);

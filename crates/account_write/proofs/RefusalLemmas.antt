@@ -1,5 +1,5 @@
 -- The accounts that there is no match: by facts and bans, and by the numbers of ports.
-use Rattle.std.proofs.Common.{ℕ, suc, true, List, [], ◌∷◌, ◌++◌, map, take, All, None, Some, slice_index_or, inr, refl, sym, ap, subst, ◌∙◌, arith, append_assoc}
+use Rattle.std.proofs.Common.{ℕ, suc, true, List, [], ◌∷◌, ◌++◌, map, take, All, Option, None, Some, slice_index_or, inr, refl, sym, ap, subst, ◌∙◌, arith, append_assoc}
 use Rattle.std.specs.List.{flat_map}
 use Rattle.std.proofs.lemmas.List.{append-nil, get_or-map, length-map}
 use Rattle.std.proofs.lemmas.List.Elements.{All-cons, All-head, All-nil, All-tail}
@@ -19,7 +19,8 @@ use Rattle.account_core.specs.declared.fact.Evidence.{Evidence}
 use Rattle.account_core.specs.declared.fact.Evidence.TheVariants as evidence
 use Rattle.account_core.specs.declared.fact.Fact.{Fact}
 use Rattle.account_core.specs.declared.step.Ban.{Ban}
-use Rattle.account_core.specs.declared.step.Step.TheVariants.{Mismatch}
+use Rattle.account_core.specs.declared.step.Step.{Step}
+use Rattle.account_core.specs.declared.step.Step.TheVariants.{Cover, Mismatch, Tally, Vector}
 use Rattle.account_core.specs.Given.{Decided, Given, decided_by, pairs_of, shown_by}
 use Rattle.account_core.specs.Facts.{AreFacts, IsEvidence, IsFact}
 use Rattle.account_core.specs.Ports.{HaveAsMany}
@@ -30,6 +31,7 @@ use Rattle.account_file.specs.declared.record.Record.TheVariants as entry
 use Rattle.account_file.specs.Spelling.{IsWritable}
 use Rattle.account_check.specs.declared.verdict.Verdict.TheVariants as verdict
 use Rattle.account_check.specs.Accounts.{Account, empty_account}
+use Rattle.account_check.specs.Drops.{AreNamesKept, IsReferenceUnmarked, IsUnmarked, nothing_dropped}
 use Rattle.account_check.specs.Facts.{AreInputs, IsLesserFirst}
 use Rattle.account_check.specs.Logs.{nothing, refutation_of, with_fact}
 use Rattle.account_check.specs.Verdicts.{IsAccepted}
@@ -41,7 +43,23 @@ use Rattle.account_write.proofs.MatchLemmas.{headed, header_leads, none_given}
 
 -- an account that concludes that there is no match
 abbrev pub refusing : Graphs → Given → Account
-refusing graphs given = record { graphs = graphs; place = place.Logs 0; given = given; fact = None; proof = nothing; concluded = Some verdict.None }
+refusing graphs given = record { graphs = graphs; place = place.Logs 0; given = given; dropped = nothing_dropped; fact = None; proof = nothing; concluded = Some verdict.None }
+
+-- where nothing was dropped, all that a step names is kept
+numbers_kept : (numbers : List ℕ) → All (IsUnmarked []) numbers
+numbers_kept [] = All-nil (IsUnmarked [])
+numbers_kept (number ∷ numbers) = All-cons (IsUnmarked []) number numbers refl (numbers_kept numbers)
+
+references_kept : (refs : List (Option ℕ)) → All (IsReferenceUnmarked []) refs
+references_kept [] = All-nil (IsReferenceUnmarked [])
+references_kept (None ∷ refs) = All-cons (IsReferenceUnmarked []) None refs tt (references_kept refs)
+references_kept (Some ban ∷ refs) = All-cons (IsReferenceUnmarked []) (Some ban) refs refl (references_kept refs)
+
+names_kept : (step : Step) → AreNamesKept nothing_dropped step
+names_kept (Vector output values) = tt
+names_kept (Mismatch fails holds) = (refl, refl)
+names_kept (Tally kind have lack) = (numbers_kept have, numbers_kept lack)
+names_kept (Cover kind from to refs) = references_kept refs
 
 -- an account in which the log of a claim is open
 abbrev pub showing : Graphs → Given → Claim → List (List SatLit) → Account
@@ -49,6 +67,7 @@ showing graphs given claim taken = record {
   graphs = graphs;
   place = place.FactLog;
   given = given;
+  dropped = nothing_dropped;
   fact = Some (record { claim = claim; taken = taken });
   proof = nothing;
   concluded = None;
@@ -122,7 +141,7 @@ module _ (graphs : Graphs) (many : HaveAsMany graphs.first graphs.second) where
   ban_taken : (given : Given) (ban : Ban) → IsValidBan graphs given ban → IsTaken (headed graphs given) (entry.Ban ban)
   ban_taken given ban is = record {
     there = refl;
-    right = inr (many, inr (is.known, inr (is.ordered, inr (is.names, inr (is.rule, inr (is.shown, refl))))));
+    right = inr (many, inr (is.known, inr (is.ordered, inr ((is.names, names_kept ban.step), inr (is.rule, inr (is.shown, refl))))));
   }
 
   bans_lead : (facts : List Decided) (before : List (List Pair)) (bans : List Ban) → EachAt (λ k ban. IsValidBan graphs (record { facts = facts; bans = before ++ pairs_of (take k bans) }) ban) bans → Lead (headed graphs (record { facts = facts; bans = before })) (map (λ ban. entry.Ban ban) bans) (headed graphs (record { facts = facts; bans = before ++ pairs_of bans }))
@@ -141,7 +160,7 @@ module _ (graphs : Graphs) (many : HaveAsMany graphs.first graphs.second) where
   conclusion_taken : (facts : List Decided) (bans : List Ban) (number : ℕ) → IsEmptyBan bans number → IsTaken (headed graphs (record { facts = facts; bans = pairs_of bans })) (entry.Conclusion (conclusion.NoneBan number))
   conclusion_taken facts bans number empty = record {
     there = refl;
-    right = inr (many, inr (omega (arith, length-map bans (λ (b : Ban). b.pairs), empty.kept), inr (get_or-map (λ (b : Ban). b.pairs) bans number none [] empty.kept ∙ empty.pairs none, refl)));
+    right = inr (many, inr ((omega (arith, length-map bans (λ (b : Ban). b.pairs), empty.kept), refl), inr (get_or-map (λ (b : Ban). b.pairs) bans number none [] empty.kept ∙ empty.pairs none, refl)));
   }
     where
       none : Ban

@@ -1,5 +1,5 @@
 -- Records that an account takes one after another, and the text of those that it takes up to the end.
-use Rattle.std.proofs.Common.{◌≡◌, zero, suc, List, [], ◌∷◌, ◌++◌, fold, take, All, Option, None, Some, IsSome, refl, sym, ap, subst, ◌∙◌, arith}
+use Rattle.std.proofs.Common.{◌≡◌, zero, suc, false, List, [], ◌∷◌, ◌++◌, fold, take, All, Option, None, Some, IsSome, refl, sym, ap, subst, ◌∙◌, arith}
 use Rattle.std.specs.Prelude.{unwrap_or}
 use Rattle.std.specs.List.{AllZip}
 use Rattle.std.proofs.lemmas.List.{append-nil}
@@ -12,10 +12,13 @@ use Rattle.account_file.specs.declared.place.Place.{Place}
 use Rattle.account_file.specs.declared.place.Place.TheVariants as place
 use Rattle.account_file.specs.declared.record.Record.{Record}
 use Rattle.account_file.specs.declared.record.Record.TheVariants as entry_of
-use Rattle.account_file.specs.Accounts.{HasForm}
+use Rattle.account_file.specs.Accounts.{IsAccountBy}
+use Rattle.account_file.specs.TextAccounts.{HasForm}
+use Rattle.account_file.specs.Binary.{is_binary}
 use Rattle.account_file.specs.Lines.{after_lines, whole_lines}
 use Rattle.account_file.specs.Order.{place_after, place_after_one, next_place}
 use Rattle.account_file.specs.Spelling.{IsWritable, record_line}
+use Rattle.account_file.proofs.StepLemmas.{text_form}
 use Rattle.account_file.proofs.AccountLemmas.{after_records, have_forms, lines_of_records, texts_of}
 use Rattle.account_check.specs.declared.verdict.Verdict.{Verdict}
 use Rattle.account_check.specs.Accounts.{Account, after, empty_account, verdict_at, HasFault}
@@ -80,14 +83,14 @@ valid account (entry ∷ records) taken (suc k) d below = valid (after account e
 pub accepted : (graphs : Graphs) (records : List Record) (other : Account) (verdict : Verdict) → All IsWritable records → Lead (empty_account graphs) records other → other.place ≡ place.Ended → other.concluded ≡ Some verdict → IsAccepted graphs (lines_of records) verdict
 accepted graphs records other verdict writable lead ended concluded = record {
   records = records;
-  account = record {
+  account = subst (λ b. IsAccountBy b (lines_of records) records) (sym form) (record {
     records_are = record {
       form = subst (λ ls. AllZip HasForm ls records) (sym lines) (have_forms records writable);
       order = subst IsSome (sym order) refl;
     };
-    ended = order ∙ ap (λ (a : Account). Some a.place) lead.to ∙ ap Some ended;
+    ended = there;
     nothing_after = ap after_lines (sym (append-nil (lines_of records))) ∙ after_records records [] writable;
-  };
+  });
   valid = valid (empty_account graphs) records lead.taken;
   verdict_is = ap (λ (a : Account). verdict_at a.place a.concluded) lead.to ∙ (ap (λ p. verdict_at p other.concluded) ended ∙ concluded);
 }
@@ -97,6 +100,12 @@ accepted graphs records other verdict writable lead ended concluded = record {
 
     order : place_after records ≡ Some (fold after (empty_account graphs) records).place
     order = in_order (empty_account graphs) records lead.taken
+
+    there : place_after records ≡ Some place.Ended
+    there = order ∙ (ap (λ (a : Account). Some a.place) lead.to ∙ ap (λ p. Some p) ended)
+
+    form : is_binary (lines_of records) ≡ false
+    form = text_form records place.Ended there (λ e. cc)
 
 -- The same, where the end follows.
 pub accepted_at_end : (graphs : Graphs) (records : List Record) (other : Account) (verdict : Verdict) → All IsWritable records → Lead (empty_account graphs) records other → other.place ≡ place.Logs 0 → other.concluded ≡ Some verdict → IsAccepted graphs (account_of records) verdict

@@ -1,5 +1,5 @@
 ghost use Rattle.std.specs.Prelude.{◌≡◌, ◌++◌, [], ◌∷◌, ◌<◌, ◌^◌, All, IfOk, OnOk, length};
-ghost use Rattle.account_file.specs.Spelling.{IsWritable};
+ghost use Rattle.account_file.specs.Spelling.{HasLine, IsWritable};
 ghost use Rattle.account_file.specs.declared.record.Record.TheVariants as AnyRecord;
 ghost use Rattle.account_core.specs.declared.conclusion.Conclusion.TheVariants as AnyConclusion;
 ghost use Rattle.account_write.specs.Records.{match_records, none_ports_records, pairs_from, pairs_of_matching};
@@ -25,6 +25,8 @@ pub struct Account {
     bans: Items<Ban>,
     /// The conclusion that is drawn from bans.
     back: Items<Record>,
+    ghost front_has_lines: { All HasLine front },
+    ghost back_has_lines: { All HasLine back },
 }
 
 // By hand, so that each exit of a function has one call for it (docs/IDIOMS.md).

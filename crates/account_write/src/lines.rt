@@ -1,6 +1,6 @@
-ghost use Rattle.std.specs.Prelude.{◌≡◌, ◌++◌, ◌<◌, [], IsFalse, IsTrue, OnOk};
+ghost use Rattle.std.specs.Prelude.{◌≡◌, ◌++◌, ◌<◌, [], All, IsFalse, IsTrue, OnOk};
 ghost use Rattle.account_file.specs.declared.record.Record.TheVariants.{End};
-ghost use Rattle.account_file.specs.Spelling.{IsWritable, record_line};
+ghost use Rattle.account_file.specs.Spelling.{HasLine, IsWritable, record_line};
 ghost use Rattle.account_write.specs.Records.{Steps, head_of, log_lines, records_left, steps_left};
 
 use account_core::{Ban, Evidence, Fact};
@@ -19,6 +19,8 @@ pub struct AccountLines<'a> {
     pub(crate) logs: &'a [Log],
     pub(crate) bans: &'a [Ban],
     pub(crate) back: &'a [Record],
+    ghost front_has_lines: { All HasLine front.now },
+    ghost back_has_lines: { All HasLine back.now },
 }
 
 impl<'a> AccountLines<'a> {

@@ -1,10 +1,10 @@
 //! The facts and bans that were given.
 
-ghost use Rattle.std.specs.Prelude.{◌≡◌, ◌-◌, ◌↔◌, [], IsTrue, OnOk, OnErr, length, take};
+ghost use Rattle.std.specs.Prelude.{◌≡◌, ◌-◌, ◌↔◌, [], IfOk, IsTrue, OnOk, OnErr, length, take};
 ghost use Rattle.account_core.specs.Given.{ban_at, fact_at, IsBanGiven, IsFactGiven};
-ghost use Rattle.ban_check.specs.More.{with_ban, with_fact};
+ghost use Rattle.ban_check.specs.More.{clashing_pairs, with_ban, with_fact, without_pairs};
 
-use circuits::Pair;
+use circuits::{Pair, PortKind};
 use claim_core::{Claim, Shape};
 use items::{Few, Items};
 use net_core::Side;
@@ -123,4 +123,32 @@ impl Given {
         self.bans.push(pairs)?;
         Ok(())
     }
+
+    /// Forgets the pairs of a ban, whose memory is given back: in their place stand two that no match has both of.
+    pub fn forget_ban(&mut self, number: u64, clashing: Few<Pair, 8>)
+        requires given { IsBanGiven self.old number }
+        requires clashing { clashing ≡ clashing_pairs }
+        ensures { self.new ≡ without_pairs self.old number }
+    {
+        self.bans.set(number as usize, clashing);
+    }
+}
+
+/// Two pairs that no match has both of.
+pub fn clashing_pairs(alloc: Global) -> Result<Few<Pair, 8>, AllocError>
+    ensures { IfOk result (λ pairs. pairs ≡ clashing_pairs) }
+{
+    let plain = Pair {
+        kind: PortKind::Input,
+        from: 0,
+        to: 0,
+        flip: false,
+    };
+    let inverted = Pair {
+        kind: PortKind::Input,
+        from: 0,
+        to: 0,
+        flip: true,
+    };
+    Few::from_slice(alloc, &[plain, inverted])
 }

@@ -76,8 +76,8 @@ cut_of graphs account o before after answer part =
     elim part [
       | inl same ↦ inl same
       | inr first ↦ of_answer (λ end. IsCutOf graphs before after) graphs account o answer
-          (λ matching proves matches. inr (account, verdict.Match matching, proves, first))
-          (λ proves unequal. inr (account, verdict.None, proves, first))
+          (λ matching proves matches. inr (account, verdict.Match matching, proves, answer.0, first))
+          (λ proves unequal. inr (account, verdict.None, proves, answer.0, first))
     ]
 
 -- the matching of an answer is a match

@@ -218,7 +218,7 @@ module _ (tells : Bool) (asked : MatchWords) (old new : ShelfState) (first secon
   cut t words asks is =
       elim is [
         | inl same ↦ inl (unchanged t same)
-        | inr (account, proved, proves, first_part) ↦ inr (inl (record {
+        | inr (account, proved, proves, text, first_part) ↦ inr (inl (record {
           sought = (match_request asked);
           asks = asks;
           graphs = (graphs_of first second);
@@ -229,7 +229,7 @@ module _ (tells : Bool) (asked : MatchWords) (old new : ShelfState) (first secon
           accepted = proves;
           count = first_part.0;
           part = first_part.1;
-          unfinished = λ lines last. whole_by_end first_part.0 account proves.records lines proves.account last;
+          unfinished = λ lines last. whole_by_end first_part.0 account proves.records lines text proves.account last;
         }))
       ]
 

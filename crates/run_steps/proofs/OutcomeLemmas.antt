@@ -27,7 +27,7 @@ pub of_answer : (P : Outcome → Type 0) (graphs : Graphs) (account : List ℕ) 
     → (Proves graphs account verdict.None → (HaveNpnpEqualFunctions graphs.first graphs.second → ⊥) → P NoMatching)
     → P o
 of_answer P graphs account o answer matched none =
-    elim answer [
+    elim answer.1 [
       | inl (matching, is, proves, matches) ↦ subst P (sym is) (matched matching proves matches)
       | inr (is, proves, unequal) ↦ subst P (sym is) (none proves unequal)
     ]

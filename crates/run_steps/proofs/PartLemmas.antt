@@ -8,7 +8,9 @@ use Rattle.account_file.specs.declared.record.Record.{Record}
 use Rattle.account_file.specs.declared.record.Record.TheVariants as record_of
 use Rattle.account_file.specs.declared.place.Place.{Place}
 use Rattle.account_file.specs.declared.place.Place.TheVariants.{Start, Headed, FactLog, Logs, Ended}
-use Rattle.account_file.specs.Accounts.{HasForm, IsAccountOf}
+use Rattle.account_file.specs.Accounts.{IsAccountBy, IsAccountOf}
+use Rattle.account_file.specs.Binary.{is_binary}
+use Rattle.account_file.specs.TextAccounts.{HasForm, IsTextAccount}
 use Rattle.account_file.specs.Lines.{after_lines, pieces_of, whole_lines}
 use Rattle.account_file.specs.Order.{next_place, place_after_one}
 use Rattle.account_file.proofs.LawLemmas.{same_record}
@@ -99,15 +101,15 @@ nothing_more part more same nothing =
     let few : length part ≡ front + length (after_lines part) = ap length (text_of part) ∙ length_joined lines (after_lines part) in
     nil_from_length more (omega (arith, all, few, length-append part more, ap length nothing))
 
-ends_once : (part more : List ℕ) (records : List Record) (lines : List (List ℕ)) → IsAccountOf (part ++ more) records → whole_lines part ≡ lines ++ end_line ∷ [] → more ≡ []
+ends_once : (part more : List ℕ) (records : List Record) (lines : List (List ℕ)) → IsTextAccount (part ++ more) records → whole_lines part ≡ lines ++ end_line ∷ [] → more ≡ []
 ends_once part more records lines account is =
     let stay = lines_stay part more in
     let all : whole_lines (part ++ more) ≡ (lines ++ end_line ∷ []) ++ stay.0 = stay.1 ∙ ap (λ l. l ++ stay.0) is in
     let none : stay.0 ≡ [] = last_line lines stay.0 records Start (subst (λ l. AllZip HasForm l records) all account.records_are.form) account.ended in
     nothing_more part more (stay.1 ∙ ap (λ l. whole_lines part ++ l) none ∙ append-nil (whole_lines part)) account.nothing_after
 
-pub whole_by_end : (count : ℕ) (account : List ℕ) (records : List Record) (lines : List (List ℕ)) → IsAccountOf account records → whole_lines (take count account) ≡ lines ++ end_line ∷ [] → take count account ≡ account
-whole_by_end count account records lines is last =
+pub whole_by_end : (count : ℕ) (account : List ℕ) (records : List Record) (lines : List (List ℕ)) → is_binary account ≡ false → IsAccountOf account records → whole_lines (take count account) ≡ lines ++ end_line ∷ [] → take count account ≡ account
+whole_by_end count account records lines text is last =
     let whole = take-append-drop count account in
-    let none = ends_once (take count account) (drop count account) records lines (subst (λ bytes. IsAccountOf bytes records) (sym whole) is) last in
+    let none = ends_once (take count account) (drop count account) records lines (subst (λ bytes. IsTextAccount bytes records) (sym whole) (subst (λ b. IsAccountBy b account records) text is)) last in
     sym (append-nil (take count account)) ∙ ap (λ l. take count account ++ l) (sym none) ∙ whole

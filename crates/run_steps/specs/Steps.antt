@@ -10,6 +10,7 @@ use Rattle.net_core.specs.Sides.{Graphs}
 use Rattle.net_core.specs.declared.matching.Matching.{Matching}
 use Rattle.net_file.specs.declared.named.Named.{Named}
 use Rattle.query_core.specs.Ledgers.{Ledgered}
+use Rattle.account_file.specs.Binary.{is_binary}
 use Rattle.account_check.specs.Verdicts.{IsAccepted as Proves}
 use Rattle.account_check.specs.declared.verdict.Verdict.{Verdict}
 use Rattle.account_check.specs.declared.verdict.Verdict.TheVariants as verdict
@@ -48,12 +49,13 @@ pub record InformsOf (named : Named) (budget : ℕ) (result : Result Ending Outc
 -- an answer for two graphs, with an account that is accepted: a match, or that there is none
 abbrev pub IsAnswered : Graphs → List ℕ → Outcome → Type 0
 IsAnswered graphs account outcome =
-    ((matching : Matching) × (outcome ≡ Matched matching)
+    (is_binary account ≡ false)
+    × (((matching : Matching) × (outcome ≡ Matched matching)
     × Proves graphs account (verdict.Match matching)
     × IsMatchOfFunctions graphs.first graphs.second matching.inputs matching.outputs)
     ⊎ ((outcome ≡ NoMatching)
     × Proves graphs account verdict.None
-    × (HaveNpnpEqualFunctions graphs.first graphs.second → ⊥))
+    × (HaveNpnpEqualFunctions graphs.first graphs.second → ⊥)))
 
 -- an account of a match of two graphs that is accepted
 pub record IsProvedMatch (graphs : Graphs) (account : List ℕ) : Type 0 where
@@ -80,10 +82,13 @@ pub record Concludes (tells : Bool) (name text : List ℕ) (ending : Ending) (ol
   pub last : NoCallFollows old new
   pub failed : result ≡ Err WriteFault → Rose old.faults new.faults
 
--- what stands under the account's name is as before, or the first bytes of an account of two graphs that is accepted
+-- what stands under the account's name is as before, or the first bytes of an account of two graphs that is accepted, a
+-- text
 abbrev pub IsCutOf : Graphs → Option (List ℕ) → Option (List ℕ) → Type 0
 IsCutOf graphs before after =
-    (after ≡ before) ⊎ ((account : List ℕ) × (proved : Verdict) × Proves graphs account proved × HasFirst account after)
+    (after ≡ before)
+    ⊎ ((account : List ℕ) × (proved : Verdict) × Proves graphs account proved × (is_binary account ≡ false)
+    × HasFirst account after)
 
 -- what ends a search for a match without an answer, by what stands under the account's name before and afterwards: the
 -- budget is spent and nothing was written, or a write was refused

@@ -3,6 +3,7 @@ use Rattle.std.proofs.Common.{◌≡◌, Some, Err, sym, ap, subst, ◌∙◌}
 use Rattle.account_file.specs.declared.fault.RecordFault.{RecordFault}
 use Rattle.account_file.specs.declared.fault.FileStop.{FileStop}
 use Rattle.account_file.specs.declared.fault.FileStop.TheVariants as file
+use Rattle.account_file.proofs.VersionLemmas.{next_said}
 use Rattle.account_check.specs.declared.reject.Reject.{Reject}
 use Rattle.account_check.specs.declared.reject.RecordStop.{RecordStop}
 use Rattle.account_check.specs.declared.reject.RecordStop.TheVariants as stop
@@ -18,7 +19,7 @@ take-requires c =
     let bytes = c.requires.2 in
     let so_far = c.requires.3 in
     let next = rw c.in-Ok-Some.field-0-is at (c.in-Ok-Some.ensures.answer bytes so_far.records so_far.read) in
-    may_stand finished c.requires.1 bytes c.args.reader.now c.args.checker.now c.in-Ok-Some.entry so_far next
+    may_stand finished c.requires.1 bytes c.args.reader.now c.args.checker.now c.in-Ok-Some.entry so_far (next_said bytes c.args.reader.now.finished so_far.records c.in-Ok-Some.entry next)
 
 pub returns-in-Ok-clause-goes : goal.returns-in-Ok-clause-goes
 returns-in-Ok-clause-goes c finished graphs bytes so_far =
@@ -32,7 +33,7 @@ returns-in-Err-take-clause-goes c finished graphs bytes so_far =
     let next = rw c.in-Ok-Some.field-0-is at (c.in-Ok-Some.ensures.answer bytes so_far.records so_far.read) in
     let has : (reject : Reject) → c.in-Err-take.stop ≡ stop.Reject reject → HasFault c.args.checker.now c.in-Ok-Some.entry (Some reject) =
     λ reject is. c.in-Err-take.ensures.refused reject (ap (λ (s : RecordStop). Err s) is) in
-    let goes = refused_goes finished graphs bytes c.args.reader.now new c.args.checker.now c.take.new.checker c.in-Ok-Some.entry c.in-Err-take.stop so_far next read c.in-Ok-Some.ensures.no_fault has in
+    let goes = refused_goes finished graphs bytes c.args.reader.now new c.args.checker.now c.take.new.checker c.in-Ok-Some.entry c.in-Err-take.stop so_far (next_said bytes c.args.reader.now.finished so_far.records c.in-Ok-Some.entry next) read c.in-Ok-Some.ensures.no_fault has in
     let same : refused new.line c.in-Err-take.stop ≡ c.refused.result = ap (λ n. refused n c.in-Err-take.stop) (sym c.line-in-Err-take.ensures) ∙ sym c.refused.ensures in
     subst (λ (s : CheckStop). Goes finished graphs bytes new c.take.new.checker (Err s)) same goes
 

@@ -1,4 +1,4 @@
-use Rattle.account_file.proofs.LawLemmas as law
+use Rattle.account_file.proofs.VersionLemmas as law
 use Rattle.account_file.proofs.laws.one_fault.Goals as goal
 
 pub returns-clause-one : goal.returns-clause-one

@@ -22,10 +22,10 @@ returns c =
     let made = subst (λ (g : Graphs). logs ≡ record { graphs = g; proof = unproved c.in_ok-matching.matching }) same c.in_ok-logs.ensures in
     let matching = subst (λ (g : Graphs). c.in_ok-matching.matching ≡ matching_of g.first.inputs pairs) same c.in_ok-matching.ensures.matching in
     let order = subst (λ (g : Graphs). AreInOrder g.first pairs) same c.in_ok-matching.ensures.order in
-    let leads = match_after graphs inside.given inside.stage logs c.in_ok-matching.matching pairs may made matching order in
+    let leads = match_after graphs inside.given inside.dropped inside.stage logs c.in_ok-matching.matching pairs may made matching order in
     record {
       refused = λ reject is. cc;
       taken = search rules;
-      leads = subst (λ (v : Account). kept graphs inside.given c.go_to.new.stage ≡ after v x) c.self.view_is (ap (kept graphs inside.given) c.go_to.ensures ∙ leads);
+      leads = subst (λ (v : Account). kept graphs inside.given inside.dropped c.go_to.new.stage ≡ after v x) c.self.view_is (ap (kept graphs inside.given inside.dropped) c.go_to.ensures ∙ leads);
       unchanged = search rules;
     }

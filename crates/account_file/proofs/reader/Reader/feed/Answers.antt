@@ -1,7 +1,7 @@
 use Rattle.std.proofs.Common.{◌+◌, ◌++◌, length, drop, sym, ap, subst, ◌∙◌}
 use Rattle.std.proofs.lemmas.List.{drop-append-le}
 use Rattle.account_file.specs.Reading.{Reading, IsReader, HasRead}
-use Rattle.account_file.proofs.ReadingLemmas.{read_feed}
+use Rattle.account_file.proofs.StepLemmas.{read_feed}
 use Rattle.account_file.proofs.NextLemmas.{reader_fed}
 use Rattle.account_file.proofs.reader.Reader.feed.Goals as goal
 
@@ -22,6 +22,7 @@ returns-clause-reads c = λ bytes records has.
       finished = inside.finished;
       line = inside.line;
       place = inside.place;
+      binary = inside.binary;
       fault = inside.fault;
       total = inside.total;
     } in

@@ -1,13 +1,11 @@
-use Rattle.account_file.specs.Accounts.{SaysNext}
-use Rattle.account_file.specs.NextRecords.{next_answer}
-use Rattle.account_file.proofs.ReadingLemmas.{next_says, answer_says, answer_reads}
+use Rattle.std.proofs.Common.{refl}
+use Rattle.account_file.proofs.StepLemmas.{steps_read, steps_say}
 use Rattle.account_file.proofs.reader.Reader.next.Goals as goal
 
 pub returns-clause-answer : goal.returns-clause-answer
 returns-clause-answer c = λ bytes records has.
-    let old = c.args.self.now in
-    answer_says c.take_next.result (next_answer old.fault old) (SaysNext bytes old.finished records) c.take_next.ensures.answer (next_says old bytes records has)
+    steps_say c.args.self.now c.take_next.new.self bytes records has c.args.self.now.fault c.take_next.result refl c.take_next.ensures.steps
 
 pub returns-clause-reads : goal.returns-clause-reads
 returns-clause-reads c = λ bytes records has.
-    answer_reads c.take_next.result c.args.self.now c.take_next.new.self bytes records c.take_next.ensures.answer c.take_next.ensures.reading c.take_next.ensures.refused has
+    steps_read c.args.self.now c.take_next.new.self bytes records has c.args.self.now.fault c.take_next.result refl c.take_next.ensures.steps
