@@ -1,7 +1,7 @@
 pub mod Serving
 pub mod Asking
 pub mod Referred
-pub mod Wanted
+pub mod Requests
 pub mod Carrying
 pub use Rattle.account_core.specs.Steps
 pub use Rattle.account_core.specs.Shown

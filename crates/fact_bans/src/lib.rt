@@ -7,9 +7,9 @@ mod exchanges;
 mod lists;
 mod mismatched;
 mod mismatches;
+mod open_claims;
 mod refusal;
 mod rows;
-mod settling;
 mod tallies;
 mod tally_plan;
 

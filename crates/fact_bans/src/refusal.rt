@@ -10,7 +10,7 @@ ghost use Rattle.fact_bans.specs.Asking.{AreSame, MakesBy, MayAskBy, MayMakeBy, 
 ghost use Rattle.ban_book.specs.Ways.{IsBlock, ways_in};
 
 use crate::asker::Asker;
-use crate::settling::settle;
+use crate::open_claims::decide_open;
 use crate::tallies::tally;
 use account_core::PairableGraphs;
 use ban_book::BanBook;
@@ -73,7 +73,7 @@ fn next_classes<O: Oracle>(
     if tried != 1 {
         return Ok(classes_of(asker.alloc, graphs, asker.broken)?);
     }
-    settle(graphs, asker)?;
+    decide_open(graphs, asker)?;
     Ok(classes_of(asker.alloc, graphs, asker.broken)?)
 }
 

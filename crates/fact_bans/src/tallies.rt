@@ -10,7 +10,7 @@ ghost use Rattle.fact_bans.specs.Carrying.{IsPairOf};
 ghost use Rattle.fact_bans.specs.Asking.{AreSame, MakesBy, MayAskBy, MayMakeBy, ServesBy, loans};
 
 use crate::asker::Asker;
-use crate::lists::{Wanted, list};
+use crate::lists::{FactRequest, facts_of};
 use crate::tally_plan::TallyPlan;
 use account_core::{PairableGraphs, other_side, port_on};
 use ban_book::{BanBook, Lists, tally_ban};
@@ -87,23 +87,23 @@ fn ask<O: Oracle>(
 {
     // the facts of an oracle are of its circuits
     let _facts = asker.oracle.facts();
-    let first = wanted_on(plan.side, pair, plan.holds, false);
+    let first = request_on(plan.side, pair, plan.holds, false);
     let inputs = graphs.side(first.side).inputs();
-    let Some(one) = list(asker, first, inputs, &plan.one)? else {
+    let Some(one) = facts_of(asker, first, inputs, &plan.one)? else {
         return Ok(None);
     };
-    let second = wanted_on(other_side(plan.side), pair, !plan.holds, true);
+    let second = request_on(other_side(plan.side), pair, !plan.holds, true);
     let inputs = graphs.side(second.side).inputs();
-    let Some(both) = list(asker, second, inputs, &plan.both)? else {
+    let Some(both) = facts_of(asker, second, inputs, &plan.both)? else {
         return Ok(None);
     };
     Ok(Some(Lists { one, both }))
 }
 
-fn wanted_on(side: Side, pair: Pair, holds: bool, both: bool) -> Wanted
+fn request_on(side: Side, pair: Pair, holds: bool, both: bool) -> FactRequest
     ensures { result ≡ record { side = side; output = port_on side pair; holds = holds; both = both } }
 {
-    Wanted {
+    FactRequest {
         side,
         output: port_on(side, pair),
         holds,

@@ -28,7 +28,7 @@ const SEED: u64 = 1;
 /// # Errors
 ///
 /// `Spent` where a line had to be learned and the ledger's budget was spent. `Memory` when out of memory.
-pub(crate) fn settle<O: Oracle>(
+pub(crate) fn decide_open<O: Oracle>(
     graphs: &PairableGraphs<'_>,
     asker: &mut Asker<'_, O>,
 ) -> Result<(), Stop>
@@ -45,13 +45,13 @@ pub(crate) fn settle<O: Oracle>(
         if asker.ledger.learned() >= lines {
             return Ok(());
         }
-        settle_at(graphs, asker, place, &mut first, &mut second)?;
+        decide_at(graphs, asker, place, &mut first, &mut second)?;
     }
     Ok(())
 }
 
 // Has the claim of one input at a place decided, if it is open.
-fn settle_at<O: Oracle>(
+fn decide_at<O: Oracle>(
     graphs: &PairableGraphs<'_>,
     asker: &mut Asker<'_, O>,
     place: usize,

@@ -1,6 +1,6 @@
 use Rattle.fact_bans.specs.Asking.{AreSame, loans}
 use Rattle.fact_bans.specs.Serving.{HasServed}
-use Rattle.fact_bans.proofs.settling.settle.Given as goal
+use Rattle.fact_bans.proofs.open_claims.decide_open.Given as goal
 
 abbrev pub invariant-loop-place : goal.invariant-loop-place
 invariant-loop-place g l =

@@ -2,7 +2,7 @@ use Rattle.std.proofs.Common.{refl, subst}
 use Rattle.net_core.specs.Sides.{Graphs}
 use Rattle.claim_core.specs.Claims.{IsClaim}
 use Rattle.fact_bans.proofs.ServeLemmas.{served_one, served_same, serves_memory, serves_ok}
-use Rattle.fact_bans.proofs.settling.settle_at.Goals as goal
+use Rattle.fact_bans.proofs.open_claims.decide_at.Goals as goal
 
 pub decide-requires-clause-placed : goal.decide-requires-clause-placed
 decide-requires-clause-placed g c =
