@@ -97,8 +97,8 @@ paid_kept graphs one other asked line same (inr (k, entry, within, is, charged))
     inr (k, entry, within, is, record { same = same_after entry.query one other charged.same same; learned = charged.learned })
 
 -- what was paid for under the feeds of the last query was under those of one with the same feeds
-pub paid_turned : (graphs : Graphs) (query : Query) (last_query : List Query) (asked : List Asked) (lines : List LogLine) → IsUnder query last_query → All (λ own. All (IsPaid graphs own asked) lines) last_query → All (IsPaid graphs query asked) lines
-paid_turned graphs query last_query asked lines under paid k d within =
+pub paid_under : (graphs : Graphs) (query : Query) (last_query : List Query) (asked : List Asked) (lines : List LogLine) → IsUnder query last_query → All (λ own. All (IsPaid graphs own asked) lines) last_query → All (IsPaid graphs query asked) lines
+paid_under graphs query last_query asked lines under paid k d within =
     let own : All (IsPaid graphs under.own asked) lines = subst (λ q. All (IsPaid graphs q asked) lines) under.is (paid 0 under.own under.some) in
     paid_kept graphs under.own query asked (slice_index_or lines k d) under.same (own k d within)
 

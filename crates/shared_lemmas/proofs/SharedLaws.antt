@@ -16,8 +16,8 @@ pub own_feeds : (query : Query) → HaveSameFeeds query query
 own_feeds query = record { left_side = refl; left_feed = refl; right_side = refl; right_feed = refl }
 
 -- what holds under the feeds of the last query holds under those of one with the same feeds
-pub turned : (graphs : Graphs) (query : Query) (last_query : List Query) (lines : List LogLine) → AreShared graphs last_query lines → IsUnder query last_query → HoldUnder graphs query lines
-turned graphs query last_query lines shared under other same =
+pub shared_under : (graphs : Graphs) (query : Query) (last_query : List Query) (lines : List LogLine) → AreShared graphs last_query lines → IsUnder query last_query → HoldUnder graphs query lines
+shared_under graphs query last_query lines shared under other same =
     let own = subst (λ q. HoldUnder graphs q lines) under.is (shared 0 under.own under.some) in
     own other (record {
       left_side = same.left_side ∙ under.same.left_side;

@@ -126,7 +126,7 @@ fn ask_sharing<W: Watch>(
           lines = stock.new.lines.items;
         }) ledger.new.asked) }
 {
-    turn_to(alloc, graphs, query, stock)?;
+    keep_lines_under(alloc, graphs, query, stock)?;
     let cones = ConeClauses::new(alloc, graphs, query)?;
     if are_small(&cones) | (stock.given > MOST_GIVEN) {
         return ask_watched(alloc, graphs, query, ledger, watch);
@@ -236,7 +236,7 @@ fn finish(
 }
 
 // Lets the lines go where they hold under other feeds than a query's.
-fn turn_to(
+fn keep_lines_under(
     alloc: Global,
     graphs: &Graphs<'_>,
     query: &Query,
