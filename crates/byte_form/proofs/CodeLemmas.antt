@@ -1,9 +1,9 @@
 -- Values that are made of others: what is so of their bytes.
-use Rattle.std.proofs.Common.{◌≡◌, ℕ, ◌<◌, ◌^◌, List, [], ◌∷◌, ◌++◌, length, All, refl, sym, ap, subst, ◌∙◌, arith, append_assoc, length-append}
+use Rattle.std.proofs.Common.{◌≡◌, ℕ, ◌<◌, ◌^◌, List, [], ◌∷◌, ◌++◌, length, All, refl, sym, ap, subst, ◌∙◌, arith, append_assoc}
 use Rattle.std.specs.List.{flat_map}
 use Rattle.std.proofs.lemmas.List.{append_cancel_left, flat_map_more}
 use Rattle.std.proofs.lemmas.List.Elements.{All-head, All-nil, All-push, All-tail}
-use Rattle.byteorder.specs.Numbers.{big_number-reads_back, length-bytes_high_first}
+use Rattle.byteorder.specs.Numbers.{big_number-reads_back}
 use Rattle.byteorder.specs.Endian.{big_from}
 use Rattle.byte_form.specs.Codes.{number_bytes, both_bytes, BothFit, list_bytes, ListFits, HasItems, IsPrefixCode, BeginsWith, BeginsNone}
 
@@ -93,21 +93,6 @@ next_none {X} {A} bytes Fits bytes_a FitsA part rest text a left is fits code fi
       h.none x after (record { fits = (begins.fits, sym e); text_is = rest_is });
 }
 
--- a value begins where its first part does, and what follows it
-pub then_begins : {X A : Type 0} (bytes : X → List ℕ) (Fits : X → Type 0) (bytes_a : A → List ℕ) (FitsA : A → Type 0) (part : A) (rest : List ℕ) (text middle left : List ℕ) (x : X) → bytes x ≡ bytes_a part ++ rest → BeginsWith bytes_a FitsA text part middle → middle ≡ rest ++ left → Fits x → BeginsWith bytes Fits text x left
-then_begins {X} {A} bytes Fits bytes_a FitsA part rest text middle left x is first after fits = record {
-  fits = fits;
-  text_is = first.text_is ∙ (ap (λ m. bytes_a part ++ m) after ∙ (sym (append_assoc (bytes_a part) rest left) ∙ ap (λ b. b ++ left) (sym is)));
-}
-
--- where bytes are too few for a number
-pub number_none : (n : ℕ) (Fits : ℕ → Type 0) (text : List ℕ) → length text < n → BeginsNone (number_bytes n) Fits text
-number_none n Fits text few = record {
-  none = λ x left begins.
-      let count = ap length begins.text_is ∙ length-append (number_bytes n x) left in
-      omega (arith, few, count, length-bytes_high_first n x);
-}
-
 -- lists whose first values were read, and no value follows
 items_none : {X : Type 0} (bytes : X → List ℕ) (Fits : X → Type 0) → IsPrefixCode bytes Fits → (items xs : List X) (left after : List ℕ) → length items < length xs → All Fits items → All Fits xs → flat_map bytes items ++ left ≡ flat_map bytes xs ++ after → BeginsNone bytes Fits left → ⊥
 items_none {X} bytes Fits code items [] left after fewer all each same h = absurd (omega (arith, fewer))
@@ -146,8 +131,3 @@ list_none {X} bytes Fits code old text items left count old_is small fewer so_fa
       let rest = same_left (number_bytes 8) (λ x. x < 256 ^ 8) (number_code 8) count (length xs) text (flat_map bytes xs ++ after) low lower same in
       items_none bytes Fits code items xs left after (omega (arith, fewer, counts)) so_far.each begins.fits.each (sym so_far.text_is ∙ rest) h;
 }
-
--- a list has no count
-pub count_none : {X : Type 0} (bytes : X → List ℕ) (Fits : X → Type 0) (text : List ℕ) → length text < 8 → BeginsNone (list_bytes bytes) (ListFits Fits) text
-count_none {X} bytes Fits text few =
-    first_none (list_bytes bytes) (ListFits Fits) (number_bytes 8) (λ n. Unit {0}) length (flat_map bytes) text (λ xs. refl) (λ xs fits. tt) (number_none 8 (λ n. Unit {0}) text few)
