@@ -2,7 +2,7 @@
 
 ghost use Rattle.std.specs.Prelude.{◌≡◌, length};
 
-use crate::cubes::{BLOCK, CubeColumn, at, blocks_of, first_free, has, power, vectors_of};
+use crate::cubes::{BLOCK, CubeColumn, WORD, at, blocks_of, first_free, has, power, vectors_of};
 use items::Items;
 use net_core::Graph;
 use std::alloc::{AllocError, Global};
@@ -11,6 +11,21 @@ use word_sim::{Rails, rails_eval, word_at};
 /// The value of an output that isn't known.
 pub(crate) const UNKNOWN: u8 = 2;
 
+/// The bit of a cube on which an output has 0 on some vector.
+pub(crate) const HAS_ZERO: u8 = 1;
+
+/// The bit of a cube on which it has 1 on some vector.
+pub(crate) const HAS_ONE: u8 = 2;
+
+/// The bit of a place where an output falls on some vector as the input rises, as `BrokenClaims::broken` has it.
+const FALLS: u8 = 1;
+
+/// The bit of a place where it rises.
+const RISES: u8 = 2;
+
+/// Both: the output is binate in the input.
+const BINATE: u8 = FALLS | RISES;
+
 /// An output that reaches few inputs through gates.
 #[derive(Drop)]
 pub(crate) struct Cone {
@@ -18,10 +33,9 @@ pub(crate) struct Cone {
     pub(crate) inputs: Items<u32>,
     /// What it has on each cube by its gates, evaluated by three values: 0, 1, or `UNKNOWN`.
     pub(crate) values: Items<u8>,
-    /// What it has on vectors of each cube: 1 where it has 0 on one, 2 where it has 1 on one, and 3 where it has both.
+    /// What it has on vectors of each cube: `HAS_ZERO`, `HAS_ONE`, or both bits.
     pub(crate) bits: Items<u8>,
-    /// Of each place which claims of one input fail: 1 where the output may fall as the input rises, 2 where it may
-    /// rise, and 3 for both.
+    /// Of each place which claims of one input fail: `FALLS`, `RISES`, or both bits.
     pub(crate) broken: Items<u8>,
     /// Of each two places which claims of two inputs fail, in a row for each first place: bit 2 a + b is 1 where the
     /// output may fall as both change, the one from a and the other from b.
@@ -73,7 +87,11 @@ impl Cone {
     /// On how many inputs the output depends, and in how many it is binate.
     pub(crate) fn counts(&self) -> (usize, usize) {
         let depends = self.broken.iter().filter(|broken| **broken != 0).count();
-        let binate = self.broken.iter().filter(|broken| **broken == 3).count();
+        let binate = self
+            .broken
+            .iter()
+            .filter(|broken| **broken == BINATE)
+            .count();
         (depends, binate)
     }
 }
@@ -150,7 +168,7 @@ fn push_values(
     zeros: u64,
     cubes: usize,
 ) -> Result<(), AllocError> {
-    for lane in 0..64u32 {
+    for lane in 0..WORD as u32 {
         if values.len() >= cubes {
             return Ok(());
         }
@@ -185,9 +203,9 @@ fn bits_of(alloc: Global, values: &[u8], inputs: usize) -> Result<Items<u8>, All
 
 fn bit_of(value: u8) -> u8 {
     match value {
-        0 => 1,
-        1 => 2,
-        _ => 3,
+        0 => HAS_ZERO,
+        1 => HAS_ONE,
+        _ => HAS_ZERO | HAS_ONE,
     }
 }
 
@@ -223,12 +241,24 @@ fn broken_in(bits: &[u8], vectors: &[usize], place: usize) -> u8 {
     broken
 }
 
-// 1 where an output falls between two vectors, and 2 where it rises.
+// Whether an output falls or rises between two vectors, by what it has on each.
 fn change_of(low: u8, high: u8) -> u8 {
-    match (low, high) {
-        (2, 1) => 1,
-        (1, 2) => 2,
-        _ => 0,
+    if (low == HAS_ONE) & (high == HAS_ZERO) {
+        FALLS
+    } else if (low == HAS_ZERO) & (high == HAS_ONE) {
+        RISES
+    } else {
+        0
+    }
+}
+
+/// Which claims of an input and an output fail where one of the two is inverted: falling and rising are exchanged. Bit
+/// 0 says that the output may fall as the input rises, bit 1 that it may rise.
+pub fn exchanged(broken: u8) -> u8 {
+    match broken {
+        FALLS => RISES,
+        RISES => FALLS,
+        _ => broken,
     }
 }
 
@@ -263,11 +293,11 @@ fn add_swaps(
 fn swaps_in(bits: &[u8], vectors: &[usize], one: usize, other: usize) -> u8 {
     let mut failing = 0;
     for (number, cube) in vectors.iter().enumerate() {
-        let from = has(number, one);
-        let with = has(number, other);
-        let changed = changed_at(changed_at(*cube, one, from), other, with);
-        if (at(bits, *cube) == 2) & (at(bits, changed) == 1) {
-            failing |= swap_bit(from, with);
+        let first = has(number, one);
+        let second = has(number, other);
+        let changed = changed_at(changed_at(*cube, one, first), other, second);
+        if (at(bits, *cube) == HAS_ONE) & (at(bits, changed) == HAS_ZERO) {
+            failing |= swap_bit(first, second);
         }
     }
     failing

@@ -3,11 +3,11 @@
 //! Inputs of the second circuit are paired one after the other, and each way that a prime excludes is a ban. The
 //! expected number of open nodes with some inputs paired is the number of ways to pair these, times, for each prime
 //! that fixes no other ones, the share of the first cone's cubes with as many fixed places on which the output hasn't
-//! the opposite value. So what is below a node is a sum along the best order of the inputs. On drawn functions it is
-//! right within a few per cent.
+//! the opposite value. So what is below a node is a sum along the best order of the inputs. On the drawn functions
+//! that were tried it is near the bans that were made.
 
-use crate::cone::Cone;
-use crate::cubes::{FREE, bit, has};
+use crate::cone::{Cone, HAS_ONE, HAS_ZERO};
+use crate::cubes::{Digits, FREE, bit, has};
 use crate::halves::{Halves, MOST_VALUE, ONE};
 use crate::primes::Prime;
 use crate::tables::TabledPair;
@@ -19,7 +19,7 @@ pub(crate) const PARTS: u64 = 16;
 
 /// What a node costs at which all inputs of a cone are paired. Other outputs have to exclude it, which isn't foreseen:
 /// so many bans that an output comes late which leaves such nodes open.
-const WHOLE: u64 = 1_000 * PARTS;
+const LEAF_COST: u64 = 1_000 * PARTS;
 
 /// How often a first cone has no 0, and no 1, on cubes with so many fixed places: exponents of a half, two for each
 /// number of places.
@@ -46,10 +46,7 @@ impl Shares {
         let place = (prime.size as usize)
             .saturating_mul(2)
             .saturating_add(excluding);
-        match self.exponents.get(place) {
-            Some(exponent) => *exponent,
-            None => 0,
-        }
+        self.exponents.get(place).copied().unwrap_or(0)
     }
 }
 
@@ -79,10 +76,10 @@ impl CubeCounts {
     fn add(&mut self, size: usize, bits: u8) {
         count(&mut self.all, size);
         let place = size.saturating_mul(2);
-        if bits & 1 == 0 {
+        if bits & HAS_ZERO == 0 {
             count(&mut self.without, place);
         }
-        if bits & 2 == 0 {
+        if bits & HAS_ONE == 0 {
             count(&mut self.without, place.saturating_add(1));
         }
     }
@@ -95,10 +92,7 @@ fn count(counts: &mut [u64], place: usize) {
 }
 
 fn count_at(counts: &[u64], place: usize) -> u64 {
-    match counts.get(place) {
-        Some(count) => *count,
-        None => 0,
-    }
+    counts.get(place).copied().unwrap_or(0)
 }
 
 // Cubes of ten places are fewer than 2^16, so that nothing is too large.
@@ -111,13 +105,12 @@ fn share_of(number: u64, all: u64) -> u64 {
 
 // How many places a cube fixes.
 fn fixed_in(cube: usize, inputs: usize) -> usize {
-    let mut rest = cube;
+    let mut digits = Digits::of(cube);
     let mut fixed = 0usize;
     for _place in 0..inputs {
-        if rest % 3 != FREE {
+        if digits.next() != FREE {
             fixed = fixed.saturating_add(1);
         }
-        rest /= 3;
     }
     fixed
 }
@@ -137,7 +130,7 @@ impl Costs {
         tabled: &TabledPair<'_>,
     ) -> Result<Costs, AllocError> {
         let exponents = exponents_of(alloc, shares, tabled)?;
-        let mut costs = Items::from_vec(vec![in alloc; WHOLE; exponents.len()]?);
+        let mut costs = Items::from_vec(vec![in alloc; LEAF_COST; exponents.len()]?);
         let places = tabled.second.inputs.len();
         for back in 1..exponents.len() {
             let set = exponents.len().saturating_sub(back).saturating_sub(1);
@@ -156,17 +149,11 @@ impl Costs {
 }
 
 fn cost_in(costs: &[u64], set: usize) -> u64 {
-    match costs.get(set) {
-        Some(cost) => *cost,
-        None => MOST_VALUE,
-    }
+    costs.get(set).copied().unwrap_or(MOST_VALUE)
 }
 
 fn exponent_in(exponents: &[u32], set: usize) -> u32 {
-    match exponents.get(set) {
-        Some(exponent) => *exponent,
-        None => 0,
-    }
+    exponents.get(set).copied().unwrap_or(0)
 }
 
 // What a node costs: a ban for each way of the best place that comes next, and what is below those that stay open.

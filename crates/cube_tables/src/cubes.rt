@@ -5,24 +5,28 @@ use std::alloc::{AllocError, Global};
 use std::simd::prelude::*;
 use word_sim::Rails;
 
-/// How many inputs a cone may reach of which a table is made. There are 59,049 cubes of ten.
+/// How many inputs a cone may reach of which a table is made. With ten there are 59,049 cubes, and some 30 ms of
+/// tables; each input more takes three times as many.
 pub(crate) const MOST_INPUTS: usize = 10;
 
 /// The digit of an input that may have either bit.
 pub(crate) const FREE: usize = 2;
 
-/// How many words of 64 cubes are evaluated at once.
+/// How many cubes are in a word, one a bit.
+pub(crate) const WORD: usize = 64;
+
+/// How many words are evaluated at once, as word_sim does.
 pub(crate) const BLOCK: usize = 8;
+
+/// How many digits there are.
+const BASE: usize = 3;
 
 /// The powers of three.
 static POWERS: [usize; MOST_INPUTS + 1] = [1, 3, 9, 27, 81, 243, 729, 2_187, 6_561, 19_683, 59_049];
 
 /// What the digit of a place counts for, and how many cubes there are of so many inputs.
 pub(crate) fn power(place: usize) -> usize {
-    match POWERS.get(place) {
-        Some(power) => *power,
-        None => 0,
-    }
+    POWERS.get(place).copied().unwrap_or(0)
 }
 
 /// The set of one place. A set of places is a number, of which each bit says whether a place is in it.
@@ -37,20 +41,36 @@ pub(crate) fn has(set: usize, place: usize) -> bool {
 
 /// The element of a table at a place, 0 outside it.
 pub(crate) fn at(table: &[u8], place: usize) -> u8 {
-    match table.get(place) {
-        Some(element) => *element,
-        None => 0,
+    table.get(place).copied().unwrap_or(0)
+}
+
+/// The digits of a cube, one after the other from that of the first place on.
+#[derive(Drop)]
+pub(crate) struct Digits {
+    rest: usize,
+}
+
+impl Digits {
+    /// Those of a cube.
+    pub(crate) fn of(cube: usize) -> Digits {
+        Digits { rest: cube }
+    }
+
+    /// The digit of the next place.
+    pub(crate) fn next(&mut self) -> usize {
+        let digit = self.rest % BASE;
+        self.rest /= BASE;
+        digit
     }
 }
 
 /// The first free place of a cube of so many inputs.
 pub(crate) fn first_free(cube: usize, inputs: usize) -> Option<usize> {
-    let mut rest = cube;
+    let mut digits = Digits::of(cube);
     for place in 0..inputs {
-        if rest % 3 == FREE {
+        if digits.next() == FREE {
             return Some(place);
         }
-        rest /= 3;
     }
     None
 }
@@ -59,13 +79,13 @@ pub(crate) fn first_free(cube: usize, inputs: usize) -> Option<usize> {
 pub(crate) fn vectors_of(alloc: Global, inputs: usize) -> Result<Vec<usize>, AllocError> {
     let mut cubes = vec![in alloc; 0usize; 1]?;
     for place in 0..inputs {
-        add_with(&mut cubes, place)?;
+        double_by(&mut cubes, place)?;
     }
     Ok(cubes)
 }
 
 // Adds to cubes the same with 1 at a place.
-fn add_with(cubes: &mut Vec<usize>, place: usize) -> Result<(), AllocError> {
+fn double_by(cubes: &mut Vec<usize>, place: usize) -> Result<(), AllocError> {
     for number in 0..cubes.len() {
         if let Some(cube) = cubes.get(number).copied() {
             cubes.push(cube.saturating_add(power(place)))?;
@@ -74,7 +94,7 @@ fn add_with(cubes: &mut Vec<usize>, place: usize) -> Result<(), AllocError> {
     Ok(())
 }
 
-/// What the input of a place has on all cubes of some inputs, 64 cubes in a word.
+/// What the input of a place has on all cubes of some inputs, in words.
 #[derive(Drop)]
 pub(crate) struct CubeColumn {
     zeros: Vec<u64>,
@@ -100,7 +120,7 @@ impl CubeColumn {
 
 /// How many blocks of 512 cubes these take.
 pub(crate) fn blocks_of(cubes: usize) -> usize {
-    cubes.div_ceil(64 * BLOCK)
+    cubes.div_ceil(WORD * BLOCK)
 }
 
 // A bit for each cube, which is 1 where the digit of a place is this one.
@@ -136,8 +156,8 @@ fn next_digit(digit: usize) -> usize {
 }
 
 fn mark(bits: &mut [u64], cube: usize) {
-    if let Some(word) = bits.get_mut(cube / 64) {
-        *word |= 1u64 << (cube % 64);
+    if let Some(word) = bits.get_mut(cube / WORD) {
+        *word |= 1u64 << (cube % WORD);
     }
 }
 

@@ -1,5 +1,6 @@
 //! What the first circuit's inputs have on a cube of the second's, by pairs.
 
+use crate::cone::{HAS_ONE, HAS_ZERO};
 use crate::cubes::{FREE, bit, has, power};
 use crate::primes::Prime;
 use crate::tables::TabledPair;
@@ -68,10 +69,7 @@ impl Images {
 
     fn step(&self, place: usize, one: bool) -> usize {
         let at = place.saturating_mul(2).saturating_add(one as usize);
-        match self.steps.get(at) {
-            Some(step) => *step,
-            None => 0,
-        }
+        self.steps.get(at).copied().unwrap_or(0)
     }
 }
 
@@ -89,8 +87,8 @@ pub(crate) fn steps_of(tabled: &TabledPair<'_>, pair: Pair) -> [usize; 2] {
 /// wrong.
 pub(crate) fn needed_bit(tabled: &TabledPair<'_>, prime: &Prime) -> u8 {
     if prime.value != tabled.pair.flip {
-        1
+        HAS_ZERO
     } else {
-        2
+        HAS_ONE
     }
 }

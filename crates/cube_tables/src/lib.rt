@@ -6,14 +6,14 @@ mod column;
 mod cone;
 mod costs;
 mod cubes;
+mod exclusions;
 mod halves;
 mod images;
 mod pair_costs;
 mod plan;
 mod primes;
-mod reached;
-mod shown;
 mod tables;
 
+pub use cone::exchanged;
+pub use exclusions::Exclusion;
 pub use plan::Plan;
-pub use shown::Shown;

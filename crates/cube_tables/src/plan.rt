@@ -3,9 +3,9 @@
 use crate::column::Column;
 use crate::costs::PARTS;
 use crate::cubes::{bit, has};
+use crate::exclusions::{Exclusion, LookUp, exclusion_by, wrong_prime};
 use crate::images::Images;
 use crate::pair_costs::{PairCosts, is_less, output_port, way_of, ways_to, work_of_all};
-use crate::shown::{LookUp, Shown, shown_by, wrong_prime};
 use crate::tables::{TabledPair, Tables, cone_in};
 use account_core::{PairableGraphs, Port};
 use circuits::{Pair, PortKind};
@@ -73,49 +73,49 @@ impl Plan {
         }))
     }
 
-    /// The next thing that tables show of assigned pairs; each call goes on where the last one stopped.
+    /// The next assigned pairs that tables show to exclude each other; each call goes on where the last one stopped.
     ///
     /// # Errors
     ///
     /// Only when out of memory.
-    pub fn next_shown(
+    pub fn next_exclusion(
         &mut self,
         alloc: Global,
         assigned: &[Pair],
-    ) -> Result<Option<Shown>, AllocError> {
+    ) -> Result<Option<Exclusion>, AllocError> {
         for place in self.looked.pairs..assigned.len() {
-            if let Some(shown) = self.shown_at(alloc, assigned, place)? {
-                return Ok(Some(shown));
+            if let Some(exclusion) = self.exclusion_at(alloc, assigned, place)? {
+                return Ok(Some(exclusion));
             }
         }
         Ok(None)
     }
 
-    // The next thing that tables show of the pair at a place: by claims where these weren't compared, then by primes.
-    fn shown_at(
+    // The next exclusion that tables show of the pair at a place: by claims if these weren't compared, then by primes.
+    fn exclusion_at(
         &mut self,
         alloc: Global,
         assigned: &[Pair],
         place: usize,
-    ) -> Result<Option<Shown>, AllocError> {
+    ) -> Result<Option<Exclusion>, AllocError> {
         let Some(latest) = assigned.get(place).copied() else {
             return Ok(None);
         };
         if !self.looked.claims {
             self.looked.claims = true;
-            let shown = shown_by(alloc, &self.tables, assigned, latest, LookUp::Claims)?;
-            if shown.is_some() {
-                return Ok(shown);
+            let exclusion = exclusion_by(alloc, &self.tables, assigned, latest, LookUp::Claims)?;
+            if exclusion.is_some() {
+                return Ok(exclusion);
             }
         }
         self.looked = Looked {
             pairs: place.saturating_add(1),
             claims: false,
         };
-        shown_by(alloc, &self.tables, assigned, latest, LookUp::Primes)
+        exclusion_by(alloc, &self.tables, assigned, latest, LookUp::Primes)
     }
 
-    /// The place, among the assigned pairs, of the one that `next_shown` looked up last.
+    /// The place, among the assigned pairs, of the one that `next_exclusion` looked up last.
     pub fn place(&self) -> usize {
         if self.looked.claims {
             self.looked.pairs

@@ -1,7 +1,7 @@
 //! The greatest cubes on which an output is known.
 
 use crate::cone::{Cone, UNKNOWN};
-use crate::cubes::{FREE, at, bit, power};
+use crate::cubes::{Digits, FREE, at, bit, power};
 use std::alloc::{AllocError, Global};
 
 /// A cube on which an output is known by its gates, and isn't where any other place is free too: a prime. Those that
@@ -40,10 +40,9 @@ pub(crate) fn primes_of(alloc: Global, cone: &Cone) -> Result<Vec<Prime>, AllocE
 // The places that a cube fixes, and those that it fixes to 1, if the output isn't known where one more is free.
 fn prime_at(values: &[u8], cube: usize, inputs: usize) -> Option<(usize, usize)> {
     let (mut fixed, mut ones) = (0, 0);
-    let mut rest = cube;
+    let mut digits = Digits::of(cube);
     for place in 0..inputs {
-        let digit = rest % 3;
-        rest /= 3;
+        let digit = digits.next();
         if digit != FREE {
             let wider = cube.saturating_add((FREE - digit).saturating_mul(power(place)));
             if at(values, wider) != UNKNOWN {

@@ -1,13 +1,13 @@
 //! The tables of two circuits.
 
-use crate::cone::{Cone, swap_bit};
+use crate::cone::{Cone, exchanged, swap_bit};
 use crate::cubes::{CubeColumn, MOST_INPUTS, blocks_of, power};
 use crate::primes::{Prime, primes_of};
-use crate::reached::inputs_reached;
 use account_core::PairableGraphs;
 use circuits::{Pair, PortKind};
 use items::Items;
 use net_core::Graph;
+use sim_signature::Supports;
 use std::alloc::{AllocError, Global};
 
 /// How many evaluations of a gate on 512 cubes the tables may take: some 30 ms.
@@ -103,25 +103,30 @@ impl TabledPair<'_> {
 
     // Which claims of two inputs fail, of the first output and of the second as they are carried back to the first.
     fn swaps_of(&self, input: Pair, other: Pair) -> Option<(u8, u8)> {
-        let one = self.first.place_of(input.from)?;
-        let with = self.first.place_of(other.from)?;
-        let to = self.second.place_of(input.to)?;
-        let to_with = self.second.place_of(other.to)?;
+        let (from, to) = self.places_of(input)?;
+        let (other_from, other_to) = self.places_of(other)?;
         let carried = moved_swaps(
-            self.second.swap_at(to, to_with),
+            self.second.swap_at(to, other_to),
             input.flip != self.pair.flip,
             other.flip != self.pair.flip,
         );
-        Some((self.first.swap_at(one, with), carried))
+        Some((self.first.swap_at(from, other_from), carried))
+    }
+
+    // The places of an input's pair in the two cones.
+    fn places_of(&self, input: Pair) -> Option<(usize, usize)> {
+        let from = self.first.place_of(input.from)?;
+        let to = self.second.place_of(input.to)?;
+        Some((from, to))
     }
 }
 
 // The claims that fail where the values from which two inputs change are inverted.
 fn moved_swaps(failing: u8, one: bool, other: bool) -> u8 {
     let mut moved = 0;
-    for (from, with) in [(false, false), (false, true), (true, false), (true, true)] {
-        if failing & swap_bit(from != one, with != other) != 0 {
-            moved |= swap_bit(from, with);
+    for (first, second) in [(false, false), (false, true), (true, false), (true, true)] {
+        if failing & swap_bit(first != one, second != other) != 0 {
+            moved |= swap_bit(first, second);
         }
     }
     moved
@@ -132,26 +137,18 @@ pub(crate) fn cone_in(cones: &[Option<Cone>], output: u32) -> Option<&Cone> {
     cones.get(output as usize)?.as_ref()
 }
 
-// What fails where rising and falling are exchanged.
-fn exchanged(broken: u8) -> u8 {
-    match broken {
-        1 => 2,
-        2 => 1,
-        _ => broken,
-    }
-}
-
 // The tables of a circuit's outputs that reach few inputs, as far as they may be made.
 fn cones_of(
     alloc: Global,
     graph: &Graph,
     columns: &[CubeColumn],
 ) -> Result<Vec<Option<Cone>>, AllocError> {
+    let supports = Supports::new(alloc, graph)?;
     let gates = graph.gates().len();
     let mut left = MOST_GATES;
     let mut cones = Vec::new(alloc);
     for output in 0..graph.outputs().len() as u32 {
-        let inputs = inputs_reached(alloc, graph, output)?;
+        let inputs = supports.inputs_of(alloc, output)?;
         let cost = blocks_of(power(inputs.len())).saturating_mul(gates);
         if (inputs.len() > MOST_INPUTS) | (cost > left) {
             cones.push(None)?;

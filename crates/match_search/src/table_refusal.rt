@@ -18,7 +18,7 @@ use account_core::{PairableGraphs, Port};
 use circuits::PortKind;
 use class_refine::Domains;
 use cnf_core::Stop;
-use cube_tables::{Plan, Shown};
+use cube_tables::{Exclusion, Plan};
 use oracle_core::Oracle;
 use pair_search::{Conflict, Mismatches, branch};
 use std::alloc::{AllocError, Global};
@@ -181,11 +181,11 @@ fn step_ahead<O: Oracle>(
     ensures ahead { IfOk result (IsTableAhead session.new.book.now domains.new) }
 {
     let alloc = session.asker.alloc;
-    let Some(shown) = plan.next_shown(alloc, domains.pairs())? else {
+    let Some(exclusion) = plan.next_exclusion(alloc, domains.pairs())? else {
         let next = decide_next(alloc, plan, domains)?;
         return Ok(next);
     };
-    match exclude_shown(graphs, session, domains, &shown, plan.place())? {
+    match exclude_shown(graphs, session, domains, &exclusion, plan.place())? {
         Some(ban) => Ok(TableAhead::Conflict(Conflict::Ban(ban))),
         None => Ok(TableAhead::Advanced),
     }
@@ -217,17 +217,17 @@ fn exclude_shown<O: Oracle>(
     graphs: &PairableGraphs<'_>,
     session: &mut Session<'_, O>,
     domains: &Domains,
-    shown: &Shown,
+    exclusion: &Exclusion,
     place: usize,
 ) -> Result<Option<u64>, Stop>
     requires may { MayStep graphs.now (lent O.known session.old) domains.now }
     ensures { Excludes graphs.now (lent O.known session.old) (lent O.known session.new)
         (assigned_in domains.now.entries) result }
 {
-    if shown.by_swaps {
+    if exclusion.by_swaps {
         return exclude_by_swaps_at(graphs, session, domains, place);
     }
-    exclude_by_cubes(graphs, session, domains, shown)
+    exclude_by_cubes(graphs, session, domains, exclusion)
 }
 
 // By claims of two inputs, of the pair at a place.
@@ -254,7 +254,7 @@ fn exclude_by_cubes<O: Oracle>(
     graphs: &PairableGraphs<'_>,
     session: &mut Session<'_, O>,
     domains: &Domains,
-    shown: &Shown,
+    exclusion: &Exclusion,
 ) -> Result<Option<u64>, Stop>
     requires may { MayStep graphs.now (lent O.known session.old) domains.now }
     ensures { Excludes graphs.now (lent O.known session.old) (lent O.known session.new)
@@ -263,9 +263,9 @@ fn exclude_by_cubes<O: Oracle>(
     // assigned pairs are of ports that exist, and share none
     let _lawful = domains.entries();
     let suspicion = Suspicion {
-        output: shown.output,
-        pairs: &shown.pairs,
-        vector: &shown.vector,
+        output: exclusion.output,
+        pairs: &exclusion.pairs,
+        vector: &exclusion.vector,
     };
     ban_suspected(
         graphs,

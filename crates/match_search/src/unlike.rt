@@ -16,6 +16,7 @@ use broken_claims::BrokenClaims;
 use circuits::{Pair, PortKind};
 use class_refine::{Domains, Reason};
 use cnf_core::Stop;
+use cube_tables::exchanged;
 use fact_bans::{Unlike, ask_difference};
 use net_core::Side;
 use oracle_core::Oracle;
@@ -110,15 +111,6 @@ fn list_port(
         }
     }
     Ok(())
-}
-
-// What is broken where up and down are exchanged, as a sign does.
-fn exchanged(broken: u8) -> u8 {
-    match broken {
-        1 => 2,
-        2 => 1,
-        _ => broken,
-    }
 }
 
 // Lists the pair of two ports, if it is open. Its sign is that of the assigned pair, or the opposite one where `sign`

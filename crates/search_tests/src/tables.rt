@@ -12,8 +12,18 @@ use std::test::Fail;
 /// How many inputs the functions have.
 const INPUTS: usize = 4;
 
+/// How many vectors these have.
+const VECTORS: usize = 16;
+
 /// How many orders these have.
 const ORDERS: usize = 24;
+
+/// More gates than any of these functions has, which are 16 ANDs of four literals and their sum at most, so that a
+/// literal fits its type.
+const MOST_GATES: usize = 1_000;
+
+/// The stream of the generator: any number, as long as the functions stay the same.
+const STREAM: u64 = 54;
 
 /// The powers of two.
 static POWERS: [usize; 4] = [1, 2, 4, 8];
@@ -83,7 +93,7 @@ fn has(code: usize, input: usize) -> bool {
 /// A drawn function: what it is on each vector.
 fn drawn_bits(alloc: Global, numbers: &mut Pcg32) -> Result<Vec<bool>, AllocError> {
     let mut bits = Vec::new(alloc);
-    for _code in 0..16 {
+    for _code in 0..VECTORS {
         bits.push(numbers.next_word() % 2 == 1)?;
     }
     Ok(bits)
@@ -176,7 +186,7 @@ fn add_gate(gates: &mut Vec<(u32, u32)>, one: u32, other: u32) -> Result<u32, Al
         .len()
         .saturating_add(INPUTS)
         .saturating_add(1)
-        .min(1_000) as u32;
+        .min(MOST_GATES) as u32;
     gates.push((one, other))?;
     Ok(2 * signal)
 }
@@ -184,10 +194,10 @@ fn add_gate(gates: &mut Vec<(u32, u32)>, one: u32, other: u32) -> Result<u32, Al
 /// Two functions by a number: a drawn one, and the same with its inputs moved, changed on two vectors where the number
 /// is odd.
 fn two_functions(alloc: Global, number: u64) -> Result<(Vec<bool>, Vec<bool>), AllocError> {
-    let mut numbers = Pcg32::new(number, 54);
+    let mut numbers = Pcg32::new(number, STREAM);
     let one = drawn_bits(alloc, &mut numbers)?;
     let order = order_of(alloc, numbers.next_word() as usize % ORDERS)?;
-    let signs = numbers.next_word() as usize % 16;
+    let signs = numbers.next_word() as usize % VECTORS;
     let mut other = moved_bits(alloc, &one, &Move { order, signs })?;
     if number % 2 == 1 {
         change_two(&mut other);

@@ -2,8 +2,8 @@ use Rattle.std.proofs.Common.{refl}
 use Rattle.match_search.proofs.StepLemmas.{steps_fail, steps_ok, steps_stop, way_bans, way_start, way_stays}
 use Rattle.match_search.proofs.table_refusal.step_ahead.Goals as goal
 
-pub returns-in_err-shown-clause-steps : goal.returns-in_err-shown-clause-steps
-returns-in_err-shown-clause-steps g c = steps_stop c.from_residual.ensures.1 (way_start c.requires.may)
+pub returns-in_err-exclusion-clause-steps : goal.returns-in_err-exclusion-clause-steps
+returns-in_err-exclusion-clause-steps g c = steps_stop c.from_residual.ensures.1 (way_start c.requires.may)
 
 pub returns-in_err-next-clause-steps : goal.returns-in_err-next-clause-steps
 returns-in_err-next-clause-steps g c = steps_stop c.from_residual-in_err-next.ensures.1 (way_start c.requires.may)

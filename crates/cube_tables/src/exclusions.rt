@@ -1,8 +1,8 @@
-//! What tables show of assigned pairs.
+//! Which assigned pairs exclude each other, as tables show.
 
 use crate::column::Column;
 use crate::cone::Cone;
-use crate::cubes::{FREE, at, has, power};
+use crate::cubes::{Digits, FREE, at, has, power};
 use crate::images::{Images, needed_bit};
 use crate::primes::Prime;
 use crate::tables::{TabledPair, Tables};
@@ -13,7 +13,7 @@ use std::alloc::{AllocError, Global};
 
 /// Assigned pairs that exclude each other, as tables show.
 #[derive(Debug, Drop)]
-pub struct Shown {
+pub struct Exclusion {
     /// The one of outputs.
     pub output: Pair,
     /// All of them.
@@ -35,20 +35,20 @@ pub(crate) enum LookUp {
 }
 
 /// What tables show of an assigned pair beside others, if they show something.
-pub(crate) fn shown_by(
+pub(crate) fn exclusion_by(
     alloc: Global,
     tables: &Tables,
     assigned: &[Pair],
     latest: Pair,
     by: LookUp,
-) -> Result<Option<Shown>, AllocError> {
+) -> Result<Option<Exclusion>, AllocError> {
     if let Some(tabled) = tables.tabled(latest) {
-        return shown_of_output(alloc, &tabled, assigned, by);
+        return exclusion_of_output(alloc, &tabled, assigned, by);
     }
     for pair in assigned.iter() {
         if let Some(tabled) = tables.tabled(*pair) {
-            if let Some(shown) = shown_of_input(alloc, &tabled, assigned, latest, by)? {
-                return Ok(Some(shown));
+            if let Some(exclusion) = exclusion_of_input(alloc, &tabled, assigned, latest, by)? {
+                return Ok(Some(exclusion));
             }
         }
     }
@@ -56,12 +56,12 @@ pub(crate) fn shown_by(
 }
 
 // What tables show of a pair of outputs, alone and beside pairs of inputs.
-fn shown_of_output(
+fn exclusion_of_output(
     alloc: Global,
     tabled: &TabledPair<'_>,
     assigned: &[Pair],
     by: LookUp,
-) -> Result<Option<Shown>, AllocError> {
+) -> Result<Option<Exclusion>, AllocError> {
     match by {
         LookUp::Claims => claims_of_output(alloc, tabled, assigned),
         LookUp::Primes => primes_of_output(alloc, tabled, assigned),
@@ -69,13 +69,13 @@ fn shown_of_output(
 }
 
 // What tables show of a pair of outputs and an input's pair, alone and beside other inputs'.
-fn shown_of_input(
+fn exclusion_of_input(
     alloc: Global,
     tabled: &TabledPair<'_>,
     assigned: &[Pair],
     input: Pair,
     by: LookUp,
-) -> Result<Option<Shown>, AllocError> {
+) -> Result<Option<Exclusion>, AllocError> {
     match by {
         LookUp::Claims => claims_of_input(alloc, tabled, assigned, input),
         LookUp::Primes => primes_of_input(alloc, tabled, assigned, input),
@@ -86,13 +86,13 @@ fn claims_of_output(
     alloc: Global,
     tabled: &TabledPair<'_>,
     assigned: &[Pair],
-) -> Result<Option<Shown>, AllocError> {
+) -> Result<Option<Exclusion>, AllocError> {
     if !tabled.has_same_counts() {
         return Ok(Some(by_claims(alloc, tabled, &[])?));
     }
     for pair in assigned.iter() {
-        if let Some(shown) = claims_of_input(alloc, tabled, assigned, *pair)? {
-            return Ok(Some(shown));
+        if let Some(exclusion) = claims_of_input(alloc, tabled, assigned, *pair)? {
+            return Ok(Some(exclusion));
         }
     }
     Ok(None)
@@ -103,7 +103,7 @@ fn claims_of_input(
     tabled: &TabledPair<'_>,
     assigned: &[Pair],
     input: Pair,
-) -> Result<Option<Shown>, AllocError> {
+) -> Result<Option<Exclusion>, AllocError> {
     if input.kind != PortKind::Input {
         return Ok(None);
     }
@@ -127,7 +127,7 @@ fn primes_of_input(
     tabled: &TabledPair<'_>,
     assigned: &[Pair],
     input: Pair,
-) -> Result<Option<Shown>, AllocError> {
+) -> Result<Option<Exclusion>, AllocError> {
     let images = Images::new(alloc, tabled, assigned)?;
     let column = Column::new(alloc, *tabled, &images, assigned, input.to)?;
     match column.wrong_prime(input) {
@@ -140,7 +140,7 @@ fn primes_of_output(
     alloc: Global,
     tabled: &TabledPair<'_>,
     assigned: &[Pair],
-) -> Result<Option<Shown>, AllocError> {
+) -> Result<Option<Exclusion>, AllocError> {
     let images = Images::new(alloc, tabled, assigned)?;
     match wrong_prime(tabled, &images) {
         Some(number) => by_prime(alloc, tabled, &images, assigned, number),
@@ -162,10 +162,14 @@ pub(crate) fn wrong_prime(tabled: &TabledPair<'_>, images: &Images) -> Option<us
 }
 
 // That claims differ, of one input's pair or of two.
-fn by_claims(alloc: Global, tabled: &TabledPair<'_>, inputs: &[Pair]) -> Result<Shown, AllocError> {
+fn by_claims(
+    alloc: Global,
+    tabled: &TabledPair<'_>,
+    inputs: &[Pair],
+) -> Result<Exclusion, AllocError> {
     let mut pairs = Items::from_slice(alloc, inputs)?;
     pairs.push(tabled.pair)?;
-    Ok(Shown {
+    Ok(Exclusion {
         output: tabled.pair,
         pairs,
         by_swaps: inputs.len() == 2,
@@ -180,15 +184,15 @@ fn by_prime(
     images: &Images,
     assigned: &[Pair],
     number: usize,
-) -> Result<Option<Shown>, AllocError> {
+) -> Result<Option<Exclusion>, AllocError> {
     let Some(prime) = tabled.primes.get(number) else {
         return Ok(None);
     };
-    let mut pairs = fixing(alloc, tabled, assigned, prime)?;
+    let mut pairs = fixed_pairs(alloc, tabled, assigned, prime)?;
     pairs.push(tabled.pair)?;
     let cube = images.cube_of(prime, 0);
     let vector = vector_in(alloc, tabled, cube, needed_bit(tabled, prime))?;
-    Ok(Some(Shown {
+    Ok(Some(Exclusion {
         output: tabled.pair,
         pairs,
         by_swaps: false,
@@ -197,7 +201,7 @@ fn by_prime(
 }
 
 // The assigned pairs of the inputs that a prime fixes.
-fn fixing(
+fn fixed_pairs(
     alloc: Global,
     tabled: &TabledPair<'_>,
     assigned: &[Pair],
@@ -205,15 +209,22 @@ fn fixing(
 ) -> Result<Items<Pair>, AllocError> {
     let mut pairs = Items::new(alloc);
     for pair in assigned.iter() {
-        if pair.kind == PortKind::Input {
-            if let Some(place) = tabled.second.place_of(pair.to) {
-                if has(prime.fixed, place) {
-                    pairs.push(*pair)?;
-                }
-            }
+        if is_fixed(tabled, prime, *pair) {
+            pairs.push(*pair)?;
         }
     }
     Ok(pairs)
+}
+
+// Whether a pair is of an input that a prime fixes.
+fn is_fixed(tabled: &TabledPair<'_>, prime: &Prime, pair: Pair) -> bool {
+    if pair.kind != PortKind::Input {
+        return false;
+    }
+    match tabled.second.place_of(pair.to) {
+        Some(place) => has(prime.fixed, place),
+        None => false,
+    }
 }
 
 // A vector of a cube on which an output has a bit that it has there. Inputs that the output doesn't reach are 0.
@@ -225,14 +236,13 @@ fn vector_in(
 ) -> Result<Bits, AllocError> {
     let cone = tabled.first;
     let mut cube = cube;
-    let mut rest = cube;
+    let mut digits = Digits::of(cube);
     let mut vector = Bits::new(alloc);
     for (place, input) in cone.inputs.iter().enumerate() {
         extend_to(&mut vector, *input)?;
-        let mut digit = rest % 3;
-        rest /= 3;
+        let mut digit = digits.next();
         if digit == FREE {
-            digit = digit_with(cone, cube, place, needed);
+            digit = chosen_digit(cone, cube, place, needed);
             cube = cube.saturating_sub(FREE.saturating_sub(digit).saturating_mul(power(place)));
         }
         vector.push(digit == 1)?;
@@ -242,7 +252,7 @@ fn vector_in(
 }
 
 // The bit of a free place for which an output still has a bit on the cube.
-fn digit_with(cone: &Cone, cube: usize, place: usize, needed: u8) -> usize {
+fn chosen_digit(cone: &Cone, cube: usize, place: usize, needed: u8) -> usize {
     let zero = cube.saturating_sub(power(place).saturating_mul(2));
     if at(&cone.bits, zero) & needed != 0 {
         0
