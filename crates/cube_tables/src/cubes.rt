@@ -45,6 +45,7 @@ pub(crate) fn at(table: &[u8], place: usize) -> u8 {
 }
 
 /// The digits of a cube, one after the other from that of the first place on.
+#[derive(Drop)]
 pub(crate) struct Digits {
     rest: usize,
 }
