@@ -14,8 +14,8 @@ use claim_core::{Claim, Query, of_claim};
 use cnf_core::{Log, LogLine, Stop};
 use items::Items;
 use net_core::Graphs;
-use query_core::{Ledger, count_of};
-use shared_lemmas::{SharedLemmas, trim};
+use query_core::Ledger;
+use shared_lemmas::{SharedLemmas, trim_answer};
 use std::alloc::{AllocError, Global};
 use watch_core::Watch;
 
@@ -33,14 +33,7 @@ pub(crate) fn answer_to<W: Watch>(
     ensures { Decides (IsAnswer graphs.now query.now) graphs.now query.now ledger.old ledger.new result }
 {
     let answer = ask_watched(alloc, graphs, query, ledger, watch)?;
-    match answer {
-        Answer::Vector(vector) => Ok(Answer::Vector(vector)),
-        Answer::Refuted(log) => {
-            let count = count_of(graphs, query);
-            let part = trim(alloc, count, &log.lines)?;
-            Ok(Answer::Refuted(part))
-        }
-    }
+    Ok(trim_answer(alloc, graphs, query, answer)?)
 }
 
 /// Finds a vector that meets a query, or a log that refutes it, by what earlier queries under the same feeds have

@@ -8,7 +8,8 @@ use Rattle.claim_core.specs.declared.query.Query.{Query}
 use Rattle.query_core.specs.declared.ledger.Asked.{Asked}
 use Rattle.query_core.specs.Ledgers.{Ledgered}
 use Rattle.ask_core.specs.declared.question.Answer.{Answer}
-use Rattle.ask_core.specs.Answers.{Asks, IsAskedIn, IsAskedWith}
+use Rattle.ask_core.specs.Answers.{Asks, IsAskedIn, IsAskedWith, IsBounded}
+use Rattle.ask_core.proofs.BoundLemmas.{bounded_with}
 use Rattle.shared_lemmas.specs.Shared.{ArePaidIn, IsAskedBy, IsPaid}
 use Rattle.shared_lemmas.proofs.PaidLemmas.{all_after}
 
@@ -21,6 +22,10 @@ by_these Known graphs query lemmas old new paid is = record { lemmas = lemmas; p
 -- the same where this is known
 pub by_known : (Known More : List Asked → Type 0) (graphs : Graphs) (query : Query) (old new : Ledgered) → ((asked : List Asked) → More asked → Known asked) → IsAskedBy Known graphs query old new → IsAskedBy More graphs query old new
 by_known Known More graphs query old new known is = record { lemmas = is.lemmas; paid = λ more. is.paid (known old.asked more); with_them = is.with_them }
+
+-- so few lines were learned for it as there can be
+pub bounded_by : (Known : List Asked → Type 0) (graphs : Graphs) (query : Query) (old new : Ledgered) → IsAskedBy Known graphs query old new → IsBounded graphs query new
+bounded_by Known graphs query old new is = bounded_with graphs query is.lemmas old new is.with_them
 
 -- what was paid for before a question that is asked by its own lemmas still is
 pub paid_alone : (graphs : Graphs) (query : Query) (lines : List LogLine) (old new : Ledgered) (r : Result Answer Stop) → Asks IsAskedIn graphs query old new r → All (IsPaid graphs query old.asked) lines → OnOk r (All (IsPaid graphs query new.asked) lines)

@@ -19,4 +19,4 @@ pub use common::Common;
 pub use marking::mark_hinted;
 pub use shared::SharedLemmas;
 pub use taking::{note, take_marked};
-pub use trimming::{trim, unplaced};
+pub use trimming::{trim_answer, unplaced};

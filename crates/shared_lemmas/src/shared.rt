@@ -14,7 +14,7 @@ use crate::keeping::keep;
 use crate::lemmas::{Lemmas, lemmas_for};
 use crate::stock::Stock;
 use crate::structural::answer_by;
-use crate::trim;
+use crate::trim_answer;
 use ask_core::{Answer, Question, ask_guided, ask_watched};
 use claim_core::Query;
 use cnf_core::Stop;
@@ -75,7 +75,7 @@ impl<'a> SharedLemmas<'a> {
     /// Answers a query that fits the circuits, by what was learned under its feeds too, which are the first lemmas of
     /// its entry in the ledger. Where the lines that are kept were paid for in this ledger, so were these lemmas, but
     /// for those of joint hashing, and what is kept afterwards. The log of a refutation has what its last line rests
-    /// on, and no more, unless the query is asked by itself: where its cones are small, or many lines were given.
+    /// on, and no more.
     ///
     /// # Errors
     ///
@@ -128,15 +128,13 @@ fn ask_sharing<W: Watch>(
 {
     keep_lines_under(alloc, graphs, query, stock)?;
     let cones = ConeClauses::new(alloc, graphs, query)?;
-    if are_small(&cones) | (stock.given > MOST_GIVEN) {
-        return ask_watched(alloc, graphs, query, ledger, watch);
-    }
     let question = Question {
         graphs,
         query,
         cones: &cones,
     };
-    ask_cones(alloc, &question, stock, ledger, watch)
+    let answer = ask_cones(alloc, &question, stock, ledger, watch)?;
+    Ok(trim_answer(alloc, graphs, query, answer)?)
 }
 
 // Whether the clauses of cones are few beside those of large circuits.
@@ -145,7 +143,7 @@ fn are_small(cones: &ConeClauses<'_>) -> bool {
     (count >= LARGE) & (cones.ids().len() as u64 <= count / PART)
 }
 
-// Answers a query by structure, or by a stock that holds under its feeds, and adds to it.
+// Answers a query by itself, by structure, or by a stock that holds under its feeds, and adds to it.
 fn ask_cones<W: Watch>(
     alloc: Global,
     question: &Question<'_>,
@@ -165,6 +163,9 @@ fn ask_cones<W: Watch>(
         → OnOk result
         (All (IsPaid question.now.graphs.now question.now.query.now ledger.new.asked) stock.new.lines.items) }
 {
+    if are_small(question.cones) | (stock.given > MOST_GIVEN) {
+        return ask_watched(alloc, question.graphs, question.query, ledger, watch);
+    }
     if let Some(refutation) = refute(alloc, question.cones)? {
         return answer_by(alloc, question, refutation, ledger);
     }
@@ -207,7 +208,7 @@ fn ask_by<G: QuestionGuide>(
     Ok(finish(alloc, question.cones, answer, &lemmas.numbers, stock)?)
 }
 
-// What is answered: of a refutation what its last line rests on. Lines of it that hold for other outputs too are kept.
+// What is answered. Lines of a refutation that hold for other outputs too are kept.
 fn finish(
     alloc: Global,
     cones: &ConeClauses<'_>,
@@ -229,8 +230,7 @@ fn finish(
         Answer::Vector(vector) => Ok(Answer::Vector(vector)),
         Answer::Refuted(log) => {
             keep(alloc, cones, &log.lines, listed, stock)?;
-            let part = trim(alloc, cones.count(), &log.lines)?;
-            Ok(Answer::Refuted(part))
+            Ok(Answer::Refuted(log))
         }
     }
 }

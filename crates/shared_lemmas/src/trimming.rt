@@ -1,22 +1,46 @@
 //! Refutations, without the lines that their empty line doesn't rest on.
 
 ghost use Rattle.std.specs.Prelude.{◌≡◌, ◌<◌, ◌^◌, [], IfOk, IfSome, None, length, replicate};
+ghost use Rattle.ask_core.specs.Answers.{IsAnswer};
 ghost use Rattle.shared_lemmas.specs.Parts.{ArePlaced, GoesOn, IsLastOf, Trims};
 
 use crate::common::Common;
 use crate::marking::mark_hinted;
 use crate::numbering::renumbered;
 use crate::taking::take_marked;
+use ask_core::Answer;
+use claim_core::Query;
 use cnf_core::{Log, LogLine};
 use items::Items;
+use net_core::Graphs;
+use query_core::count_of;
 use std::alloc::{AllocError, Global};
 
-/// What the last line of a refutation rests on, and that line. The formula has n clauses.
+/// An answer to a query: of a refutation what its last line rests on, and that line.
 ///
 /// # Errors
 ///
 /// Only when out of memory.
-pub fn trim(alloc: Global, count: u64, lines: &[LogLine]) -> Result<Log, AllocError>
+pub fn trim_answer(
+    alloc: Global,
+    graphs: &Graphs<'_>,
+    query: &Query,
+    answer: Answer,
+) -> Result<Answer, AllocError>
+    requires { IsAnswer graphs.now query.now answer }
+    ensures { IfOk result (IsAnswer graphs.now query.now) }
+{
+    match answer {
+        Answer::Vector(vector) => Ok(Answer::Vector(vector)),
+        Answer::Refuted(log) => {
+            let part = trim(alloc, count_of(graphs, query), &log.lines)?;
+            Ok(Answer::Refuted(part))
+        }
+    }
+}
+
+// What the last line of a refutation rests on, and that line. The formula has n clauses.
+fn trim(alloc: Global, count: u64, lines: &[LogLine]) -> Result<Log, AllocError>
     requires few { count < 2 ^ 62 }
     ensures refutes { IfOk result (λ log. Trims count lines.now log.lines) }
 {

@@ -1,9 +1,16 @@
--- A refutation by structure leaves the stock as it is; the lines of the stock hold of the query itself.
+-- A query that is asked by itself and a refutation by structure leave the stock as it is; the lines of the stock hold of
+-- the query itself.
 use Rattle.ask_core.proofs.BoundLemmas.{asks_weaker}
 use Rattle.shared_lemmas.proofs.AnswerLemmas.{by_own, by_these, paid_alone}
 use Rattle.shared_lemmas.proofs.PaidLemmas.{pays_of}
 use Rattle.shared_lemmas.proofs.SharedLaws.{hold_of, own_feeds}
 use Rattle.shared_lemmas.proofs.shared.ask_cones.Goals as goal
+
+pub returns-then-are_small-stock-clause-asks : goal.returns-then-are_small-stock-clause-asks
+returns-then-are_small-stock-clause-asks g c = asks_weaker _ _ _ _ c.ask_watched.result (by_own _ _ _ _ _) c.ask_watched.ensures.asks
+
+pub returns-then-are_small-stock-clause-paid : goal.returns-then-are_small-stock-clause-paid
+returns-then-are_small-stock-clause-paid g c known = paid_alone _ _ _ _ _ c.ask_watched.result c.ask_watched.ensures.asks known
 
 pub returns-in-Some-clause-asks : goal.returns-in-Some-clause-asks
 returns-in-Some-clause-asks g c = asks_weaker _ _ _ _ c.answer_by.result (by_own _ _ _ _ _) c.answer_by.ensures
