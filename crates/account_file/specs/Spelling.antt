@@ -186,7 +186,7 @@ HasLine (record_of.DropBan ban) = ⊥
 HasLine other = Unit {0}
 
 -- that a record has a line is shown in one way at most
-pub HasLine-prop : (record : Record) → IsProp (HasLine record)
+pub HasLine-prop : (entry : Record) → IsProp (HasLine entry)
 HasLine-prop record_of.Header = Prim.hlevel props
 HasLine-prop (record_of.Fact fact) = Prim.hlevel props
 HasLine-prop (record_of.Line line) = Prim.hlevel props
