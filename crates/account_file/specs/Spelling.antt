@@ -1,6 +1,7 @@
 -- An account as text: the one line of each record (this project's format).
 use Rattle.std.specs.Prelude.{ℕ, ◌<◌, ◌^◌, All, Bool, List, [], ◌∷◌, ◌++◌, codes, map, Option, None, Some, if◌then◌else◌}
 use Rattle.std.specs.Fmt.{decimal}
+use Rattle.std.proofs.Props.{props}
 use Rattle.std.specs.List.{flat_map}
 use Rattle.circuits.specs.Ports.{letter_of}
 use Rattle.circuits.specs.declared.port.Pair.{Pair}
@@ -183,3 +184,16 @@ abbrev pub HasLine : Record → Type 0
 HasLine (record_of.DropFact fact) = ⊥
 HasLine (record_of.DropBan ban) = ⊥
 HasLine other = Unit {0}
+
+-- that a record has a line is shown in one way at most
+pub HasLine-prop : (entry : Record) → IsProp (HasLine entry)
+HasLine-prop record_of.Header = Prim.hlevel props
+HasLine-prop (record_of.Fact fact) = Prim.hlevel props
+HasLine-prop (record_of.Line line) = Prim.hlevel props
+HasLine-prop (record_of.Ban ban) = Prim.hlevel props
+HasLine-prop (record_of.Conclusion conclusion) = Prim.hlevel props
+HasLine-prop record_of.End = Prim.hlevel props
+HasLine-prop (record_of.DropFact fact) = Prim.hlevel props
+HasLine-prop (record_of.DropBan ban) = Prim.hlevel props
+
+pub ruleset line_props = (props, HasLine-prop)
