@@ -118,7 +118,12 @@ pub(crate) fn next_point(
         return Ok(Next::Paired(state));
     };
     match likeness {
-        Some(likeness) => likest_point(alloc, state, cell, likeness),
+        Some(likeness) => {
+            // while signs are open a guess in the best cell decides most
+            let goes_by_cell = goes_by_cell(round) || state.inputs.has_open();
+            let only = if goes_by_cell { Some(cell) } else { None };
+            likest_point(alloc, state, only, likeness)
+        }
         None => point_of(alloc, state, cell, round, draws),
     }
 }
@@ -149,19 +154,21 @@ fn point_of(
     }))
 }
 
-// The literal that is most like one that it may correspond to. While signs are open, one of the cell: a guess there
-// decides most.
+// Whether a round that goes by likeness looks for the likest literal in the best cell alone, the largest once no sign
+// is open. The likest of all may be in a small cell that splits nothing else: the AND and the exclusive or of the
+// points on each line of a plane of 57 aren't guessed by it. In all such rounds a SEC-DED code isn't in line, so it is
+// two of the four, the second and the last.
+fn goes_by_cell(round: u32) -> bool {
+    round % 4 == 2
+}
+
+// The literal that is most like one that it may correspond to, of one cell or of all.
 fn likest_point(
     alloc: Global,
     state: State,
-    cell: usize,
+    only: Option<usize>,
     likeness: &Likeness,
 ) -> Result<Next, AllocError> {
-    let only = if state.inputs.has_open() {
-        Some(cell)
-    } else {
-        None
-    };
     let Some(literal) = likest(alloc, &state.inputs, only, likeness)? else {
         return Ok(Next::Paired(state));
     };
