@@ -1,11 +1,11 @@
 -- What the next record of version 2, or the first fault, says of the bytes, and what is left after it.
 use Rattle.std.proofs.Common.{◌≡◌, ◌≢◌, ℕ, ◌+◌, ◌-◌, ◌≤◌, Bool, true, false, List, [], ◌∷◌, ◌++◌, length, drop, Option, None, Some, IsSome, Ok, Err, refl, sym, ap, subst, ◌∙◌, arith, inl, inr, append_assoc, append-nil, length-append, length-drop}
 use Rattle.std.proofs.Math.Seq.{drop-append_seam}
-use Rattle.std.proofs.lemmas.Bool.{cases_lt, false≢true}
+use Rattle.std.proofs.lemmas.Bool.{false≢true}
 use Rattle.std.proofs.lemmas.Bool.Decides.{Decides-eqb}
 use Rattle.std.proofs.lemmas.Slice.Eq.{starts_is}
 use Rattle.byte_form.specs.Codes.{BeginsNone, BeginsWith, number_bytes}
-use Rattle.byte_form.proofs.CodeLemmas.{number_none}
+use Rattle.byteorder.specs.Numbers.{length-bytes_high_first}
 use Rattle.account_bytes.specs.declared.entry.Entry.{Entry}
 use Rattle.account_bytes.specs.declared.reading.EntryStop.{EntryStop}
 use Rattle.account_bytes.specs.Entries.{EntryFits, FrameFits, ReadsEntry, entry_body, entry_bytes, frame_bytes}
@@ -117,10 +117,7 @@ found left new entry begins =
 
 -- a number has eight bytes at least
 eight_at_least : (count : ℕ) → 8 ≤ length (number_bytes 8 count)
-eight_at_least count = elim (cases_lt (length (number_bytes 8 count)) 8) [
-  | inl few ↦ absurd ((number_none 8 (λ n. Unit {0}) (number_bytes 8 count) few).none count [] (record { fits = tt; text_is = sym (append-nil (number_bytes 8 count)) }))
-  | inr enough ↦ enough
-]
+eight_at_least count = omega (arith, length-bytes_high_first 8 count)
 
 -- what is done with it
 pub entry_read : (left : List ℕ) (finished : Bool) (place : Place) (entry : Entry) (used : ℕ) → IsOpen place → IsFound left entry used → (next : Option Place) → next_place place (record_with entry) ≡ next
