@@ -1,6 +1,8 @@
 //! Cubes of few inputs: the numbers below a power of three, of which each digit says what an input has. It is 0, 1, or
 //! 2 where the input may have either bit.
 
+ghost use Rattle.std.specs.Prelude.{◌<◌};
+
 use std::alloc::{AllocError, Global};
 use std::simd::prelude::*;
 use word_sim::Rails;
@@ -57,7 +59,9 @@ impl Digits {
     }
 
     /// The digit of the next place.
-    pub(crate) fn next(&mut self) -> usize {
+    pub(crate) fn next(&mut self) -> usize
+        ensures digit { result < 3 }
+    {
         let digit = self.rest % BASE;
         self.rest /= BASE;
         digit
