@@ -21,3 +21,4 @@ pub mod OrderLemmas
 pub mod SizeLemmas
 pub mod CheckLemmas
 pub mod LimitLemmas
+pub mod WideLemmas

@@ -16,3 +16,4 @@ pub mod Order
 pub mod Sizes
 pub mod Checks
 pub mod Limits
+pub mod Widths

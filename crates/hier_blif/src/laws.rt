@@ -1,13 +1,17 @@
 //! The laws of the definitions. Each function does nothing; its contract is the law.
 
-ghost use Rattle.std.specs.Prelude.{◌≡◌, ℕ, [], List, true, Contains};
+ghost use Rattle.std.specs.Prelude.{◌≡◌, ℕ, [], List, true, length, All, Contains};
+ghost use Rattle.text_core.specs.Piece.{Piece};
 ghost use Rattle.circuits.specs.Netlists.{Net};
 ghost use Rattle.circuits.specs.Functions.{Computes};
 ghost use Rattle.circuits.specs.Levels.{IsAcyclic};
 ghost use Rattle.circuits.specs.Circuits.{Circuit};
 ghost use Rattle.hier_blif.specs.declared.model.BlifModel.{BlifModel as AnyModel};
+ghost use Rattle.hier_blif.specs.Models.{models_of};
+ghost use Rattle.hier_blif.specs.LineFaults.{AreSound};
+ghost use Rattle.hier_blif.specs.Widths.{HasWideCovers};
 ghost use Rattle.hier_blif.specs.NameFaults.{name_faults};
-ghost use Rattle.hier_blif.specs.Depths.{is_within};
+ghost use Rattle.hier_blif.specs.Depths.{is_within, covers_within};
 ghost use Rattle.hier_blif.specs.Flattening.{flat_covers, IsFlattened, IsNumbering};
 ghost use Rattle.hier_blif.specs.Signals.{signal_of_top};
 ghost use Rattle.blif_reader.specs.Blif.{blif_lines};
@@ -50,4 +54,15 @@ pub fn names_have_a_numbering()
         → Contains models top
         → is_within models depth top ≡ true
         → IsNumbering models top (flat_covers models depth top) (signal_of_top models depth top) }
+{}
+
+/// The covers that are counted without being made are as many as those of the flat circuit.
+pub fn covers_are_counted()
+    ensures { (models : List AnyModel) (model : AnyModel) (depth : ℕ)
+        → length (flat_covers models depth model) ≡ covers_within models depth model }
+{}
+
+/// Where no line is refused, the rows of each cover are as wide as its operands.
+pub fn covers_are_wide()
+    ensures { (lines : List (List Piece)) → AreSound lines → All HasWideCovers (models_of lines) }
 {}

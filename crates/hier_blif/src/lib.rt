@@ -17,7 +17,10 @@ mod words;
 
 pub use checks::check_models;
 pub use fault::{HierFault, HierKind, HierStop};
-pub use laws::{flattened_means_nested, hier_blif_is_a_format, names_have_a_numbering};
+pub use laws::{
+    covers_are_counted, covers_are_wide, flattened_means_nested, hier_blif_is_a_format,
+    names_have_a_numbering,
+};
 pub use model::{BlifModel, CoverLine, InstanceLine, ModelLine};
 pub use names::check_names;
 pub use reader::read_models;
