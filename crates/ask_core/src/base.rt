@@ -105,8 +105,8 @@ impl Base for DenseBase {
     }
 }
 
-// The numbers of clauses of a formula that has so many in all, and those of n lemmas, which stand after all of these. No
-// memory has as many clauses as the bounds, with which sums don't wrap.
+// The numbers of clauses of a formula that has so many in all, and those of n lemmas, which stand after all of these.
+// No memory has as many clauses as the bounds, with which sums don't wrap.
 fn numbers_of(alloc: Global, ids: &[u64], count: u64, lemmas: usize) -> Result<Vec<u64>, AllocError>
     requires count { count < 2 ^ 62 }
     requires lemmas { lemmas < 2 ^ 63 }

@@ -12,7 +12,8 @@ use items::Items;
 use net_file::Name;
 use std::alloc::{AllocError, Global};
 
-/// The limit of inputs, and that of outputs. Tables of pairs of ports, as a search has, then have some millions of entries.
+/// The limit of inputs, and that of outputs. Tables of pairs of ports, as a search has, then have some millions of
+/// entries.
 const MOST_PORTS: u32 = 1024;
 
 /// The offset of the first port of a kind beyond the limit, if there are more.

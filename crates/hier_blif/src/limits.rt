@@ -13,7 +13,8 @@ use crate::model::ModelLine;
 use circuits::PortKind;
 use text_core::Span;
 
-/// The limit of inputs, and that of outputs: that of `blif_reader`, since what is read here is flattened to such a netlist.
+/// The limit of inputs, and that of outputs: that of `blif_reader`, since what is read here is flattened to a netlist
+/// like those.
 const MOST_PORTS: usize = 1024;
 
 /// Checks that a model with these lines has no more ports than the limits. The fault is at the first one beyond.
