@@ -3,7 +3,7 @@
 ghost use Rattle.std.specs.Prelude.{◌≡◌, ◌≤◌, IfOk};
 ghost use Rattle.shelf_core.specs.State.{Closed};
 
-use crate::files::{A, AND, B, C17, C17_MOVED, EMPTY, TABLE, THREE, TWO, XOR};
+use crate::files::{A, AND, AND_XOR, B, C17, C17_MOVED, EMPTY, TABLE, THREE, TWO, XOR};
 use crate::runs::{CHECK, MATCH, files_of, words_of};
 use explain::{
     EndedRun, FailedFile, FolderFault, Notice, Warning, explain, fault_of_words, folder_of,
@@ -187,20 +187,6 @@ fn says_which_line_is_wrong(rt: HostRuntime) -> Result<(), Fail> {
     Ok(())
 }
 
-/// The refusal of the AND and the exclusive or that the formats' document shows.
-const REFUSAL: &[u8] = b"npnp 1\n\
-      fails b 0 up 0 =01\n\
-      fails b 0 down 0 =10\n\
-      fails b 0 up 1 =10\n\
-      fails b 0 down 1 =01\n\
-      holds a 0 up 0\n\
-      l : 0 7 1\n\
-      ban o0+0 : tally binate 0 1 2 3 / 4\n\
-      ban o0-0 : tally binate 0 1 2 3 / 4\n\
-      ban : cover out 0 / 0 / 0 1\n\
-      none ban 2\n\
-      end\n";
-
 /// Accounts that are only read for what their last exclusions say.
 const BY_MISMATCH: &[u8] = b"npnp 1\n\
       fails b 0 up 1 =10\n\
@@ -225,7 +211,7 @@ static REFUSED: [(&[u8], &[u8], &[u8], &str); 5] = [
     (
         AND,
         XOR,
-        REFUSAL,
+        AND_XOR,
         "output o0 of A has no partner: 1 output of B can't be it, plain or inverted; the last way, o0 = not o0, \
          since output o0 of B is binate in 2 inputs or more, output o0 of A in 1 at most\n",
     ),
@@ -313,7 +299,7 @@ fn says_what_a_run_came_to(rt: HostRuntime) -> Result<(), Fail> {
 fn failing_shelf(alloc: Global, call: u64) -> Result<MemShelf, AllocError>
     ensures { IfOk result (λ shelf. (⟦<MemShelf as Shelf>⟧.state shelf).mode ≡ Closed) }
 {
-    let files = files_of(alloc, [AND, XOR], Some(REFUSAL))?;
+    let files = files_of(alloc, [AND, XOR], Some(AND_XOR))?;
     MemShelf::new(alloc, files, 64, vec![in alloc; call; 1]?)
 }
 
@@ -321,7 +307,7 @@ fn failing_shelf(alloc: Global, call: u64) -> Result<MemShelf, AllocError>
 #[test]
 fn says_less_where_files_cannot_be_read_again(rt: HostRuntime) -> Result<(), Fail> {
     let refused = Outcome::NoMatching;
-    let whole = told_of(rt.alloc(), MATCH, &refused, [AND, XOR], Some(REFUSAL))?;
+    let whole = told_of(rt.alloc(), MATCH, &refused, [AND, XOR], Some(AND_XOR))?;
     for call in 0..20 {
         let mut shelf = failing_shelf(rt.alloc(), call)?;
         let told = told_over(rt.alloc(), MATCH, &refused, None, &mut shelf)?;
@@ -332,12 +318,12 @@ fn says_less_where_files_cannot_be_read_again(rt: HostRuntime) -> Result<(), Fai
 
 #[test]
 fn changes_no_file(rt: HostRuntime) -> Result<(), Fail> {
-    let files = files_of(rt.alloc(), [AND, XOR], Some(REFUSAL))?;
+    let files = files_of(rt.alloc(), [AND, XOR], Some(AND_XOR))?;
     let mut shelf = SafeShelf::new(rt.alloc(), files, 16)?;
     let _told = told_over(rt.alloc(), MATCH, &Outcome::NoMatching, None, &mut shelf)?;
     assert_eq!(rt;
         (shelf.file("A"), shelf.file("B"), shelf.file("t")),
-        (Some(AND), Some(XOR), Some(REFUSAL))
+        (Some(AND), Some(XOR), Some(AND_XOR))
     );
     Ok(())
 }

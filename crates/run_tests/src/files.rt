@@ -45,3 +45,17 @@ pub(crate) const XOR: &[u8] = b"aag 5 2 0 1 3\n2\n4\n10\n6 2 4\n8 3 5\n10 7 9\n"
 pub(crate) const THREE: &[u8] = b"aag 3 3 0 0 0\n2\n4\n6\n";
 
 pub(crate) const TWO: &[u8] = b"aag 2 2 0 0 0\n2\n4\n";
+
+/// The exclusive or falls and rises with either input, and the AND never falls where its first input rises.
+pub(crate) const AND_XOR: &[u8] = b"npnp 1\n\
+      fails b 0 up 0 =01\n\
+      fails b 0 down 0 =10\n\
+      fails b 0 up 1 =10\n\
+      fails b 0 down 1 =01\n\
+      holds a 0 up 0\n\
+      l : 0 7 1\n\
+      ban o0+0 : tally binate 0 1 2 3 / 4\n\
+      ban o0-0 : tally binate 0 1 2 3 / 4\n\
+      ban : cover out 0 / 0 / 0 1\n\
+      none ban 2\n\
+      end\n";

@@ -1,25 +1,11 @@
 //! Accounts that say that no match exists, and the nearest ones that aren't good.
 
 use crate::alterations::{Altered, check_altered};
-use crate::files::{A, AND, AND_OR, B, EMPTY, OR, TABLE, THREE, TWO, WIRE, XOR, ZERO};
+use crate::files::{A, AND, AND_OR, AND_XOR, B, EMPTY, OR, TABLE, THREE, TWO, WIRE, XOR, ZERO};
 use crate::runs::{CHECK, expect};
 use std::test::Fail;
 
 const NO_PORTS: &[u8] = b"npnp 1\nnone ports\nend\n";
-
-/// The exclusive or falls and rises with either input, and the AND never falls where its first input rises.
-const AND_XOR: &[u8] = b"npnp 1\n\
-      fails b 0 up 0 =01\n\
-      fails b 0 down 0 =10\n\
-      fails b 0 up 1 =10\n\
-      fails b 0 down 1 =01\n\
-      holds a 0 up 0\n\
-      l : 0 7 1\n\
-      ban o0+0 : tally binate 0 1 2 3 / 4\n\
-      ban o0-0 : tally binate 0 1 2 3 / 4\n\
-      ban : cover out 0 / 0 / 0 1\n\
-      none ban 2\n\
-      end\n";
 
 /// The wire rises with its input, and constant 0 doesn't: each way to pair the inputs and the outputs is excluded.
 const ZERO_WIRE: &[u8] =
