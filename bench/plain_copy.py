@@ -10,7 +10,7 @@ import sys
 
 HERE = os.path.join(os.path.dirname(os.path.abspath(__file__)), "plain")
 CALLED = ("match_search", "fact_tests", "account_check")  # by plain/program.rs, with all that they stand on
-IN_PRELUDE = ("items", "indexmap", "rand_core", "rand_pcg", "itoa")  # plain/prelude.rs has what is used of these
+IN_PRELUDE = ("items", "indexmap", "rand_core", "rand_pcg", "itoa", "byteorder")  # plain/prelude.rs has what is used of these
 NOT_IN_RUST = ("std::alloc", "std::simd", "std::marker::Model", "std::convert::AsSlice", "std::ops::DerefSlice", "std::snapshot", "thiserror")
 CLAUSE = re.compile(r"^[ \t]*(requires|ensures\*?|decreases|ghost|returns)\b", re.M)
 

@@ -544,6 +544,19 @@ impl Buffer {
     }
 }
 
+/// Numbers as bytes, the highest first, as byteorder writes them.
+pub struct BigEndian;
+
+impl BigEndian {
+    pub fn write_u64(to: &mut [u8], number: u64) {
+        to.copy_from_slice(&number.to_be_bytes());
+    }
+
+    pub fn write_u32(to: &mut [u8], number: u32) {
+        to.copy_from_slice(&number.to_be_bytes());
+    }
+}
+
 impl<T> Vec<T> {
     pub fn allocator(&self) -> &Global {
         &Global

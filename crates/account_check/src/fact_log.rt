@@ -125,7 +125,7 @@ fn take(refuter: &mut Refuter<ClaimBase<'_>>, line: &LogLine) -> Result<(), Reco
     Ok(())
 }
 
-// Goes over to the clauses of all gates, unless those that hints name are all present.
+// Switches to the clauses of all gates, unless those that hints name are all present.
 fn make_present<'a>(
     alloc: Global,
     refuter: &mut Refuter<ClaimBase<'a>>,

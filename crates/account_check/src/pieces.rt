@@ -20,7 +20,7 @@ use std::alloc::{AllocError, Global};
 use std::marker::Model;
 
 /// The check of an account of two circuits, whose bytes come in pieces, cut anywhere. Each record is taken as soon as
-/// its line is whole, and then let go: of the account's bytes only those of a line that isn't whole are kept.
+/// it is whole, and then let go: of the account's bytes only those of a record that isn't whole are kept.
 pub struct AccountCheck<'a> {
     reader: Reader,
     checker: Checker<'a>,
@@ -56,8 +56,8 @@ impl<'a> AccountCheck<'a> {
         })
     }
 
-    /// Takes the next bytes, and the records of the lines that are whole then. The first bad line is named at the piece
-    /// that completes it, whatever comes after it. After a refusal no more may be fed.
+    /// Takes the next bytes, and the records that are whole then. The first bad record is named at the piece that
+    /// completes it, whatever comes after it. After a refusal no more may be fed.
     pub fn feed(&mut self, alloc: Global, piece: &[u8]) -> Result<(), CheckStop>
         requires under_way { IsUnderWay self.old }
         requires fits { self.old.reading.total + length piece.now < 2 ^ 64 }
@@ -115,7 +115,7 @@ fn finish(
     Ok(ended(alloc, checker)?)
 }
 
-// Takes the records of all lines that are whole.
+// Takes all records that are whole.
 fn take_all(alloc: Global, reader: &mut Reader, checker: &mut Checker<'_>) -> Result<(), CheckStop>
     requires { IsUnderCheck reader.old checker.old }
     ensures { (finished : Bool) (graphs : TwoGraphs) (bytes : List ℕ)

@@ -18,7 +18,7 @@ pub enum Verdict {
     None,
 }
 
-/// What is wrong with a line of an account.
+/// What is wrong with a record of an account.
 #[derive(Clone, Copy, Debug, Drop, PartialEq, Eq)]
 pub enum Why {
     /// Its form, or where it stands.
@@ -64,10 +64,11 @@ fn reject_word(reject: Reject) -> &'static str
     }
 }
 
-/// Why an account has no verdict: a line is wrong, or memory ran out.
+/// Why an account has no verdict: a record is wrong, or memory ran out.
 #[derive(Clone, Copy, Debug, Drop, PartialEq, Eq, Error)]
 pub enum CheckStop {
-    /// The first line that is wrong, counted from 1; after the last where one is missing.
+    /// The number of the first record that is wrong, counted from 1, as a line of version 1 or an entry of version 2;
+    /// after the last where one is missing.
     #[error("line {line} is wrong")]
     Rejected { line: u64, why: Why },
     #[error("out of memory")]

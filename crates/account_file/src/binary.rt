@@ -48,7 +48,7 @@ pub(crate) fn may_be_binary(bytes: &[u8]) -> bool
     b"NPNPACC2".as_slice().starts_with(bytes)
 }
 
-/// What is done with the bytes that are left of an account of version 2, which stands there.
+/// What is done with the bytes left of an account of version 2, at this place of it.
 pub(crate) fn next_entry(
     alloc: Global,
     left: &[u8],

@@ -1,37 +1,39 @@
-//! What is wrong with the text of an account.
+//! What is wrong with the form of an account's records.
 
 ghost use Rattle.std.specs.Prelude.{◌≡◌};
 
 use std::alloc::{AllocError, AllocFailed};
 use thiserror::Error;
 
-/// What is wrong with a line of an account's text.
+/// What is wrong with a record's form: with a line of an account of version 1, or with an entry of version 2.
 #[derive(Clone, Copy, Debug, Drop, PartialEq, Eq, Error)]
 pub enum RecordFault {
-    /// The first line isn't `npnp 1`.
+    /// The first line isn't `npnp 1`. Of version 1 alone.
     #[error("the first line isn't `npnp 1`")]
     Header,
-    /// A word doesn't fit the line's form, or one is missing, or a blank is.
-    #[error("a word doesn't fit the line's form")]
+    /// A word doesn't fit the line's form, or one is missing, or a blank is; or an entry's tag is of no record, or its
+    /// fields have a byte without a meaning or end elsewhere than its body.
+    #[error("a word or a byte doesn't fit the record's form")]
     Word,
-    /// A word of digits, where a number may stand, isn't one: it has a leading zero, or is too large.
+    /// A word of digits, where a number may stand, isn't one: it has a leading zero, or is too large. Of version 1
+    /// alone.
     #[error("a number has a leading zero or is too large")]
     Number,
-    /// The line fits its form, and may not stand there.
-    #[error("the line may not stand there")]
+    /// The record may not stand there.
+    #[error("the record may not stand there")]
     Order,
-    /// The file ends before the line feed of `end`.
-    #[error("the file ends before the line `end`")]
+    /// The file ends before a line feed, or within an entry, or before the record `end`.
+    #[error("the file ends before the record `end`")]
     Truncated,
     /// Something stands after `end`.
-    #[error("something stands after the line `end`")]
+    #[error("something stands after the record `end`")]
     Trailing,
 }
 
 /// Why no record is read.
 #[derive(Clone, Copy, Debug, Drop, PartialEq, Eq, Error)]
 pub enum FileStop {
-    /// The line is wrong.
+    /// The record's form is wrong.
     #[error("{0}")]
     Fault(RecordFault),
     /// Out of memory.

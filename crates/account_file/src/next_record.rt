@@ -34,8 +34,8 @@ pub enum NextRecord {
     Refuse(RecordFault),
 }
 
-/// What is done with the bytes that are left, where the account is of version 2 or not, and stands there. No line feed
-/// is among the first `looked`.
+/// What is done with the bytes left of an account of this version, at this place of it. No line feed is among the first
+/// `looked`.
 pub(crate) fn next_in(
     alloc: Global,
     binary: bool,

@@ -160,8 +160,8 @@ impl<'a> Body<'a> {
 ///
 /// [`NetStop::Fault`] with the first fault: [`NetKind::BadLine`], [`NetKind::BadLiteral`] or
 /// [`NetKind::Redefined`] at the first byte of the first line that isn't as it should be, the first of them that
-/// applies to it, or [`NetKind::Truncated`] at the file's end where a line is missing. [`NetStop::Memory`] for want
-/// of memory alone.
+/// applies to it, or [`NetKind::Truncated`] at the file's end where a line is missing. [`NetStop::Memory`]
+/// only when out of memory.
 #[tactic(auto, using(crate::proofs::ReadingLemmas::body_read, crate::proofs::ReadingLemmas::body_sound))]
 pub(crate) fn read_body<'a>(
     alloc: Global,

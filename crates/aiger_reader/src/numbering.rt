@@ -71,7 +71,7 @@ fn line_count(header: Header) -> usize
     input_lines(header) as usize + header.outputs as usize + gate_lines(header) as usize
 }
 
-/// The offset of a line of a text. It reads the text again: offsets are wanted for faults alone, and are not kept.
+/// The offset of a line of a text. It reads the text again: offsets are needed for faults alone, and are not kept.
 pub(crate) fn offset_of_line(input: &[u8], line: usize) -> u64
     requires { line < length (lines input.now) }
     ensures { result ≡ line_offset input.now line }

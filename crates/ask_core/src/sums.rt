@@ -7,14 +7,14 @@ use learn_solver::Part;
 use std::alloc::{AllocError, Global};
 use word_sim::mix;
 
-/// How many exclusive ors are added at most: planning takes the cube of it.
+/// How many exclusive ors are added at most: planning takes the cube of it, some milliseconds of 64.
 const MOST_XORS: usize = 64;
 
-/// How many variables a sum has at most. It is broken by half of their vectors.
+/// How many variables a sum has at most. It is broken by half of their vectors, each of which is a part: 2,048 of 12.
 const WIDEST: usize = 12;
 
-/// How many parts a pair may have: each is a candidate that is decided before the pair. Four of the widest sums have as
-/// many.
+/// How many parts a pair may have: each is a candidate that is decided before the pair. It is as many as four of the
+/// widest sums have.
 const MOST_PARTS: usize = 8192;
 
 /// In how many orders exclusive ors are added. By one alone a Hamming code of 57 bits takes 27,000 lines, and by the

@@ -8,7 +8,7 @@ use indexmap::IndexMap;
 use std::alloc::{AllocError, Global};
 
 /// Of how many variables a form is at most: a longer sum is taken for a variable of its own, so that the forms of a
-/// chain of exclusive ors take time and memory in proportion to its gates.
+/// chain of exclusive ors take time and memory in proportion to its gates. The widest codes of the benches have fewer.
 const LONGEST: usize = 128;
 
 /// The sum of literals that a gate's output is, by what stands for each.

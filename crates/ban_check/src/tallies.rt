@@ -71,7 +71,7 @@ fn says(given: &Given, number: u64, holds: bool, claim: Claim) -> bool
     (fact.holds == holds) & (fact.claim.side == claim.side) & (fact.claim.output == claim.output)
 }
 
-// Whether facts are of inputs as a tally wants them, and of more than a circuit has.
+// Whether facts are of inputs as a tally requires, and of more than a circuit has.
 fn have_too_many(inputs: u32, given: &Given, kind: Tallied, have: &[u64], lack: &[u64]) -> bool
     ensures { IsTrue result ↔ HaveTooMany inputs given.now kind have.now lack.now }
 {

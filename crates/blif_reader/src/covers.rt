@@ -241,7 +241,7 @@ impl CoverSoFar {
     }
 }
 
-/// What the bytes of a row want of their operands.
+/// What the bytes of a row require of their operands.
 pub fn trits_of(alloc: Global, literals: &[u8]) -> Result<Items<Trit>, AllocError>
     ensures { IfOk result (λ trits. trits ≡ map trit_of literals.now) }
 {
@@ -321,7 +321,7 @@ fn signal_of(names: &IndexSet<&[u8]>, word: &Span<'_>) -> Result<u32, NetStop>
     }
 }
 
-// What a byte of a row wants of its operand.
+// What a byte of a row requires of its operand.
 fn trit_of(byte: u8) -> Trit
     ensures { result ≡ trit_of byte }
 {

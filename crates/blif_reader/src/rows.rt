@@ -31,7 +31,7 @@ pub struct RowWords<'a> {
     pub output: Span<'a>,
 }
 
-/// The words of a row, of which `first` is the first. None where there are more than two, which no cover wants; so a
+/// The words of a row, of which `first` is the first. None where there are more than two, which no cover has; so a
 /// long line takes no memory.
 pub fn words_of_row<'a>(first: Span<'a>, lines: &mut JoinedLines<'a>) -> Option<RowWords<'a>>
     ensures row { MatchOption result

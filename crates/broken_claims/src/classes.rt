@@ -8,8 +8,9 @@ use std::alloc::{AllocError, Global};
 /// How many bytes the bans of all ways may take, about: a tally has the numbers of up to two facts for each input.
 const MOST_BYTES: usize = 200_000_000;
 
-/// What a ban takes without the numbers of facts.
-const BAN: usize = 270;
+/// The bytes that a ban takes, about: itself, with few pairs and its places in the indices of bans, without numbers of
+/// facts.
+pub const BYTES_OF_BAN: usize = 270;
 
 /// What the numbers of up to two facts take, of 8 bytes each.
 const NUMBERS_OF_INPUT: usize = 16;
@@ -85,7 +86,7 @@ fn keys(
 fn most_ways(inputs: u32) -> usize {
     let tally = (inputs as usize)
         .saturating_mul(NUMBERS_OF_INPUT)
-        .saturating_add(BAN);
+        .saturating_add(BYTES_OF_BAN);
     MOST_BYTES / tally.saturating_mul(2).max(1)
 }
 

@@ -10,5 +10,5 @@ mod sampling;
 mod swaps;
 
 pub use claims::{BrokenClaims, OneInput};
-pub use classes::Classes;
+pub use classes::{BYTES_OF_BAN, Classes};
 pub use sampling::{Flips, Sample};

@@ -8,7 +8,7 @@ ghost use Rattle.check_steps.specs.Files.{HasUnread, ReadsFile, ReadsPiece};
 use shelf_core::{Shelf, ShelfStop};
 use std::alloc::{AllocError, Global};
 
-/// The bytes that one read asks for.
+/// The bytes that one read asks for: so many that what a call of the system costs beside them is lost.
 pub const PIECE: usize = 65_536;
 
 /// Why a file was not read.
@@ -48,7 +48,7 @@ impl From<AllocError> for ReadStop {
 pub enum File {
     /// There is no such file.
     Absent,
-    /// The file has more bytes than were wanted.
+    /// The file has more bytes than the limit.
     TooLong,
     /// The file's bytes.
     Bytes(Vec<u8>),

@@ -6,7 +6,7 @@ ghost use Rattle.circuits.specs.Circuits.{named_by};
 use crate::Lit;
 use items::Items;
 
-/// What one position of a row wants of its signal (the Berkeley Logic Interchange Format).
+/// What one position of a row requires of its signal (the Berkeley Logic Interchange Format).
 #[derive(Clone, Copy, Debug, Drop, PartialEq, Eq)]
 pub enum Trit {
     /// That it is 0.

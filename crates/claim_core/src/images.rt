@@ -35,8 +35,8 @@ fn moved_claim(pairs: &[Pair], claim: &Claim) -> Option<Claim>
     })
 }
 
-/// The first of these pairs that is of this port of the first circuit. A scan: the pairs are those of a ban, two of
-/// nearly each, and in the check of 21,941 bans it takes 0.4 percent of the instructions.
+/// The first of these pairs that is of this port of the first circuit. A scan: nearly each ban
+/// has two pairs, and in the check of 21,941 bans it takes 0.4 percent of the instructions.
 pub fn pair_of(pairs: &[Pair], kind: PortKind, port: u32) -> Option<Pair>
     ensures { result ≡ pair_of pairs.now kind port }
 {

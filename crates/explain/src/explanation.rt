@@ -7,7 +7,7 @@ ghost use Rattle.shelf_core.specs.State.{Closed};
 use crate::account_lines::LineSearch;
 use crate::faults::FailedFile;
 use crate::malformed::{put_malformed, put_unread};
-use crate::meanings::meaning_of_line;
+use crate::meanings::meaning_of_why;
 use crate::notice::FORMS;
 use crate::spending::{put_enough_of_one, put_enough_of_two, put_lines};
 use crate::word_fault::fault_of_words;
@@ -193,7 +193,7 @@ fn put_rejected<S: Shelf>(
         text,
         "{}:{line}: {}",
         TerminalText::name(name),
-        meaning_of_line(why)
+        meaning_of_why(why)
     )?;
     if !ended.readable {
         return Ok(());

@@ -37,8 +37,8 @@ pub(crate) fn meaning_of_kind(kind: NetKind) -> &'static str {
     }
 }
 
-/// What is wrong with a line of an account.
-pub(crate) fn meaning_of_line(why: Why) -> &'static str {
+/// What is wrong with a record of an account.
+pub(crate) fn meaning_of_why(why: Why) -> &'static str {
     match why {
         Why::Form(fault) => meaning_of_form(fault),
         Why::Record(reject) => meaning_of_record(reject),
@@ -48,17 +48,17 @@ pub(crate) fn meaning_of_line(why: Why) -> &'static str {
 fn meaning_of_form(fault: RecordFault) -> &'static str {
     match fault {
         RecordFault::Header => "the account does not begin with the line `npnp 1`",
-        RecordFault::Word => "the line has the form of no record",
+        RecordFault::Word => "it has the form of no record",
         RecordFault::Number => "a number with a leading zero, or one that is too large",
-        RecordFault::Order => "such a line may not stand here",
-        RecordFault::Truncated => "the account ends before its last line",
-        RecordFault::Trailing => "something stands after the line `end`",
+        RecordFault::Order => "such a record may not stand here",
+        RecordFault::Truncated => "the account ends before its last record",
+        RecordFault::Trailing => "something stands after the record `end`",
     }
 }
 
 fn meaning_of_record(reject: Reject) -> &'static str {
     match reject {
-        Reject::UnknownId => "the line names a port, a fact or a ban that is not there",
+        Reject::UnknownId => "it names a port, a fact or a ban that is not there",
         Reject::VectorFails => "the vector does not show what it is given for",
         Reject::Refutation(_) => "the clause is not derived by its hints",
         Reject::Rule => "the step does not keep its rule",

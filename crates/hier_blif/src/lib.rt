@@ -1,5 +1,5 @@
-//! Reads files of several models in the Berkeley Logic Interchange Format (BLIF), in which models have instances of
-//! other ones (`.subckt`), as one flat netlist.
+//! Files of several models in the Berkeley Logic Interchange Format (BLIF), in which models have instances of other
+//! ones (`.subckt`): their models, line by line, their first fault, and what such a file means, nested and flat.
 #![tactic(auto)]
 
 mod bindings;

@@ -540,10 +540,13 @@ fn formals_of<'a>(alloc: Global, words: &[Span<'a>]) -> Result<IndexSet<&'a [u8]
 }
 
 // Whether all of these names are there.
-fn has_all(names: &IndexSet<&[u8]>, wanted: &IndexSet<&[u8]>) -> bool
-    ensures { result ≡ list_all (λ name. list_any (bytes_eq name) (names_of names.now)) (names_of wanted.now) }
+fn has_all(names: &IndexSet<&[u8]>, required: &IndexSet<&[u8]>) -> bool
+    ensures { result ≡ list_all (λ name. list_any (bytes_eq name) (names_of names.now)) (names_of required.now) }
 {
-    wanted.as_slice().iter().all(|name| is_one_of(names, *name))
+    required
+        .as_slice()
+        .iter()
+        .all(|name| is_one_of(names, *name))
 }
 
 // Whether a name is one of these.

@@ -10,7 +10,8 @@ use crate::model::ModelLine;
 use crate::names::Scope;
 use std::alloc::{AllocError, Global};
 
-/// The limit of instances and covers of a flattened circuit, together.
+/// The limit of instances and covers of a flattened circuit, together: twice the gates that a netlist may have, since a
+/// file of some thousand bytes can announce 2^64 of them.
 const MOST_PARTS: u64 = 8_000_000;
 
 /// What one instance of a model makes. Of each kind no more than the limit and one are counted.

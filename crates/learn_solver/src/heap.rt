@@ -218,7 +218,7 @@ fn precedes(keys: &[u64], one: usize, other: usize) -> bool
     (key > other_key) | ((key == other_key) & (one > other))
 }
 
-// Lets the numbers at two places stand at each other's.
+// Swaps the numbers at two places.
 fn exchange(numbers: &mut Vec<usize>, places: &mut Vec<usize>, one: usize, other: usize)
     requires inverse { AreInverse (length numbers.old.items) numbers.old.items places.old.items }
     requires one { one < length numbers.old.items }

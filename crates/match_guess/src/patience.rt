@@ -6,15 +6,15 @@ const SHARE: u32 = 8;
 #[derive(Clone, Copy, Debug, Drop)]
 pub(crate) struct Patience {
     left: u32,
-    /// What it counts that a choice point is left, since all of its guesses failed.
+    /// How many shares a choice point takes all of whose guesses failed.
     of_point: u32,
 }
 
 impl Patience {
-    /// That many guesses may fail. In every other round that is said of choice points all of whose guesses failed, and
-    /// eight guesses that fail at once count as such a point: where each sign has to be guessed by itself, as of two
-    /// numbers that are added or subtracted, every other guess fails at once and the next one is right. The other
-    /// rounds begin again the sooner, which serves where the first guess is wrong.
+    /// In an odd round `failures` guesses may fail: so a wrong first guess is soon taken back. In an even round as many
+    /// choice points may fail, each by all of its guesses, and eight guesses that fail at once count as one point. That
+    /// serves where each sign has to be guessed by itself, as of two numbers that are added or subtracted: there every
+    /// other guess fails at once, and the next one is right.
     pub(crate) fn of_round(round: u32, failures: u32) -> Patience {
         if round % 2 == 1 {
             return Patience {

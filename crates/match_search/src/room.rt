@@ -1,13 +1,9 @@
 use account_core::{Ban, Step};
+use broken_claims::BYTES_OF_BAN;
 
 /// How many bytes the bans may take. Searches that were measured with this bound took less than a gigabyte in all, with
 /// facts and what isn't counted.
 const MOST: u64 = 600_000_000;
-
-/// What a ban takes, with few pairs and its places in the indices of bans. Bans of wide circuits have more pairs, and
-/// those by vectors a byte for each input beside. A tally's lists aren't counted: `MOST_ASKED` bounds those of all
-/// pairs of outputs.
-const BAN: u64 = 270;
 
 /// What a reference of a cover takes. A cover of 128 ports and as many others has 32,768 of them.
 const REFERENCE: u64 = 16;
@@ -50,12 +46,13 @@ impl BanRoom {
     }
 }
 
-// What a ban of this step takes.
+// What a ban of this step takes. Bans of wide circuits have more pairs, and those by vectors a byte for each input
+// beside. A tally's lists aren't counted: `MOST_ASKED` bounds those of all pairs of outputs.
 fn bytes_of(step: &Step) -> u64 {
     let Step::Cover { refs, .. } = step else {
-        return BAN;
+        return BYTES_OF_BAN as u64;
     };
     REFERENCE
         .saturating_mul(refs.len() as u64)
-        .saturating_add(BAN)
+        .saturating_add(BYTES_OF_BAN as u64)
 }

@@ -62,7 +62,7 @@ impl Gates {
         }
     }
 
-    /// Adds what a position of a row wants of its name, where `name` stands for it.
+    /// Adds what a position of a row requires of its name, where `name` stands for it.
     fn and_position(
         &mut self,
         so_far: Option<Lit>,

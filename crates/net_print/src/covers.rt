@@ -149,7 +149,7 @@ fn put_signal(inputs: u32, signal: u32, out: &mut Vec<u8>) -> Result<(), AllocEr
     }
 }
 
-// What a row wants of a literal's signal.
+// What a row requires of a literal's signal.
 fn row_byte(literal: Lit) -> u8
     ensures { result ≡ row_byte literal }
 {

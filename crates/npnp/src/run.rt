@@ -48,9 +48,9 @@ const OUT_OF_MEMORY: &[u8] = b"out of memory\n";
 ///   table, a line for each port. ACCOUNT is written, the proof of the match or that there is none; its name is neither
 ///   of the others. At most BUDGET clauses are learned, by default 1,000,000,000; SEED, by default 1, chooses the
 ///   vectors that are simulated.
-/// - `check FIRST SECOND ACCOUNT`: FIRST and SECOND are netlists, and ACCOUNT is a text that claims a matching and
-///   proves, by refutations, that it is a match of the two, or that proves by bans that no matching is one. A match
-///   that it proves is printed as a port table.
+/// - `check FIRST SECOND ACCOUNT`: FIRST and SECOND are netlists, and ACCOUNT, in the text or in the binary
+///   form, claims a matching and proves, by refutations, that it is a match of the two, or proves by bans that no
+///   matching is one. A match that it proves is printed as a port table.
 /// - `restore FIRST SECOND ACCOUNT NEW`: where ACCOUNT proves a match of the netlists FIRST and SECOND, as a check by
 ///   these names would say, NEW is written, in the binary form of AIGER: SECOND's gates with FIRST's ports, with
 ///   their names and in their order. The name NEW is none of the others.

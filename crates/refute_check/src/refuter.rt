@@ -46,7 +46,7 @@ impl<B: Base + Drop> Refuter<B> {
         })
     }
 
-    /// Goes over to another base of as many variables. The lines that were taken stay, and so does the room.
+    /// Switches to another base of as many variables. The lines that were taken stay, and so does the room.
     pub fn set_base(&mut self, base: B)
         requires { (B.formula base).variables ≡ (B.formula self.old.base).variables }
         ensures base { self.new.base ≡ base }

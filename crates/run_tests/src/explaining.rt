@@ -169,7 +169,7 @@ static REJECTED: [(Option<&[u8]>, &str); 4] = [
     ),
     (
         Some(b"npnp 1\n"),
-        "t:2: the account ends before its last line\n",
+        "t:2: the account ends before its last record\n",
     ),
     (
         Some(b"npnp 2\n"),

@@ -30,8 +30,8 @@ use watch_core::Watch;
 /// circuit, that is more than a question of small cones takes by itself.
 const LARGE: u64 = 60_000;
 
-/// Cones are small that have at most one of this many clauses. Where 8 adders of 64 bits stand side by side, sharing
-/// takes questions that structure answers 1.3 times as long as asking alone, and others 0.4; where 24 do, 2 and 0.6.
+/// Cones are small that have at most one of this many clauses. Of 8 adders of 64 bits side by side, questions that
+/// structure answers take 1.3 times as long shared as alone, and others 0.4 times; of 24 adders, 2 and 0.6 times.
 const PART: u64 = 8;
 
 /// How many lines questions may get as lemmas in a run. Each is copied for its question, 250 bytes or so, which are

@@ -16,7 +16,8 @@ use std::rt::{Files, Runtime};
 /// The most bytes that are taken from a pipe or a device, unless more are expected: as many as a netlist may have.
 const STREAM_BOUND: usize = 67_108_864;
 
-/// The most bytes that are taken from one of which more are expected: 1 GiB.
+/// The most bytes that are taken from one of which more are expected, as an account: 1 GiB, since accounts of hard
+/// matches have hundreds of megabytes.
 const LONG_STREAM_BOUND: usize = 1 << 30;
 
 /// The machine's files, by their paths. It does not tell their bytes. What is neither a file nor a directory, as a

@@ -6,8 +6,8 @@ use std::alloc::Global;
 use std::marker::Model;
 use watch_core::{Stage, Watch};
 
-/// A sink in memory, which never fails: a call is refused only when out of memory. It means the bytes that were
-/// written.
+/// A sink in memory, which never fails: a call is refused only when out of memory. Contracts see the bytes that
+/// were written.
 #[derive(Debug, Drop)]
 pub struct SafeSink {
     inside: Vec<u8>,

@@ -4,7 +4,7 @@ ghost use Rattle.std.specs.Str.{bytes_eq};
 use std::alloc::AllocError;
 use std::marker::Model;
 
-/// A file in memory. It means the pair of its name's bytes and its own.
+/// A file in memory. Contracts see the pair of its name's bytes and its own.
 #[derive(Debug, Drop)]
 pub(crate) struct StoredFile {
     name: String,

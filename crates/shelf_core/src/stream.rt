@@ -7,11 +7,11 @@ use std::io;
 use std::io::{ErrorKind, Read};
 use std::marker::Model;
 
-/// How many bytes are asked of a stream at once.
+/// How many bytes are asked of a stream at once: a page, as a pipe hands them over.
 const PIECE: usize = 4096;
 
-/// All that came out of a stream, as a pipe or a device, whose length is known only at its end. It means the number of
-/// bytes that are still unread.
+/// All that came out of a stream, as a pipe or a device, whose length is known only at its end. Contracts see the
+/// number of bytes that are still unread.
 #[derive(Drop)]
 pub struct Stream<A: Allocator> {
     bytes: Vec<u8, A>,

@@ -8,7 +8,7 @@ use port_cells::{Draws, word_of_all};
 use std::alloc::{AllocError, Global};
 use word_sim::Words;
 
-/// How many words are tried at least: those of a block, which are evaluated at once.
+/// How many words are tried at least: those that are evaluated at once.
 const FEWEST_WORDS: usize = 8;
 
 /// How many words are tried at most: 2,048 vectors show nearly every wrong pair, and a search tries them at each step.

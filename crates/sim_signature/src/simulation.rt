@@ -74,7 +74,7 @@ impl<'a> Simulation<'a> {
         })
     }
 
-    /// Goes over to the vectors with one input inverted. Only the gates that it reaches are evaluated.
+    /// Switches to the vectors with one input inverted. Only the gates that it reaches are evaluated.
     pub(crate) fn invert(&mut self, input: u32)
         requires { input < self.old.net.inputs }
         ensures { self.new ≡ record { net = self.old.net; blocks = self.old.blocks; change = inverted input } }

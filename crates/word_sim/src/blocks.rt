@@ -7,7 +7,7 @@ ghost use Rattle.word_sim.specs.Columns.{literal_word, row_of, signed_word, word
 use net_core::{Lit, SignalValue, literal_value};
 use std::simd::prelude::*;
 
-/// How many words are evaluated at once.
+/// How many words are evaluated at once: 512 bits, the widest registers of the machines that this is made for.
 pub(crate) const LANES: usize = 8;
 
 /// The AND of each two lanes. All bits of an operand are inverted where its flag says so.
