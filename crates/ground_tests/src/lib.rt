@@ -1,4 +1,4 @@
-//! Tests of the lists, texts, shelves and plain programs that all else stands on.
+//! Tests of the lists, texts, shelves, restarts and plain programs that all else stands on.
 #![tactic(auto)]
 
 #[cfg(test)]
@@ -15,6 +15,8 @@ mod lists;
 mod marks;
 #[cfg(test)]
 mod plain_programs;
+#[cfg(test)]
+mod restarts;
 #[cfg(test)]
 mod shelves;
 #[cfg(test)]

@@ -1,27 +1,26 @@
 //! When a search begins again.
 
+use watch_core::ReluctantDoubling;
+
 /// How many lines are learned at least from one restart to the next. With 50 the parity of 64 bits took a third fewer
 /// lines than without restarts, the majority of 15 a quarter fewer, and adders of 64 bits up to a twelfth more
 /// (bench/solve.sh).
 const UNIT: u64 = 50;
 
-/// When a search goes back to level 0, with what it learned: after `UNIT` lines times 1, 1, 2, 1, 1, 2, 4, 1, .. (Luby,
-/// Sinclair and Zuckerman, 1993), by Knuth's reluctant doubling (The Art of Computer Programming, volume 4B, 7.2.2.2).
+/// When a search goes back to level 0, with what it learned: after `UNIT` lines times the numbers of reluctant doubling.
 /// It says when, and no answer depends on it.
 #[derive(Drop)]
 pub(crate) struct Restarts {
+    factors: ReluctantDoubling,
+    /// How many lines are learned until the next restart.
     left: u64,
-    turn: u64,
-    factor: u64,
 }
 
 impl Restarts {
     pub(crate) fn new() -> Restarts {
-        Restarts {
-            left: UNIT,
-            turn: 1,
-            factor: 1,
-        }
+        let mut factors = ReluctantDoubling::new();
+        let left = factors.next().saturating_mul(UNIT);
+        Restarts { factors, left }
     }
 
     /// Counts a learned line. True: it is time to begin again.
@@ -30,18 +29,7 @@ impl Restarts {
         if self.left > 0 {
             return false;
         }
-        self.double();
+        self.left = self.factors.next().saturating_mul(UNIT);
         true
-    }
-
-    // The next factor.
-    fn double(&mut self) {
-        if self.turn & self.turn.wrapping_neg() == self.factor {
-            self.turn = self.turn.saturating_add(1);
-            self.factor = 1;
-        } else {
-            self.factor = self.factor.saturating_mul(2);
-        }
-        self.left = self.factor.saturating_mul(UNIT);
     }
 }

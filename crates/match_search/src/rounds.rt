@@ -1,5 +1,7 @@
 //! How long a search goes on before it starts over.
 
+use watch_core::ReluctantDoubling;
+
 /// How many conflicts the shortest rounds have. With 32 a near miss of a comparator of 16 words, one of a rotation of
 /// 32 bits and others took half as long again, since all that follows of the first pairs is deleted again.
 const SHORTEST: u64 = 100;
@@ -13,18 +15,16 @@ const OUTPUT_FACTOR: u64 = 4;
 /// In the other rounds it counts as if it had this many times its ways.
 const OTHER_FACTOR: u64 = 2;
 
-/// The rounds of a search, after each of which it starts over. Their lengths are as the numbers 1, 1, 2, 1, 1, 2, 4, 1,
-/// .. of Luby, Sinclair and Zuckerman (Information Processing Letters 1993), which solvers use: all rounds of a length
-/// take as many conflicts together as those of any other.
+/// The rounds of a search, after each of which it starts over. Their lengths are as the numbers of reluctant doubling,
+/// which solvers use: all rounds of a length take as many conflicts together as those of any other.
 #[derive(Drop)]
 pub(crate) struct Rounds {
-    /// The numbers by which Knuth makes the sequence (reluctant doubling): the length doubles until it is the greatest
-    /// power of two that divides the turn, and then the next turn begins with 1.
-    turn: u64,
+    lengths: ReluctantDoubling,
+    /// How many conflicts the round has.
     length: u64,
     /// Whether the round is the second, the fourth and so on.
     is_other: bool,
-    /// How many conflicts there were in the round.
+    /// How many conflicts it had so far.
     conflicts: u64,
     /// How many lines may be learned in the run before rounds end.
     lines: u64,
@@ -33,9 +33,11 @@ pub(crate) struct Rounds {
 impl Rounds {
     /// The first round begins, in which lines may be learned without a bound.
     pub(crate) fn new() -> Rounds {
+        let mut lengths = ReluctantDoubling::new();
+        let length = lengths.next().saturating_mul(SHORTEST);
         Rounds {
-            turn: 1,
-            length: 1,
+            lengths,
+            length,
             is_other: false,
             conflicts: 0,
             lines: u64::MAX,
@@ -54,19 +56,14 @@ impl Rounds {
 
     /// Whether the round has had its conflicts, or as many lines are learned as may be.
     pub(crate) fn is_over(&self, learned: u64) -> bool {
-        (self.conflicts >= self.length.saturating_mul(SHORTEST)) | (learned >= self.lines)
+        (self.conflicts >= self.length) | (learned >= self.lines)
     }
 
     /// The next round begins.
     pub(crate) fn advance(&mut self) {
         self.conflicts = 0;
         self.is_other = !self.is_other;
-        if self.turn.trailing_zeros() == self.length.trailing_zeros() {
-            self.turn = self.turn.saturating_add(1);
-            self.length = 1;
-        } else {
-            self.length = self.length.saturating_mul(2);
-        }
+        self.length = self.lengths.next().saturating_mul(SHORTEST);
     }
 
     /// By how much the number of an output's ways is multiplied in this round.
