@@ -1,8 +1,8 @@
 //! How large a netlist may be that is read: the one place of these limits in code, as `specs/Limits.antt` is in
 //! definitions. The readers and [`order`](crate::order) refuse what is larger.
 
-/// The most inputs, and the most outputs. A search keeps a bit for each pair of a port of each circuit, so that its
-/// largest table has 4 MiB of them.
+/// The most inputs, and the most outputs. A search has tables by signed pairs of a port of each circuit: of so many
+/// inputs, and as many outputs, there are 67,108,864.
 pub const MAX_PORTS: u32 = 4_096;
 
 /// The most gates of a graph in order, a hundred times as many as the largest circuits that are matched have: numbers
