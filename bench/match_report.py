@@ -7,7 +7,7 @@ WHY = {"supports": "supports", "unateness": "unateness", "symmetries": "symmetri
        "twin": "another graph", "tried": "all matchings tried, none or a match", "unknown": "not known"}
 START = {"bm": 0.028, "match": 0.003}  # processor seconds that a program takes to start
 LEAST = 0.01  # less than that isn't told apart
-SIZES = ((8, "to 8"), (16, "to 16"), (32, "to 32"), (64, "to 64"), (128, "to 128"), (256, "to 256"), (1024, "to 1,024"))
+SIZES = ((8, "to 8"), (16, "to 16"), (32, "to 32"), (64, "to 64"), (128, "to 128"), (256, "to 256"), (1024, "to 1,024"), (4096, "to 4,096"))
 
 
 def is_decided(row, seconds):

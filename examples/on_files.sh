@@ -99,6 +99,12 @@ wants 1 'accepted refusal' check and.blif c17.blif made.account
 { echo 'aag 1024 1024 0 0 0'; seq 2 2 2048; } >wide.aag
 wants 0 'matched' match wide.aag wide.aag made.account 0
 wants 0 'accepted match' check wide.aag wide.aag made.account
+# as many inputs as may be, paired in order; and one more
+echo 'aig 4096 4096 0 0 0' >widest.aig
+{ echo 'npnp 1'; seq 0 4095 | awk '{ printf " i%d+%d", $1, $1 }' | sed 's/^/match/'; echo; echo 'end'; } >widest.account
+wants 0 'accepted match' check widest.aig widest.aig widest.account
+echo 'aig 4097 4097 0 0 0' >too_wide.aig
+wants 5 'malformed first 4 0' check too_wide.aig widest.aig widest.account
 wants 3 'spent 0' match a.aag b.aag unwritten.account 0
 wants 5 'absent second' match a.aag absent.aag unwritten.account
 wants 5 'absent account' check a.aag b.aag unwritten.account

@@ -2,15 +2,16 @@
 use Rattle.std.proofs.Common.{◌≡◌, ℕ, ◌≤◌, List, length, sym, ◌∙◌, arith}
 use Rattle.circuits.specs.Circuits.{Circuit, IsClosed}
 use Rattle.circuits.specs.Levels.{IsAcyclic}
+use Rattle.net_core.specs.Limits.{most_ports}
 use Rattle.aiger_reader.specs.Aiger.{IsAiger}
 use Rattle.aiger_reader.proofs.LimitLemmas.{accepted_limits}
 use Rattle.aiger_reader.proofs.NetlistLemmas.{net_sizes, net_closed}
 
-pub few_inputs : (bytes : List ℕ) (circuit : Circuit) (i o : List (List ℕ)) → IsAiger bytes circuit i o → circuit.inputs ≤ 1024
+pub few_inputs : (bytes : List ℕ) (circuit : Circuit) (i o : List (List ℕ)) → IsAiger bytes circuit i o → circuit.inputs ≤ most_ports
 few_inputs bytes circuit i o is =
     omega (arith, (accepted_limits is.h is.netlist.begins.accepted).inputs, (net_sizes bytes is.h circuit is.rest is.netlist).inputs)
 
-pub few_outputs : (bytes : List ℕ) (circuit : Circuit) (i o : List (List ℕ)) → IsAiger bytes circuit i o → length circuit.outputs ≤ 1024
+pub few_outputs : (bytes : List ℕ) (circuit : Circuit) (i o : List (List ℕ)) → IsAiger bytes circuit i o → length circuit.outputs ≤ most_ports
 few_outputs bytes circuit i o is =
     omega (arith, (accepted_limits is.h is.netlist.begins.accepted).outputs, (net_sizes bytes is.h circuit is.rest is.netlist).outputs)
 

@@ -10,6 +10,7 @@ use Rattle.circuits.specs.declared.definition.Def.TheVariants.{And}
 use Rattle.circuits.specs.Circuits.{Circuit}
 use Rattle.circuits.specs.Expansion.{def_gates, gates_in}
 use Rattle.circuits.specs.Levels.{IsAcyclic, IsFirstLooped}
+use Rattle.net_core.specs.Limits.{most_gates}
 use Rattle.net_file.specs.declared.fault.NetKind.{NetKind}
 use Rattle.net_file.specs.declared.fault.NetKind.TheVariants as kind
 use Rattle.aiger_reader.specs.declared.limits.Header.{Header}
@@ -167,7 +168,7 @@ gates_of_form true bytes h rows circuit rest form =
     subst (λ c. gates_in c ≡ length c.defs) (sym form.same) each
 
 -- a file's netlist has no more gates than the limit of the header
-pub few_gates : (bytes : List ℕ) (header : Header) (circuit : Circuit) (rest : List ℕ) → IsNetOf bytes header circuit rest → gates_in circuit ≤ 1000000
+pub few_gates : (bytes : List ℕ) (header : Header) (circuit : Circuit) (rest : List ℕ) → IsNetOf bytes header circuit rest → gates_in circuit ≤ most_gates
 few_gates bytes header circuit rest net =
     let h = header_of header net.0 in
     omega (arith, (net_sizes bytes h circuit rest net.1).defs, header.few_gates, gates_of_form h.binary bytes h net.1.rows circuit rest net.1.form)

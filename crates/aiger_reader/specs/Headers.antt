@@ -2,7 +2,7 @@
 use Rattle.std.specs.Prelude.{◌≡◌, ℕ, ◌+◌, ◌≤◌, ◌||◌, Bool, IsTrue, List, [], ◌∷◌, length, map, take, drop, Option, None, Some, nat_lt, codes, slice_index_or}
 use Rattle.std.specs.Prelude.{if◌then◌else◌}
 use Rattle.std.specs.List.{list_any}
-use Rattle.net_core.specs.Limits.{most_gates, most_ports}
+use Rattle.net_core.specs.Limits.{most_gates, most_ports, most_variables}
 use Rattle.text_core.specs.Lines.{lines}
 use Rattle.net_file.specs.declared.fault.NetKind.{NetKind}
 use Rattle.net_file.specs.declared.fault.NetKind.TheVariants as kind
@@ -43,10 +43,6 @@ pub record HasHeader (bytes : List ℕ) (h : AigerHeader) : Type 0 where
   pub numbers : WritesHeader (line_after bytes) h
   pub counted : h.inputs + h.latches + h.gates ≤ h.variables
   pub no_gaps : IsTrue h.binary → h.inputs + h.latches + h.gates ≡ h.variables
-
--- the greatest variable that is read: the ASCII form may leave gaps among its variables (this project's limit)
-abbrev pub most_variables : ℕ
-most_variables = 4000000
 
 -- what a header asks for that isn't accepted, the first of these
 abbrev pub header_fault : AigerHeader → Option NetKind

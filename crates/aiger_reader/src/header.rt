@@ -10,8 +10,8 @@ ghost use Rattle.aiger_reader.specs.Numbers.{header_of, header_from, WritesNumbe
 ghost use Rattle.aiger_reader.specs.Numbers.{IsHeaderFault};
 
 pub(crate) use crate::limits::Header;
-use crate::limits::{MOST_GATES, MOST_INPUTS, MOST_OUTPUTS, MOST_VARIABLES};
 use crate::words::{has_no_word, small_number};
+use net_core::{MAX_GATES, MAX_PORTS, MAX_VARIABLES};
 use net_file::NetKind;
 use text_core::{Cursor, Span, next_word};
 
@@ -58,16 +58,16 @@ impl HeaderNumbers {
         if self.has_property {
             return Err(NetKind::Property);
         }
-        if self.inputs > MOST_INPUTS {
+        if self.inputs > MAX_PORTS {
             return Err(NetKind::TooManyInputs);
         }
-        if self.outputs > MOST_OUTPUTS {
+        if self.outputs > MAX_PORTS {
             return Err(NetKind::TooManyOutputs);
         }
-        if self.gates > MOST_GATES {
+        if self.gates > MAX_GATES {
             return Err(NetKind::TooManyGates);
         }
-        if self.variables > MOST_VARIABLES {
+        if self.variables > MAX_VARIABLES {
             return Err(NetKind::TooManyGates);
         }
         Ok(Header {
@@ -90,7 +90,7 @@ impl HeaderNumbers {
 /// number of inputs, latches and gates, or in the binary form above it. Else, and in this order,
 /// [`NetKind::Sequential`] where there are latches, [`NetKind::Property`] where there is one of the properties,
 /// and [`NetKind::TooManyInputs`], [`NetKind::TooManyOutputs`] and [`NetKind::TooManyGates`] where there are more
-/// than 1,024 inputs, 1,024 outputs, or 1,000,000 gates or 4,000,000 variables.
+/// than [`MAX_PORTS`] inputs, [`MAX_PORTS`] outputs, or [`MAX_GATES`] gates or [`MAX_VARIABLES`] variables.
 pub(crate) fn read_header(input: &[u8]) -> Result<Header, NetKind>
     ensures begins { IfOk result (λ header. (properties : List ℕ)
         × Begins input.now (header_of header properties)) }

@@ -4,7 +4,7 @@ ghost use Rattle.net_file.specs.Formats.{IsFormat};
 ghost use Rattle.aiger_reader.specs.Aiger.{IsAiger, IsAigerFault};
 
 /// A file is one netlist at most, with one name for each port, or it has one first fault, at one place: one of them,
-/// and never both. The netlist is closed, has no cycle, and at most 1,024 inputs and 1,024 outputs.
+/// and never both. The netlist is closed, has no cycle, and at most 4,096 inputs and 4,096 outputs.
 pub fn aiger_is_a_format()
     ensures { IsFormat IsAiger IsAigerFault }
 {}

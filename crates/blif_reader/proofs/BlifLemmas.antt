@@ -35,6 +35,7 @@ use Rattle.blif_reader.proofs.NumberLemmas.{list_any-map}
 use Rattle.blif_reader.proofs.ClosedLemmas.{closed_circuit, length-names, length-covers_of, output_words-outputs_in}
 use Rattle.std.proofs.lemmas.List.{get_or-map, length-map}
 use Rattle.std.proofs.Math.Seq.{take-length, get_or-append_seam}
+use Rattle.net_core.specs.Limits.{most_gates}
 use borrow.Author.Tests.{not-false}
 
 pub port_names-bytes : (kind : PortKind) (ports : List PortWord) → port_names kind ports ≡ bytes_of (words_of_kind kind ports)
@@ -145,8 +146,8 @@ outputs_made lines covers few built =
 pub gates_made : (lines : List (List Piece)) (net : Net)
     → AreFew lines
     → IsOrderOf (blif_circuit lines) net
-    → length net.gates ≤ 1000000
-    → gates_in (blif_circuit lines) ≤ 1000000
+    → length net.gates ≤ most_gates
+    → gates_in (blif_circuit lines) ≤ most_gates
 gates_made lines net few ordered small =
     omega (arith, gates_in_order (blif_circuit lines) net (closed_lines lines few) ordered)
 
@@ -188,14 +189,14 @@ cycle_found lines covers d at few built looped i =
       offset = i ∙ (ap (λ (ps : List ℕ). get_or ps d at) (built.places ∙ places_in-names lines) ∙ get_or-map place_of (names_lines lines) d [] at there);
     }
 
-pub gates_found : (end : ℕ) (lines : List (List Piece)) → AreFew lines → IsAcyclic (blif_circuit lines) → 1000000 < gates_in (blif_circuit lines) → IsGatesFault end lines fault.TooManyGates end
+pub gates_found : (end : ℕ) (lines : List (List Piece)) → AreFew lines → IsAcyclic (blif_circuit lines) → most_gates < gates_in (blif_circuit lines) → IsGatesFault end lines fault.TooManyGates end
 gates_found end lines few acyclic many = record { names = few; acyclic = acyclic; is = refl; many = many; offset = refl }
 
 -- a netlist in order that was made of a file, with the names of its ports, is what the file is read as
 pub read_as : (bytes : List ℕ) (net : Net) (input_names output_names : List (List ℕ))
     → AreFew (blif_lines bytes)
     → IsAcyclic (blif_circuit (blif_lines bytes))
-    → gates_in (blif_circuit (blif_lines bytes)) ≤ 1000000
+    → gates_in (blif_circuit (blif_lines bytes)) ≤ most_gates
     → IsOrderOf (blif_circuit (blif_lines bytes)) net
     → input_names ≡ port_names Input (port_words (blif_lines bytes))
     → output_names ≡ port_names Output (port_words (blif_lines bytes))

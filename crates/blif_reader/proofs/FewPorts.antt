@@ -7,6 +7,7 @@ use Rattle.blif_reader.specs.Names.{input_words, output_words}
 use Rattle.blif_reader.specs.Covers.{signal_names, literal_named}
 use Rattle.blif_reader.specs.Blif.{AreBlif, IsBlif, ReadAs, blif_lines}
 use Rattle.std.proofs.lemmas.List.{length-map}
+use Rattle.net_core.specs.Limits.{most_ports}
 
 -- the bytes of words are as many as the words
 name_count : (words : List Piece) (names : List (List ℕ)) → names ≡ map (λ word. word.bytes) words → length names ≡ length words
@@ -20,10 +21,10 @@ module _ (lines : List (List Piece)) (circuit : Circuit) (i o : List (List ℕ))
   output_count =
       ap (λ (c : Circuit). length c.outputs) is.same ∙ length-map (output_words lines) (literal_named (signal_names lines))
 
-pub few_inputs : (bytes : List ℕ) (circuit : Circuit) (i o : List (List ℕ)) → IsBlif bytes circuit i o → circuit.inputs ≤ 1024
+pub few_inputs : (bytes : List ℕ) (circuit : Circuit) (i o : List (List ℕ)) → IsBlif bytes circuit i o → circuit.inputs ≤ most_ports
 few_inputs bytes circuit i o is = omega (arith, is.names.inputs, input_count (blif_lines bytes) circuit i o is)
 
-pub few_outputs : (bytes : List ℕ) (circuit : Circuit) (i o : List (List ℕ)) → IsBlif bytes circuit i o → length circuit.outputs ≤ 1024
+pub few_outputs : (bytes : List ℕ) (circuit : Circuit) (i o : List (List ℕ)) → IsBlif bytes circuit i o → length circuit.outputs ≤ most_ports
 few_outputs bytes circuit i o is = omega (arith, is.names.outputs, output_count (blif_lines bytes) circuit i o is)
 
 pub named_ports : (bytes : List ℕ) (circuit : Circuit) (i o : List (List ℕ))

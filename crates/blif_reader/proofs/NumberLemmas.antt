@@ -12,6 +12,7 @@ use Rattle.std.proofs.lemmas.List.Elements.{filter-append}
 use Rattle.text_core.specs.Piece.{Piece}
 use Rattle.circuits.specs.declared.port.PortKind.{PortKind}
 use Rattle.circuits.specs.declared.port.PortKind.TheVariants.{Input, Output}
+use Rattle.net_core.specs.Limits.{most_ports}
 use Rattle.net_file.specs.declared.fault.NetKind.TheVariants as fault
 use Rattle.blif_reader.specs.declared.survey.PortWord.{PortWord}
 use Rattle.blif_reader.specs.Names.{is_same_kind, same_name, repeats_port, is_redefined, words_of_kind}
@@ -227,13 +228,13 @@ self_kind kind port rest e =
     ap (λ t. map (λ (p : PortWord). p.word) (cond t (port ∷ filter test rest) (filter test rest))) (ap (λ t. is_same_kind t kind) e ∙ self_same kind)
 
 -- a port after as many as the limit is the first beyond it
-pub excess : (kind : PortKind) (ports : List PortWord) (k : ℕ) (port : PortWord) (at : ℕ) → k < length ports → ((d : PortWord) → get_or ports k d ≡ port) → port.kind ≡ kind → length (words_of_kind kind (take k ports)) ≡ 1024 → at ≡ port.word.at → IsExcess (words_of_kind kind ports) at
+pub excess : (kind : PortKind) (ports : List PortWord) (k : ℕ) (port : PortWord) (at : ℕ) → k < length ports → ((d : PortWord) → get_or ports k d ≡ port) → port.kind ≡ kind → length (words_of_kind kind (take k ports)) ≡ most_ports → at ≡ port.word.at → IsExcess (words_of_kind kind ports) at
 excess kind ports k port at h is e full a =
     let before = words_of_kind kind (take k ports) in
     let after = words_of_kind kind (drop (suc k) ports) in
     let parts : ports ≡ take k ports ++ port ∷ drop (suc k) ports = sym (take-append-drop k ports) ∙ ap (λ ps. take k ports ++ ps) (drop-cons ports k port h ∙ ap (λ p. p ∷ drop (suc k) ports) (is port)) in
     let whole : words_of_kind kind ports ≡ before ++ port.word ∷ after = ap (words_of_kind kind) parts ∙ (words_of_kind-append kind (take k ports) (port ∷ drop (suc k) ports) ∙ ap (λ ws. before ++ ws) (self_kind kind port (drop (suc k) ports) e)) in
-    let there : get_or (before ++ port.word ∷ after) 1024 nowhere ≡ port.word = subst (λ n. get_or (before ++ port.word ∷ after) n nowhere ≡ port.word) full (get_or-append_seam before port.word after nowhere) in
+    let there : get_or (before ++ port.word ∷ after) most_ports nowhere ≡ port.word = subst (λ n. get_or (before ++ port.word ∷ after) n nowhere ≡ port.word) full (get_or-append_seam before port.word after nowhere) in
     subst (λ words. IsExcess words at) (sym whole) (record {
       many = omega (arith, full, length-append before (port.word ∷ after));
       offset = a ∙ ap (λ (w : Piece). w.at) (sym there);

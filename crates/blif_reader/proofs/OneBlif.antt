@@ -6,6 +6,7 @@ use Rattle.circuits.specs.Circuits.{Circuit}
 use Rattle.circuits.specs.Expansion.{gates_in}
 use Rattle.circuits.specs.Levels.{IsAcyclic}
 use Rattle.circuits.proofs.OneOrder.{one_first_looped, acyclic_not_looped}
+use Rattle.net_core.specs.Limits.{most_ports}
 use Rattle.net_file.specs.declared.fault.NetKind.{NetKind}
 use Rattle.net_file.proofs.OneFault.{IsOne, either}
 use Rattle.blif_reader.specs.declared.survey.PortWord.{PortWord}
@@ -97,7 +98,7 @@ module _ (end : ℕ) (lines : List (List Piece)) where
   few f a (inl fault) = fault.names
   few f a (inr fault) = fault.names
 
-  few_inputs : (f : NetKind) (a : ℕ) → FromOutputs f a → length (input_words lines) ≤ 1024
+  few_inputs : (f : NetKind) (a : ℕ) → FromOutputs f a → length (input_words lines) ≤ most_ports
   few_inputs f a (inl fault) = fault.few_inputs
   few_inputs f a (inr fault) = (few f a fault).inputs
 
@@ -137,7 +138,7 @@ module _ (end : ℕ) (lines : List (List Piece)) where
   no_undefined f a fault good =
       no_first (is_undefined (input_words lines) (defined_words lines)) (read_words lines) nothing fault.why.place good.known fault.why.first
 
-  no_inputs : (f : NetKind) (a : ℕ) → IsInputsFault lines f a → length (input_words lines) ≤ 1024 → ⊥
+  no_inputs : (f : NetKind) (a : ℕ) → IsInputsFault lines f a → length (input_words lines) ≤ most_ports → ⊥
   no_inputs f a fault good = omega (arith, fault.many)
 
   no_outputs : (f : NetKind) (a : ℕ) → IsOutputsFault lines f a → AreFew lines → ⊥

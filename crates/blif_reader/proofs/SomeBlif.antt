@@ -9,6 +9,7 @@ use Rattle.circuits.specs.Circuits.{Circuit}
 use Rattle.circuits.specs.Expansion.{gates_in}
 use Rattle.circuits.specs.Levels.{IsAcyclic}
 use Rattle.circuits.proofs.Looped.{acyclic_or_looped}
+use Rattle.net_core.specs.Limits.{most_gates, most_ports}
 use Rattle.net_file.specs.declared.fault.NetKind.{NetKind}
 use Rattle.net_file.specs.declared.fault.NetKind.TheVariants as fault
 use Rattle.blif_reader.specs.declared.survey.PortWord.{PortWord}
@@ -118,16 +119,16 @@ module _ (end : ℕ) (lines : List (List Piece)) where
 
   few : AreKnown lines → HasFault ⊎ AreFew lines
   few known =
-      elim (cases_lt 1024 (length (input_words lines))) [
+      elim (cases_lt most_ports (length (input_words lines))) [
         | inl many ↦ inl (
           fault.TooManyInputs,
-          (word_of (input_words lines) 1024).at,
+          (word_of (input_words lines) most_ports).at,
           inr (inr (inr (inr (inr (inl (record { known = known; is = refl; many = many; offset = refl })))))),
         )
-        | inr few_inputs ↦ elim (cases_lt 1024 (length (output_words lines))) [
+        | inr few_inputs ↦ elim (cases_lt most_ports (length (output_words lines))) [
           | inl many ↦ inl (
             fault.TooManyOutputs,
-            (word_of (output_words lines) 1024).at,
+            (word_of (output_words lines) most_ports).at,
             inr (inr (inr (inr (inr (inr (inl (record {
               known = known;
               is = refl;
@@ -157,9 +158,9 @@ module _ (end : ℕ) (lines : List (List Piece)) where
         )
       ]
 
-  few_gates : AreFew lines → IsAcyclic (blif_circuit lines) → HasFault ⊎ (gates_in (blif_circuit lines) ≤ 1000000)
+  few_gates : AreFew lines → IsAcyclic (blif_circuit lines) → HasFault ⊎ (gates_in (blif_circuit lines) ≤ most_gates)
   few_gates few acyclic =
-      elim (cases_lt 1000000 (gates_in (blif_circuit lines))) [
+      elim (cases_lt most_gates (gates_in (blif_circuit lines))) [
         | inl many ↦ inl (
           fault.TooManyGates,
           end,
@@ -183,7 +184,7 @@ or_fault (inr good) then = then good
 abbrev IsSome : List ℕ → Type 0
 IsSome bytes = (circuit : Circuit) × (input_names : List (List ℕ)) × (output_names : List (List ℕ)) × IsBlif bytes circuit input_names output_names
 
-some_netlist : (bytes : List ℕ) → AreFew (blif_lines bytes) → IsAcyclic (blif_circuit (blif_lines bytes)) → gates_in (blif_circuit (blif_lines bytes)) ≤ 1000000 → IsSome bytes
+some_netlist : (bytes : List ℕ) → AreFew (blif_lines bytes) → IsAcyclic (blif_circuit (blif_lines bytes)) → gates_in (blif_circuit (blif_lines bytes)) ≤ most_gates → IsSome bytes
 some_netlist bytes few acyclic gates =
     let lines = blif_lines bytes in (
       blif_circuit lines,

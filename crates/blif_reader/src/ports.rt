@@ -9,14 +9,11 @@ ghost use Rattle.blif_reader.specs.Ports.{IsExcess};
 use crate::survey::PortWord;
 use circuits::PortKind;
 use items::Items;
+use net_core::MAX_PORTS;
 use net_file::Name;
 use std::alloc::{AllocError, Global};
 
-/// The limit of inputs, and that of outputs. Tables of pairs of ports, as a search has, then have some millions of
-/// entries.
-const MOST_PORTS: u32 = 1024;
-
-/// The offset of the first port of a kind beyond the limit, if there are more.
+/// The offset of the first port of a kind beyond [`MAX_PORTS`], if there are more.
 pub(crate) fn find_excess(ports: &[PortWord<'_>], kind: PortKind) -> Option<u64>
     ensures { MatchOption result (length (words_of_kind kind ports.now) ≤ most_ports)
         (λ at. IsExcess (words_of_kind kind ports.now) at) }
@@ -24,7 +21,7 @@ pub(crate) fn find_excess(ports: &[PortWord<'_>], kind: PortKind) -> Option<u64>
     let mut count = 0;
     for port in ports.iter() {
         if port.kind == kind {
-            if count == MOST_PORTS {
+            if count == MAX_PORTS {
                 return Some(port.word.at());
             }
             count += 1;

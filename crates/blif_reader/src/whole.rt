@@ -144,8 +144,8 @@ fn name_net(
 /// # Errors
 ///
 /// [`NetStop::Fault`] with the first fault of the file: of its lines; a kind of port without a line; a name that is
-/// given to two ports of a kind, defined twice, or read and not known; more ports than 1,024 of a kind; a cover on a
-/// cycle or above one, at its `.names` line; or more than 1,000,000 gates. [`NetStop::Memory`] when out of memory.
+/// given to two ports of a kind, defined twice, or read and not known; more ports than 4,096 of a kind; a cover on a
+/// cycle or above one, at its `.names` line; or more than 4,000,000 gates. [`NetStop::Memory`] when out of memory.
 pub fn read(alloc: Global, input: &[u8]) -> Result<Named, NetStop>
     requires file { length input.now ≤ most_bytes }
     ensures netlist { IfOk result (λ named. ReadAs input.now named.graph named.input_names named.output_names) }

@@ -2,6 +2,7 @@
 use Rattle.std.proofs.Common.{◌≡◌, ◌⊎◌, ℕ, ◌≤◌, inl, inr, List, length, Result, Ok, Err, IfOk}
 use Rattle.circuits.specs.Circuits.{Circuit}
 use Rattle.circuits.specs.Levels.{IsAcyclic}
+use Rattle.net_core.specs.Limits.{most_ports}
 use Rattle.net_file.specs.declared.fault.NetKind.{NetKind}
 use Rattle.net_file.specs.declared.fault.NetStop.{NetStop}
 use Rattle.net_file.specs.declared.named.Named.{Named}
@@ -29,7 +30,7 @@ circuit_or_fault bytes circuit i o kind at = by_format (netlist_or_fault bytes c
 pub one_circuit_fault : (bytes : List ℕ) (kind other_kind : NetKind) (at place : ℕ) → IsCircuitFault bytes kind at → IsCircuitFault bytes other_kind place → (kind ≡ other_kind) × (at ≡ place)
 one_circuit_fault bytes kind other_kind at place = by_format (one_fault bytes kind other_kind at place) (one_blif_fault bytes kind other_kind at place)
 
-pub few_ports : (bytes : List ℕ) (circuit : Circuit) (i o : List (List ℕ)) → IsCircuit bytes circuit i o → (circuit.inputs ≤ 1024) × (length circuit.outputs ≤ 1024)
+pub few_ports : (bytes : List ℕ) (circuit : Circuit) (i o : List (List ℕ)) → IsCircuit bytes circuit i o → (circuit.inputs ≤ most_ports) × (length circuit.outputs ≤ most_ports)
 few_ports bytes circuit i o is =
     elim is [
       | inl (begins, aiger) ↦ (few_inputs_in_aiger bytes circuit i o aiger, few_in_aiger bytes circuit i o aiger)

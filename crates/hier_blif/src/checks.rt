@@ -20,7 +20,7 @@ use std::alloc::Global;
 ///
 /// [`HierStop::Fault`] with the first fault: of names, as [`check_names`](crate::check_names) says; the first instance
 /// whose model has no depth, at its line; more than 8,000,000 instances and covers together, the first model as one
-/// instance, at the file's end; or more inputs of the first model than 1,024, or else more outputs, at the first one
+/// instance, at the file's end; or more inputs of the first model than 4,096, or else more outputs, at the first one
 /// beyond. [`HierStop::Memory`] when out of memory.
 pub fn check_models(alloc: Global, models: &[BlifModel<'_>], end: u64) -> Result<(), HierStop>
     requires top { 0 < length models.now }

@@ -11,13 +11,11 @@ ghost use Rattle.hier_blif.specs.Limits.{words_on, HasFewPorts, HasManyPorts};
 use crate::fault::{HierKind, HierStop, fault_at};
 use crate::model::ModelLine;
 use circuits::PortKind;
+use net_core::MAX_PORTS;
 use text_core::Span;
 
-/// The limit of inputs, and that of outputs: that of `blif_reader`, since what is read here is flattened to a netlist
-/// like those.
-const MOST_PORTS: usize = 1024;
-
-/// Checks that a model with these lines has no more ports than the limits. The fault is at the first one beyond.
+/// Checks that a model with these lines has no more inputs than [`MAX_PORTS`], and no more outputs: what is read here is
+/// flattened to a netlist like those that `blif_reader` reads. The fault is at the first port beyond.
 pub(crate) fn check_limits(lines: &[ModelLine<'_>]) -> Result<(), HierStop>
     ensures few { IfOk result (λ _. HasFewPorts lines.now) }
     ensures fault { IfErr result (IsStopBy (HasManyPorts lines.now)) }
@@ -36,7 +34,7 @@ fn find_excess(lines: &[ModelLine<'_>], kind: PortKind) -> Option<u64>
     ensures { MatchOption result (length (flat_map (words_on kind) lines.now) ≤ most_ports)
         (λ at. IsExcess (flat_map (words_on kind) lines.now) at) }
 {
-    let mut left = MOST_PORTS;
+    let mut left = MAX_PORTS as usize;
     for line in lines.iter() {
         let words = words_on(line, kind);
         if words.len() > left {

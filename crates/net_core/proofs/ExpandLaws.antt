@@ -20,6 +20,7 @@ use Rattle.circuits.proofs.LevelOrders.{IsOrderOf-ordered, IsOrderOf-inputs, IsO
 use Rattle.net_core.specs.Graph.{IsGraph}
 use Rattle.net_core.specs.PlainNets.{IsPlainNet}
 use Rattle.net_core.specs.Rows.{row_continued}
+use Rattle.net_core.specs.Limits.{most_gates}
 
 -- what a row makes
 pub row_continued-longer : (first : ℕ) (gates : List Gate) (value : Option Lit) (rest : List Lit) → length gates ≤ length (row_continued first gates value rest).gates
@@ -143,7 +144,7 @@ IsOrderOf-parts circuit order inputs gates literals outputs is same all outs = r
   is = ap (λ n. net_of n gates outputs) same ∙ (ap (net_of circuit.inputs gates) outs ∙ ap (λ (m : Making). net_of circuit.inputs m.gates (map (stands_for m.literals) circuit.outputs)) all);
 }
 
-pub IsGraph-in_order : (circuit : Circuit) (net : Net) → IsPlainNet circuit → IsAcyclic circuit → gates_in circuit ≤ 1000000 → IsOrderOf circuit net → IsGraph net
+pub IsGraph-in_order : (circuit : Circuit) (net : Net) → IsPlainNet circuit → IsAcyclic circuit → gates_in circuit ≤ most_gates → IsOrderOf circuit net → IsGraph net
 IsGraph-in_order circuit net plain acyclic few is = record {
   ordered = IsOrderOf-ordered circuit net acyclic plain.closed is;
   signals = omega (arith, plain.signals, few, gates_in_order circuit net plain.closed is, IsOrderOf-inputs circuit net is);

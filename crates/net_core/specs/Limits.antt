@@ -3,11 +3,15 @@ use Rattle.std.specs.Prelude.{ℕ}
 
 -- inputs, and outputs
 abbrev pub most_ports : ℕ
-most_ports = 1024
+most_ports = 4096
 
 -- gates of the graph
 abbrev pub most_gates : ℕ
-most_gates = 1000000
+most_gates = 4000000
+
+-- the greatest variable of an AIGER file: the ASCII form may leave gaps among its variables
+abbrev pub most_variables : ℕ
+most_variables = 16000000
 
 -- bytes of a file: 64 MiB
 abbrev pub most_bytes : ℕ

@@ -9,8 +9,8 @@ pub enum OrderFault {
     /// The first definition, by its position, that is on a cycle or above one.
     #[error("definition {0} is on a cycle or above one")]
     Cycle(u32),
-    /// There is no cycle, but the definitions have more than 1,000,000 gates.
-    #[error("more than 1,000,000 gates")]
+    /// There is no cycle, but the definitions have more than [`MAX_GATES`](crate::MAX_GATES) gates.
+    #[error("more than 4,000,000 gates")]
     TooManyGates,
     /// Out of memory.
     #[error("out of memory")]

@@ -12,18 +12,15 @@ use crate::counting::gate_count;
 use crate::expanding::expand;
 use crate::graph::Graph;
 use crate::levels::{Placed, find_levels};
+use crate::limits::MAX_GATES;
 use crate::order_fault::OrderFault;
 use crate::plain_net::PlainNet;
 use std::alloc::{AllocError, Global};
 
-/// The most gates that a graph in order may have, a hundred times as many as the largest circuits that are matched: a
-/// number for each is kept here and there, so that this bounds the memory that a file can ask for.
-const MOST_GATES: usize = 1_000_000;
-
 /// The graph of a netlist: its definitions, expanded to gates, by level, and those of one level by
 /// position. The constant and the inputs have level 0, and a definition is one level above the highest
 /// signal that it names (levelization, as in textbooks of logic synthesis). A definition on a cycle or
-/// above one has no level, and the first of these is refused; then more than 1,000,000 gates are refused.
+/// above one has no level, and the first of these is refused; then more than [`MAX_GATES`] gates are refused.
 ///
 /// An AND is one gate. Of a cover each row is the AND of its literals, left to right, and the rows are
 /// joined one by one by OR, each after its own gates, without simplification; so a cover may be stood for
@@ -41,7 +38,7 @@ pub fn order(alloc: Global, net: &PlainNet) -> Result<Graph, OrderFault>
     let placed = find_levels(alloc, net)?;
     // After the levels, since a cycle is the fault that comes first; and before any gate is made, so that
     // what is refused takes no memory for gates.
-    if gate_count(net) > MOST_GATES {
+    if gate_count(net) > MAX_GATES as usize {
         return Err(OrderFault::TooManyGates);
     }
     let order = sorted_positions(alloc, placed)?;

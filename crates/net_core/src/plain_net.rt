@@ -9,7 +9,7 @@ use std::marker::Model;
 /// A netlist whose definitions may stand in any order. Signal 0 is false, input i is signal i + 1, and
 /// definition d is signal inputs + 1 + d. Each signal that a definition or an output names is there, and
 /// each row of a cover is as wide as its names. There are fewer than 2^32 outputs, and fewer than 2^30
-/// signals: the ordered graph has the same inputs and at most 1,000,000 gates, so its literals have 32 bits.
+/// signals: the ordered graph has the same inputs and at most 4,000,000 gates, so its literals have 32 bits.
 #[derive(Debug, Drop)]
 pub struct PlainNet {
     pub inputs: u32,

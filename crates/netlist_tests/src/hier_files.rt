@@ -384,13 +384,13 @@ fn with_inputs(alloc: Global, count: u64) -> Result<Vec<u8>, AllocError> {
 
 #[test]
 fn counts_ports_of_the_first_model(rt: HostRuntime) -> Result<(), Fail> {
-    let few = with_inputs(rt.alloc(), 1024)?;
+    let few = with_inputs(rt.alloc(), 4_096)?;
     check_hierarchy(rt.alloc(), &few)?;
-    // the line has 25 bytes before the inputs 0 to 1023, which take 20, 270, 3,600 and 120 bytes by their lengths
-    let many = with_inputs(rt.alloc(), 1025)?;
+    // the line has 25 bytes before the inputs 0 to 4,095, which take 20, 270, 3,600 and 15,480 bytes by their lengths
+    let many = with_inputs(rt.alloc(), 4_097)?;
     let fault = HierFault {
         kind: HierKind::TooManyInputs,
-        at: 4036,
+        at: 19_396,
     };
     assert!(rt; has_fault_of_hierarchy(rt.alloc(), &many, fault));
     Ok(())

@@ -21,6 +21,7 @@ use Rattle.circuits.specs.declared.definition.Def.{Def}
 use Rattle.circuits.specs.declared.netlist.Lit.{Lit}
 use Rattle.circuits.specs.declared.port.PortKind.TheVariants.{Input as InputPort, Output as OutputPort}
 use Rattle.circuits.proofs.AsCircuit.{as_circuit-acyclic}
+use Rattle.net_core.specs.Limits.{most_gates, most_ports, most_variables}
 use Rattle.net_file.specs.declared.named.Named.{Named}
 use Rattle.aiger_reader.specs.Words.{numbers_on, AreSmall}
 use Rattle.aiger_reader.specs.Headers.{AigerHeader, header_numbers, header_fault, line_after, Begins, keyword}
@@ -67,10 +68,10 @@ numbers_small binary net within =
 
 pub accepted : (binary : Bool) (net : Net) → IsWithinLimits net → header_fault (header_of_net binary net) ≡ None
 accepted binary net within =
-    let inputs : nat_lt 1024 net.inputs ≡ false = le-ltb 1024 net.inputs within.inputs in
-    let outputs : nat_lt 1024 (length net.outputs) ≡ false = le-ltb 1024 (length net.outputs) within.outputs in
-    let gates : nat_lt 1000000 (length net.gates) ≡ false = le-ltb 1000000 (length net.gates) within.gates in
-    let variables : nat_lt 4000000 (greatest_of net) ≡ false = le-ltb 4000000 (greatest_of net) (omega (arith, within.inputs, within.gates)) in
+    let inputs : nat_lt most_ports net.inputs ≡ false = le-ltb most_ports net.inputs within.inputs in
+    let outputs : nat_lt most_ports (length net.outputs) ≡ false = le-ltb most_ports (length net.outputs) within.outputs in
+    let gates : nat_lt most_gates (length net.gates) ≡ false = le-ltb most_gates (length net.gates) within.gates in
+    let variables : nat_lt most_variables (greatest_of net) ≡ false = le-ltb most_variables (greatest_of net) (omega (arith, within.inputs, within.gates)) in
     rw (inputs, outputs, gates, variables) refl
 
 -- numbers of 32 bits are of 64

@@ -16,6 +16,7 @@ use Rattle.text_core.specs.Words.{is_not_empty}
 use Rattle.text_core.proofs.LineLemmas.{lines-each}
 use Rattle.aiger_reader.specs.Aiger.{IsAiger}
 use Rattle.circuits.specs.Ports.{letter_of}
+use Rattle.net_core.specs.Limits.{most_ports}
 use Rattle.aiger_reader.specs.Symbols.{ArePortNames, Entry, GiveNames, GivesName, IsNameOf, NamesPort, Port, port_at, symbol_lines}
 use Rattle.aiger_reader.proofs.LimitLemmas.{accepted_limits}
 use Rattle.aiger_reader.proofs.OneSymbols.{named_or_not}
@@ -122,7 +123,7 @@ name_good entries port name all few is =
       )
     ]
 
-port_names_good : (entries : List Entry) (kind : PortKind) (count : ℕ) (names : List (List ℕ)) → count ≤ 1024 → All IsGoodEntry entries → ArePortNames entries kind count names → All IsNameOnLine names
+port_names_good : (entries : List Entry) (kind : PortKind) (count : ℕ) (names : List (List ℕ)) → count ≤ most_ports → All IsGoodEntry entries → ArePortNames entries kind count names → All IsNameOnLine names
 port_names_good entries kind count names few all are = λ k d h.
     name_good entries (port_at kind k) (get_or names k d) all (omega (arith, few, h, are.count_is)) (are.each k d h)
 

@@ -11,12 +11,13 @@ use Rattle.circuits.specs.Literals.{signal_of}
 use Rattle.circuits.specs.Netlists.{Net}
 use Rattle.circuits.specs.declared.netlist.Lit.{Lit}
 use Rattle.circuits.specs.declared.netlist.Gate.{Gate}
+use Rattle.net_core.specs.Limits.{most_bytes}
 use Rattle.net_file.specs.declared.named.Named.{Named}
 use Rattle.net_print.specs.BlifLines.{signal_name, gate_name, output_name, input_name, ports_line, words_text, blif_text, row_byte}
 use Rattle.net_print.specs.Deltas.{delta_groups, deltas}
 use Rattle.net_print.specs.Files.{aig_text}
 use Rattle.net_print.specs.Rows.{numbers_line, header_numbers, header_line, output_row, symbol_lines, symbols}
-use Rattle.print_laws.specs.Printable.{IsPrintable, IsShortName, IsWithinLimits}
+use Rattle.print_laws.specs.Printable.{HasFewGates, IsPrintable, IsShortName, IsWithinLimits}
 use Rattle.print_laws.proofs.Deltas.{few_groups}
 use Rattle.print_laws.proofs.PrintedCovers.{Printed, OfGate, OfOutput, names_words, row_words, covers_lines, numbered, printed_covers, length-numbered, ReadsBelow, covers_read, words_are}
 
@@ -94,8 +95,8 @@ ports_size word letter a (suc n) few =
       ports_size (letter ∷ decimal a) letter (a + 1) n (omega (arith, few)),
     )
 
-pub blif_short : (net : Net) → IsWithinLimits net → length (blif_text net) ≤ 67108864
-blif_short net within =
+pub blif_short : (net : Net) → IsWithinLimits net → HasFewGates net → length (blif_text net) ≤ most_bytes
+blif_short net within few =
     let n = net.inputs in
     let m = length net.outputs in
     let covers = printed_covers net in
@@ -108,7 +109,7 @@ blif_short net within =
       arith,
       within.inputs,
       within.outputs,
-      within.gates,
+      few,
       line_size (codes ".model" ∷ codes "npnp" ∷ []) (inputs ∷ outputs ∷ constant ∷ after),
       line_size inputs (outputs ∷ constant ∷ after),
       line_size outputs (constant ∷ after),
@@ -177,7 +178,7 @@ header_size net within =
       digits_few (length net.gates) (omega (arith, within.gates)),
     )
 
-symbols_size : (letter position : ℕ) (names : List (List ℕ)) → position + length names < 2 ^ 32 → All IsShortName names → length (text_of_lines (symbol_lines letter position names)) ≤ 20013 * length names
+symbols_size : (letter position : ℕ) (names : List (List ℕ)) → position + length names < 2 ^ 32 → All IsShortName names → length (text_of_lines (symbol_lines letter position names)) ≤ 3013 * length names
 symbols_size letter position [] few short = omega arith
 symbols_size letter position (name ∷ names) few short =
     omega (
@@ -192,7 +193,7 @@ symbols_size letter position (name ∷ names) few short =
 literal_small : (net : Net) → IsWithinLimits net → All SmallLiteral net.outputs
 literal_small net within k d h = omega (arith, within.ordered.outputs k d h, within.inputs, within.gates)
 
-pub aig_short : (named : Named) → IsPrintable named → All IsShortName named.input_names → All IsShortName named.output_names → length (aig_text named) ≤ 67108864
+pub aig_short : (named : Named) → IsPrintable named → All IsShortName named.input_names → All IsShortName named.output_names → length (aig_text named) ≤ most_bytes
 aig_short named good inputs outputs =
     let net = named.graph in
     let within = good.within in

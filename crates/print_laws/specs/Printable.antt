@@ -32,6 +32,11 @@ pub record IsPrintable (named : Named) : Type 0 where
   pub input_names : All IsSymbolName named.input_names
   pub output_names : All IsSymbolName named.output_names
 
--- a name of at most 20,000 bytes: 2,048 of them leave room for the gates in a file of 67,108,864
+-- a name of at most 3,000 bytes: 8,192 of them leave room for the gates in a file of 67,108,864
 abbrev pub IsShortName : List ℕ → Type 0
-IsShortName name = length name ≤ 20000
+IsShortName name = length name ≤ 3000
+
+-- at most 1,000,000 gates: as BLIF, where each takes up to 48 bytes, they leave room for the ports in a file of
+-- 67,108,864, and 4,000,000 don't
+abbrev pub HasFewGates : Net → Type 0
+HasFewGates net = length net.gates ≤ 1000000

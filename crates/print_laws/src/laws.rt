@@ -8,7 +8,7 @@ ghost use Rattle.net_print.specs.Files.{aag_text, aig_text};
 ghost use Rattle.aiger_reader.specs.Aiger.{IsAiger};
 ghost use Rattle.blif_reader.specs.Blif.{IsBlif};
 ghost use Rattle.print_laws.specs.Ordered.{with_greater_first};
-ghost use Rattle.print_laws.specs.Printable.{IsPrintable, IsShortName, IsWithinLimits};
+ghost use Rattle.print_laws.specs.Printable.{HasFewGates, IsPrintable, IsShortName, IsWithinLimits};
 ghost use Rattle.print_laws.specs.PrintedCircuits.{printed_circuit, printed_inputs, printed_outputs};
 
 /// What is printed in the ASCII form of AIGER is a file of the same netlist, gate by gate, with the same names.
@@ -43,12 +43,13 @@ pub fn blif_reads_back()
         → Computes net (printed_circuit net) }
 {}
 
-/// What is printed is no longer than what is read: a netlist within the limits as BLIF, and in the binary form of AIGER
-/// where no name has more than 20,000 bytes.
+/// What is printed is no longer than what is read: a netlist within the limits as BLIF where it has at most 1,000,000
+/// gates, and in the binary form of AIGER where no name has more than 3,000 bytes.
 #[tactic(auto, using(crate::proofs::SizeLemmas::aig_short, crate::proofs::SizeLemmas::blif_short))]
 pub fn printed_is_short()
     ensures blif { (net : Net)
         → IsWithinLimits net
+        → HasFewGates net
         → length (blif_text net) ≤ most_bytes }
     ensures aig { (named : Named)
         → IsPrintable named

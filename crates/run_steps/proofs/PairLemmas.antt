@@ -111,7 +111,7 @@ second_read number pair is content there =
         holds = record {
           bytes = blif_text net;
           there = there;
-          short = blif_short net within;
+          short = blif_short net within (omega (arith, is.drawn.second_size.gates));
           is = inr (λ (binary, e). no_keyword net binary e, printed_blif net within);
         };
         computes = printed_computes net is.second_ordered;

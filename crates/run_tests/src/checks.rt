@@ -357,10 +357,11 @@ fn refuses_words_of_no_form(rt: HostRuntime) -> Result<(), Fail> {
 }
 
 /// First netlists that are malformed, each with the number of its fault and the place.
-static MALFORMED: [(&[u8], &[u8]); 31] = [
+static MALFORMED: [(&[u8], &[u8]); 32] = [
     (b"aag 4294967295 0 0 0 0\n", b"6 0"),
     (b"aag 4294967296 0 0 0 0\n", b"1 0"),
-    (b"aag 1025 1025 0 0 0\n", b"4 0"),
+    (b"aag 1025 1025 0 0 0\n", b"14 20"),
+    (b"aag 4097 4097 0 0 0\n", b"4 0"),
     (b"aag 1 0 1 0 0\n2 3\n", b"2 0"),
     (b"aag 0 0 0 1 0\nx\n", b"7 14"),
     (b"aag 1 0 0 1 0\n4\n", b"8 14"),

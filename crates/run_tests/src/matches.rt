@@ -2,9 +2,10 @@
 
 use crate::files::{A, AND, B, C17, C17_MOVED, EMPTY, OR, THREE, TWO, WIRE, XOR, ZERO};
 use crate::runs::{CHECK, MATCH, expect, line, run_on};
-use std::alloc::Global;
+use std::alloc::{AllocError, Global};
 use std::process::Abort;
 use std::test::Fail;
+use text_core::put_decimal;
 
 /// The match of two netlists: the words, and what is printed of it after the first words, where there is one.
 struct Sought {
@@ -244,8 +245,11 @@ fn finds_either_of_two_matches(rt: HostRuntime) -> Result<(), Fail> {
     Ok(())
 }
 
-/// As many inputs as a netlist may have, and nothing else.
+/// Many inputs, and nothing else.
 const INPUTS: &[u8] = b"aig 1024 1024 0 0 0\n";
+
+/// As many inputs as a netlist may have, and nothing else.
+const MOST_INPUTS: &[u8] = b"aig 4096 4096 0 0 0\n";
 
 #[test]
 fn pairs_many_inputs(rt: HostRuntime) -> Result<(), Fail> {
@@ -253,6 +257,32 @@ fn pairs_many_inputs(rt: HostRuntime) -> Result<(), Fail> {
     let account = ended.account.as_deref();
     let checked = run_on(rt.alloc(), CHECK, [INPUTS, INPUTS], account)?;
     assert_eq!(rt; (ended.status, checked.status), (0, 0));
+    Ok(())
+}
+
+/// The account that so many inputs of two netlists without outputs are paired in order.
+fn identity_of(alloc: Global, inputs: u64) -> Result<Vec<u8>, AllocError> {
+    let mut text = Vec::from_slice(alloc, b"npnp 1\nmatch")?;
+    for input in 0..inputs {
+        text.extend_from_slice(b" i")?;
+        put_decimal(input, &mut text)?;
+        text.push(b'+')?;
+        put_decimal(input, &mut text)?;
+    }
+    text.extend_from_slice(b"\nend\n")?;
+    Ok(text)
+}
+
+#[test]
+fn accepts_the_most_inputs(rt: HostRuntime) -> Result<(), Fail> {
+    let account = identity_of(rt.alloc(), 4_096)?;
+    let checked = run_on(
+        rt.alloc(),
+        CHECK,
+        [MOST_INPUTS, MOST_INPUTS],
+        Some(&account),
+    )?;
+    assert_eq!(rt; checked.status, 0);
     Ok(())
 }
 

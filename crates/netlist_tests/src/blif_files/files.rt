@@ -307,31 +307,30 @@ fn stop_by_ports(
 
 #[test]
 fn counts_ports(rt: HostRuntime) -> Result<(), Fail> {
-    // ten names of two bytes, ninety of three, nine hundred of four and twenty-four of five, each with a blank before
-    // it
-    let names = 10 * 3 + 90 * 4 + 900 * 5 + 24 * 6;
+    // ten names of two bytes, ninety of three, nine hundred of four and 3,096 of five, each with a blank before it
+    let names = 10 * 3 + 90 * 4 + 900 * 5 + 3_096 * 6;
     let last_output = 8 + names + 9 + names;
     let rows: [(u64, u64, &[u8], Option<(NetKind, u64)>); 6] = [
-        (1_024, 1_024, b"", None),
-        (1_024, 1_024, b".names i1024\n", None),
-        (1_025, 1_025, b"", Some((NetKind::TooManyInputs, 8 + names))),
+        (4_096, 4_096, b"", None),
+        (4_096, 4_096, b".names i4096\n", None),
+        (4_097, 4_097, b"", Some((NetKind::TooManyInputs, 8 + names))),
         (
-            1_024,
-            1_025,
+            4_096,
+            4_097,
             b"",
             Some((NetKind::NameUndefined, last_output)),
         ),
         // the output beyond the limit is defined after the ports
         (
-            1_024,
-            1_025,
-            b".names i1024\n",
+            4_096,
+            4_097,
+            b".names i4096\n",
             Some((NetKind::TooManyOutputs, last_output)),
         ),
         (
-            1_024,
-            1_026,
-            b".names i1024\n.names i1025\n",
+            4_096,
+            4_098,
+            b".names i4096\n.names i4097\n",
             Some((NetKind::TooManyOutputs, last_output)),
         ),
     ];
@@ -367,11 +366,11 @@ fn put_operands(count: usize, out: &mut Vec<u8>) -> Result<(), AllocError> {
     out.extend_from_slice(b" y\n")
 }
 
-// Adds a file with an output of 1,000,000 gates, and a cover after it.
+// Adds a file with an output of 4,000,000 gates, and a cover after it.
 fn put_gates(alloc: Global, cover: &[u8], out: &mut Vec<u8>) -> Result<(), AllocError> {
     out.extend_from_slice(b".inputs a\n.outputs y\n")?;
     // each row has a gate less than literals, and each row but one a gate that joins it
-    put_cover(alloc, 101, 9_901, out)?;
+    put_cover(alloc, 41, 97_561, out)?;
     out.extend_from_slice(cover)
 }
 
@@ -386,7 +385,7 @@ fn gates_with(alloc: Global, cover: &[u8]) -> Result<(u64, Result<usize, NetStop
 #[test]
 fn counts_gates(rt: HostRuntime) -> Result<(), Fail> {
     let (_, gates) = gates_with(rt.alloc(), b"")?;
-    assert_eq!(rt; gates, Ok(1_000_000));
+    assert_eq!(rt; gates, Ok(4_000_000));
     // one gate more; that no output needs it makes no difference
     let (length, gates) = gates_with(rt.alloc(), b".names a a z\n11 1\n")?;
     let fault = NetFault {

@@ -1,6 +1,7 @@
 use Rattle.std.proofs.Common.{◌<◌, length, Err, inl, inr, ap, subst, ◌∙◌}
 use Rattle.circuits.specs.Levels.{IsAcyclic, IsFirstLooped, IsOrderOf}
 use Rattle.circuits.specs.Expansion.{gates_in}
+use Rattle.net_core.specs.Limits.{most_gates}
 use Rattle.blif_reader.specs.Blif.{blif_lines}
 use Rattle.blif_reader.proofs.BlifLemmas.{same_circuit, closed_made, signals_made, outputs_made, gates_made, place_there, cycle_found, gates_found}
 use Rattle.blif_reader.proofs.whole.order_covers.Goals as goal
@@ -53,4 +54,4 @@ returns-in-Err-TooManyGates-clause-stop c =
     let lines = blif_lines c.args.input.now in
     let same = c.new-net.ensures ∙ same_circuit lines c.args.inputs c.args.covers c.requires.inputs c.requires.built in
     let many = c.in-Err-TooManyGates.ensures.too_many (ap Err c.in-Err-TooManyGates.field-0-is) in
-    inr (inr (inr (inr (inr (inr (inr (inr (gates_found (length c.args.input.now) lines c.requires.few (subst IsAcyclic same many.0) (subst (λ n. 1000000 < gates_in n) same many.1)))))))))
+    inr (inr (inr (inr (inr (inr (inr (inr (gates_found (length c.args.input.now) lines c.requires.few (subst IsAcyclic same many.0) (subst (λ n. most_gates < gates_in n) same many.1)))))))))

@@ -5,8 +5,8 @@ use Rattle.circuits.proofs.LevelOrders.{IsOrderOf-computes}
 use Rattle.net_core.proofs.OrderLaws.{IsAcyclic-levels, IsLevelOrder-sorted}
 use Rattle.net_core.proofs.ordering.order.Goals as goal
 
-pub returns-then-gate_count-gt-MOST_GATES-clause-too_many : goal.returns-then-gate_count-gt-MOST_GATES-clause-too_many
-returns-then-gate_count-gt-MOST_GATES-clause-too_many c = λ _.
+pub returns-then-gate_count-clause-too_many : goal.returns-then-gate_count-clause-too_many
+returns-then-gate_count-clause-too_many c = λ _.
     (IsAcyclic-levels c.args.net.now c.in_ok-placed.placed.items c.in_ok-placed.ensures.levels, omega arith)
 
 pub expand-requires-clause-order : goal.expand-requires-clause-order
