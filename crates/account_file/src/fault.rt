@@ -9,21 +9,21 @@ use thiserror::Error;
 #[derive(Clone, Copy, Debug, Drop, PartialEq, Eq, Error)]
 pub enum RecordFault {
     /// The first line isn't `npnp 1`. Of version 1 alone.
-    #[error("the first line isn't `npnp 1`")]
+    #[error("the account does not begin with the line `npnp 1`")]
     Header,
     /// A word doesn't fit the line's form, or one is missing, or a blank is; or an entry's tag is of no record, or its
     /// fields have a byte without a meaning or end elsewhere than its body.
-    #[error("a word or a byte doesn't fit the record's form")]
+    #[error("it has the form of no record")]
     Word,
     /// A word of digits, where a number may stand, isn't one: it has a leading zero, or is too large. Of version 1
     /// alone.
-    #[error("a number has a leading zero or is too large")]
+    #[error("a number with a leading zero, or one that is too large")]
     Number,
     /// The record may not stand there.
-    #[error("the record may not stand there")]
+    #[error("such a record may not stand here")]
     Order,
     /// The file ends before a line feed, or within an entry, or before the record `end`.
-    #[error("the file ends before the record `end`")]
+    #[error("the account ends before its last record")]
     Truncated,
     /// Something stands after `end`.
     #[error("something stands after the record `end`")]

@@ -7,7 +7,7 @@ ghost use Rattle.shelf_core.specs.State.{Closed};
 use crate::account_lines::LineSearch;
 use crate::faults::FailedFile;
 use crate::malformed::{put_malformed, put_unread};
-use crate::meanings::meaning_of_why;
+use crate::meanings::put_meaning;
 use crate::notice::FORMS;
 use crate::spending::{put_enough_of_one, put_enough_of_two, put_lines};
 use crate::word_fault::fault_of_words;
@@ -189,12 +189,8 @@ fn put_rejected<S: Shelf>(
     let Some(name) = name_of(ended.words, Which::Account) else {
         return Ok(());
     };
-    writeln!(
-        text,
-        "{}:{line}: {}",
-        TerminalText::name(name),
-        meaning_of_why(why)
-    )?;
+    write!(text, "{}:{line}: ", TerminalText::name(name))?;
+    put_meaning(why, text)?;
     if !ended.readable {
         return Ok(());
     }

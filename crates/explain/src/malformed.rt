@@ -5,7 +5,6 @@ ghost use Rattle.refusal_words.specs.Files.{SameFiles};
 ghost use Rattle.shelf_core.specs.State.{Closed};
 
 use crate::looks::FileLook;
-use crate::meanings::meaning_of_kind;
 use crate::places::{line_around, place_of};
 use crate::remedies::Remedy;
 use check_steps::{File, NETLIST_LIMIT, ReadStop, read_file};
@@ -33,9 +32,8 @@ pub(crate) fn put_malformed<S: Shelf>(
 
 /// Says of a malformed netlist that can't be read again what its fault means.
 pub(crate) fn put_unread(name: &str, fault: NetFault, text: &mut String) -> Result<(), ReadStop> {
-    let (name, meaning) = (TerminalText::name(name), meaning_of_kind(fault.kind));
-    let at = fault.at;
-    Ok(writeln!(text, "{name}: byte {at}: {meaning}")?)
+    let (name, kind, at) = (TerminalText::name(name), fault.kind, fault.at);
+    Ok(writeln!(text, "{name}: byte {at}: {kind}")?)
 }
 
 fn put_fault(name: &str, bytes: &[u8], fault: NetFault, text: &mut String) -> Result<(), ReadStop> {
@@ -45,8 +43,8 @@ fn put_fault(name: &str, bytes: &[u8], fault: NetFault, text: &mut String) -> Re
     if is_binary(fault.kind, bytes) {
         put_unread(name, fault, text)?;
     } else {
-        let (meaning, place) = (meaning_of_kind(fault.kind), place_of(bytes, at));
-        writeln!(text, "{}:{place}: {meaning}", TerminalText::name(name))?;
+        let (kind, place) = (fault.kind, place_of(bytes, at));
+        writeln!(text, "{}:{place}: {kind}", TerminalText::name(name))?;
     }
     if shows_line(fault.kind, look, line) {
         writeln!(text, "  {}", TerminalText(line))?;
