@@ -220,7 +220,8 @@ fn negated_if(literal: SatLit, is_opposite: bool) -> SatLit {
     literal
 }
 
-/// The numbers that only one of two lists has, in ascending order. Neither has one twice.
+/// The numbers that only one of two lists has, in ascending order. Neither has one twice. Each is looked for by a scan:
+/// forms of gates have few variables, `LONGEST` at most.
 pub(crate) fn toggled(alloc: Global, one: &[u64], other: &[u64]) -> Result<Vec<u64>, AllocError> {
     let mut numbers = Vec::new(alloc);
     add_missing(one, other, &mut numbers)?;
@@ -245,5 +246,9 @@ pub(crate) fn has(numbers: &[u64], number: u64) -> bool {
 }
 
 fn same(one: &[u64], other: &[u64]) -> bool {
-    one.len() == other.len() && one.iter().all(|number| has(other, *number))
+    one.len() == other.len()
+        && one
+            .iter()
+            .zip(other.iter())
+            .all(|(left, right)| left == right)
 }

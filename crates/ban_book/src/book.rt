@@ -152,7 +152,8 @@ fn are_among(pairs: &[Pair], others: &[Pair]) -> bool
     true
 }
 
-fn contains(pairs: &[Pair], pair: Pair) -> bool
+/// Whether a list has a pair. A scan: bans and matchings in the making have few pairs.
+pub fn contains(pairs: &[Pair], pair: Pair) -> bool
     ensures { IsTrue result ↔ Contains pairs.now pair }
 {
     pairs.contains(&pair)

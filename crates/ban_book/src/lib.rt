@@ -14,7 +14,7 @@ mod row_bans;
 mod tallies;
 pub mod ways;
 
-pub use book::BanBook;
+pub use book::{BanBook, contains};
 pub use input_claims::{DecidedClaim, InputClaims};
 pub use mismatched::{Carried, Unlike, carry, mismatch_ban, unlike_of};
 pub use ports::{one_input, two_inputs};

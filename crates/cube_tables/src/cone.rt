@@ -65,7 +65,7 @@ impl Cone {
         })
     }
 
-    /// The place of an input.
+    /// The place of an input. A scan: a cone has at most ten inputs.
     pub(crate) fn place_of(&self, input: u32) -> Option<usize> {
         self.inputs.iter().position(|other| *other == input)
     }

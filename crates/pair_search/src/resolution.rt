@@ -20,8 +20,8 @@ use crate::mismatch::Mismatches;
 use crate::resolved::Resolved;
 use crate::view::TrailView;
 use account_core::{PairableGraphs, Port, port_on};
-use ban_book::BanBook;
 use ban_book::needed::place_of;
+use ban_book::{BanBook, contains};
 use circuits::Pair;
 use net_core::Side;
 use pair_domains::{Cause, Domains, Entry, Fate};
@@ -133,12 +133,6 @@ fn is_at(assigned: &[Pair], place: usize, pairs: &[Pair]) -> bool
     ensures no { result ≡ false → (d : AnyPair) → Contains pairs.now (slice_index_or assigned.now place d) → ⊥ }
 {
     contains(pairs, assigned[place])
-}
-
-fn contains(pairs: &[Pair], pair: Pair) -> bool
-    ensures { IsTrue result ↔ Contains pairs.now pair }
-{
-    pairs.contains(&pair)
 }
 
 // Where the entry of an assigned pair stands.

@@ -14,8 +14,8 @@ ghost use Rattle.vector_bans.specs.Resorts.{IsBanWithin, IsVectorBan};
 use crate::difference::{Tried, definite, is_wrong};
 use crate::last_resort::{ban_by_claims, vector_ban};
 use account_core::{Ban, PairableGraphs};
-use ban_book::BanBook;
 use ban_book::cover::add_input;
+use ban_book::{BanBook, contains};
 use bit_list::Bits;
 use circuits::{Pair, PortKind};
 use cnf_core::Stop;
@@ -66,12 +66,6 @@ pub fn ban_suspected<O: Oracle>(
     };
     let number = book.hold(ban)?;
     Ok(Some(number))
-}
-
-fn contains(pairs: &[Pair], pair: Pair) -> bool
-    ensures { IsTrue result ↔ Contains pairs.now pair }
-{
-    pairs.contains(&pair)
 }
 
 // The suspected pairs that are assigned, in the order that bans have.
