@@ -49,9 +49,9 @@ pub(crate) enum CheckStage<'a> {
     Proving(Logs<'a>),
     /// The account concluded that there is no match, and its end comes.
     Refusing,
-    /// It has ended with a match.
+    /// The account has ended with a match.
     Proved(Logs<'a>),
-    /// It has ended with no match.
+    /// The account has ended with no match.
     Refused,
 }
 

@@ -46,7 +46,7 @@ pub(crate) fn test_drop_fact(
     None
 }
 
-/// The same of a ban.
+/// What is wrong with a drop of a ban, as of a fact.
 pub(crate) fn test_drop_ban(
     graphs: &Graphs<'_>,
     given: &Given,

@@ -4,7 +4,7 @@ use std::alloc::{AllocError, AllocFailed};
 /// What is wrong with a record.
 #[derive(Clone, Copy, Debug, PartialEq, Eq)]
 pub enum Reject {
-    /// It names a port that doesn't exist.
+    /// The record names a port that doesn't exist.
     UnknownId,
     /// A vector doesn't break its claim, or two paired outputs don't differ on it.
     VectorFails,

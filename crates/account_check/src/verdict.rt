@@ -21,9 +21,9 @@ pub enum Verdict {
 /// What is wrong with a record of an account.
 #[derive(Clone, Copy, Debug, Drop, PartialEq, Eq)]
 pub enum Why {
-    /// Its form, or where it stands.
+    /// The record's form, or where it stands.
     Form(RecordFault),
-    /// Its record.
+    /// What the record says.
     Record(Reject),
 }
 

@@ -13,7 +13,7 @@ use net_core::{Graph, Graphs, Side};
 pub struct Port {
     pub side: Side,
     pub kind: PortKind,
-    /// Its position, from 0.
+    /// The port's position, from 0.
     pub number: u32,
 }
 
@@ -47,7 +47,7 @@ pub fn way(kind: PortKind, from: u32, to: u32, flip: bool) -> Pair
     }
 }
 
-/// The other one of two circuits.
+/// The other side: of the first circuit the second, and of the second the first.
 pub fn other_side(side: Side) -> Side
     ensures { result ≡ other_side side }
 {

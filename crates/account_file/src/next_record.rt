@@ -54,7 +54,7 @@ pub(crate) fn next_in(
     next_of(alloc, left, looked, finished, place)
 }
 
-// The same, in version 1.
+// What is done with the bytes left of an account of version 1.
 fn next_of(
     alloc: Global,
     left: &[u8],

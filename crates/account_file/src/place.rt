@@ -9,7 +9,7 @@ pub enum Place {
     Headed,
     /// A line of the log of a fact that holds.
     FactLog,
-    /// That many logs, and then the end.
+    /// So many logs, and then the end.
     Logs(u64),
     /// Nothing.
     Ended,

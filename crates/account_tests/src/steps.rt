@@ -106,7 +106,7 @@ fn ways_shown<'a>(
     ))
 }
 
-/// The same where both facts are given.
+/// Whether a ban is shown in these ways where both facts are given.
 fn ways_shown_by_both<'a>(
     alloc: Global,
     graphs: &'a Graphs<'a>,

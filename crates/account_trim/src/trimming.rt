@@ -37,7 +37,7 @@ pub fn trim(
     Ok(core_of(facts, bans, number, &marks, &numbers))
 }
 
-// Those of facts and bans that are marked, under their new numbers.
+// The facts and bans that are marked, under their new numbers.
 fn core_of(
     facts: Items<Fact>,
     bans: Items<Ban>,

@@ -24,13 +24,13 @@ use Rattle.circuits.proofs.Lists.{not_among}
 abbrev pub none : Clause3
 none = record { lits = []; len = 0 }
 
--- the first names have their places
+-- the first variables that occur have their dense variables
 pub record IsPlacing (variables : ℕ) (names places : List ℕ) (count : ℕ) : Type 0 where
   pub size : length places ≡ variables
   pub few : All (λ place. place < 2 ^ 63) places
   pub each : (k : ℕ) → k < count → slice_index_or places (slice_index_or names k 0) 0 ≡ k
 
--- the first names have their bits, and all else is false
+-- the first variables that occur have their bits, and all else is false
 pub record IsSpreading (variables : ℕ) (names : List ℕ) (values full : List Bool) (count : ℕ) : Type 0 where
   pub size : length full ≡ variables
   pub each : (k : ℕ) → k < count → bit full (slice_index_or names k 0) ≡ bit values k
@@ -173,7 +173,7 @@ numbers_more ids numbers new count i is new_is =
     let rest = map (λ j. count + j) (range_with_len 0 i) in
     new_is ∙ (ap (λ ns. ns ++ (count + i) ∷ []) is ∙ (append_assoc ids rest ((count + i) ∷ []) ∙ ap (λ ns. ids ++ ns) (sym (map-range_with_len_more (λ j. count + j) 0 i i (omega arith)))))
 
--- what was collected is over the names
+-- what was collected is over dense variables
 pub renaming_made : (full : Formula) (ids names numbers : List ℕ) (lemmas : List LogLine) (listed dense : List Clause3) → All (λ id. id < length full.clauses) ids → AreOver full.variables (map (clause_at full.clauses) ids ++ clauses_of lemmas) listed → AreNames full.variables names → AreOverPlaces names listed dense (length listed) → numbers ≡ numbers_of ids (length full.clauses) (length lemmas) → IsRenaming (record { variables = length names; clauses = map literals_of dense }) names numbers full lemmas
 renaming_made full ids names numbers lemmas listed dense low over are turned numbers_are = subst (λ ns. IsRenaming (record { variables = length names; clauses = map literals_of dense }) names ns full lemmas) (sym numbers_are) (record {
   names_are = are;
@@ -228,7 +228,7 @@ renaming_made full ids names numbers lemmas listed dense low over are turned num
 same_lists : (a b : List (List SatLit)) → length a ≡ length b → ((k : ℕ) → k < length a → clause_at a k ≡ clause_at b k) → a ≡ b
 same_lists a b size each = fill_by_all (clause_at b) a (length a) [] refl each ∙ sym (fill_by_all (clause_at b) b (length a) [] (sym size) (λ k below. refl))
 
--- the clauses over names are all that were collected
+-- the clauses over dense variables are all that were collected
 pub whole_made : (n : ℕ) (wanted : List (List SatLit)) (names : List ℕ) (listed dense : List Clause3) → AreOver n wanted listed → AreOverPlaces names listed dense (length listed) → wanted ≡ map (map (renamed names)) (map literals_of dense)
 whole_made n wanted names listed dense over turned =
     let none : Clause3 = record { lits = []; len = 0 } in

@@ -1,4 +1,4 @@
--- What was learned over names, in terms of the formula.
+-- What was learned over dense variables, in terms of the formula.
 use Rattle.std.proofs.Common.{◌≡◌, ℕ, zero, suc, ◌+◌, ◌-◌, ◌<◌, ◌≤◌, ◌^◌, ◌||◌, not, Bool, true, false, List, [], ◌∷◌, ◌++◌, length, map, take, All, Result, Ok, Err, IfOk, IfErr, slice_index_or, refl, sym, ◌∙◌, ap, subst, arith}
 use Rattle.std.specs.List.{list_any}
 use Rattle.std.proofs.lemmas.List.{append_assoc, get_or-append_right, get_or-map, get_or-take, length-append, length-map, length-take-le, map-append, take-map, take-take, take_at}
@@ -27,7 +27,7 @@ use Rattle.ask_core.proofs.LineLemmas.{clauses_after, empties_renamed, is_negate
 use Rattle.std.proofs.Math.Bool.{not-not}
 use Rattle.circuits.proofs.Lists.{All-front}
 
--- learned lines are over the names
+-- learned lines are over dense variables
 pub learned_known : (small : Formula) (n : ℕ) (lines : List LogLine) → AreLearned small lines → small.variables ≡ n → All (AreKnown n) (clauses_of lines)
 learned_known small n lines learned variables = subst (λ m. All (AreKnown m) (clauses_of lines)) variables (lines_known small lines learned.derived)
 
@@ -57,7 +57,7 @@ take_after [] ys k late = ap (λ n. take n ys) (let e : k ≡ k - 0 = omega arit
 take_after (x ∷ xs) ys zero late = absurd (omega (arith, late))
 take_after (x ∷ xs) ys (suc k) late = ap (λ ls. x ∷ ls) (take_after xs ys k (omega (arith, late)) ∙ ap (λ n. xs ++ take n ys) (let e : k - length xs ≡ suc k - length (x ∷ xs) = omega arith in e))
 
--- What is known of names and lemmas.
+-- What is known of dense variables and lemmas.
 pub record IsTranslating (small : Formula) (names numbers : List ℕ) (full : Formula) (ids : List ℕ) (lemmas : List LogLine) : Type 0 where
   pub renaming : IsRenaming small names numbers full lemmas
   pub whole : map (clause_at full.clauses) ids ++ clauses_of lemmas ≡ map (map (renamed names)) small.clauses

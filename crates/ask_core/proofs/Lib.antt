@@ -3,5 +3,5 @@ pub mod BoundLemmas
 pub mod RenameLemmas
 pub mod LineLemmas
 pub mod BaseLemmas
-pub mod SmallLemmas
+pub mod DenseLemmas
 pub mod FullLemmas

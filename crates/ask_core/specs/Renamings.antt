@@ -1,4 +1,5 @@
--- Clauses and lines over other variables, with other numbers.
+-- Clauses and lines over dense variables, with numbers of their own, and over the formula's: each dense variable is a
+-- place in a list of names, which are the formula's variables that occur.
 use Rattle.std.specs.Prelude.{◌≡◌, ℕ, ◌+◌, ◌-◌, ◌<◌, ◌≤◌, ◌^◌, ◌++◌, not, eqb, Bool, true, List, length, map, All, Contains, nat_lt, slice_index_or}
 use Rattle.std.specs.Prelude.{if◌then◌else◌}
 use Rattle.std.specs.List.{IsDistinct, range_with_len}
@@ -64,40 +65,40 @@ pub record AreMarks (variables : ℕ) (names : List ℕ) (marked : List Bool) : 
   pub marks : (v : ℕ) → bit marked v ≡ true → Contains names v
   pub marked_are : All (λ v. bit marked v ≡ true) names
 
--- the place of each name
+-- the dense variable of each variable that occurs
 pub record ArePlaces (variables : ℕ) (names places : List ℕ) : Type 0 where
   pub size : length places ≡ variables
   pub few : All (λ place. place < 2 ^ 63) places
   pub each : (k : ℕ) → k < length names → slice_index_or places (slice_index_or names k 0) 0 ≡ k
 
--- A table has the place of each name.
+-- A table has the dense variable of each variable that occurs.
 pub record IsTable (names table : List ℕ) : Type 0 where
   pub are : ArePlaces (length table) names table
   pub known : All (λ v. v < length table) names
 
--- how the places of names are found is right for these
+-- how dense variables are found is right for these names
 abbrev pub ArePlacesOf : List ℕ → Places → Type 0
 ArePlacesOf names (Table table) = IsTable names table.items
 ArePlacesOf names Bisected = IsNonDecreasing names
 
--- The first n of clauses, over the places of names.
+-- The first n of clauses, over dense variables.
 pub record AreOverPlaces (names : List ℕ) (clauses dense : List Clause3) (count : ℕ) : Type 0 where
   pub size : length dense ≡ count
   pub over : All (IsOver (length names)) dense
   pub back : (k : ℕ) (c d : Clause3) → k < count
       → map (renamed names) (literals_of (slice_index_or dense k c)) ≡ literals_of (slice_index_or clauses k d)
 
--- Clauses over names, and the numbers that they have.
+-- Clauses over dense variables, the formula's variable of each of these, and the numbers that the clauses have.
 pub record Dense : Type 0 where
   pub names : List ℕ
   pub clauses : List (List SatLit)
   pub numbers : List ℕ
 
 -- the clauses as a formula of their own
-abbrev pub small_formula : Dense → Formula
-small_formula dense = record { variables = length dense.names; clauses = dense.clauses }
+abbrev pub dense_formula : Dense → Formula
+dense_formula dense = record { variables = length dense.names; clauses = dense.clauses }
 
--- What is kept of clauses over names.
+-- What is kept of clauses over dense variables.
 pub record IsDense (names : List ℕ) (clauses : List Clause3) : Type 0 where
   pub few : All (λ v. v < 2 ^ 63) names
   pub over : All (IsOver (length names)) clauses
@@ -107,7 +108,7 @@ pub record IsDense (names : List ℕ) (clauses : List Clause3) : Type 0 where
 abbrev pub numbers_of : List ℕ → ℕ → ℕ → List ℕ
 numbers_of ids count lemmas = ids ++ map (λ j. count + j) (range_with_len 0 lemmas)
 
--- Clauses over variables of their own are clauses of a formula and of lemmas after it, over that one's variables:
+-- Clauses over dense variables are clauses of a formula and of lemmas after it, over that one's variables:
 -- clause k is the one of the number that is listed for it.
 pub record IsRenaming (small : Formula) (names numbers : List ℕ) (full : Formula) (lemmas : List LogLine) : Type 0 where
   pub names_are : AreNames full.variables names
@@ -118,7 +119,7 @@ pub record IsRenaming (small : Formula) (names numbers : List ℕ) (full : Formu
   pub each : (k : ℕ) → k < length numbers
       → clause_at (full.clauses ++ clauses_of lemmas) (slice_index_or numbers k 0) ≡ map (renamed names) (clause_at small.clauses k)
 
--- Each variable that is named has its bit in values for all variables.
+-- Each variable that occurs has the bit of its dense variable in values for all variables.
 pub record IsSpread (names : List ℕ) (values : List Bool) (variables : ℕ) (full : List Bool) : Type 0 where
   pub size : length full ≡ variables
   pub each : (k : ℕ) → k < length names → bit full (slice_index_or names k 0) ≡ bit values k

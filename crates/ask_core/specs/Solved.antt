@@ -1,4 +1,4 @@
--- What is learned over names, and what it is charged to.
+-- What is learned over dense variables, and what it is charged to.
 use Rattle.std.specs.Prelude.{◌≡◌, ℕ, ◌+◌, ◌<◌, ◌≤◌, [], true, false, List, ◌++◌, length, map, take, All, slice_index_or}
 use Rattle.std.specs.List.{list_any}
 use Rattle.cnf_core.specs.declared.log.LogLine.{LogLine}
@@ -31,7 +31,7 @@ pub record IsSpentOn {O : Type 0} (lines : List LogLine) (before : Charging O) (
   pub told : learned ≡ before.budget
   pub used : before.made + length lines ≡ before.budget + 1
 
--- why a search over names ended without an answer
+-- why a search over dense variables ended without an answer
 abbrev pub IsHalted : {O : Type 0} → Formula → List LogLine → Charging O → Stop → Type 0
 IsHalted {O} formula lines before (Spent learned) = AreLearned formula lines × IsSpentOn lines before learned
 IsHalted {O} formula lines before Memory = Unit {0}
@@ -57,8 +57,8 @@ abbrev pub AreRefused : {O : Type 0} → Charging O → List LogLine → Chargin
 AreRefused {O} old lines new (Spent learned) = AreOverdrawn old lines new learned
 AreRefused {O} old lines new Memory = Unit {0}
 
--- an answer over names and the one over the formula's variables: each variable has the bit of its name, or the log has
--- the lemmas and then the lines
+-- an answer over dense variables and the one over the formula's: each variable has the bit of its dense variable, or the
+-- log has the lemmas and then the lines
 abbrev pub IsTranslated : List ℕ → ℕ → List LogLine → Finding → DenseVerdict → Type 0
 IsTranslated names variables lines (Model values) (Full full) = IsSpread names values variables full
 IsTranslated names variables lines Refuted (Logged whole) = whole.lines ≡ lines
@@ -70,12 +70,12 @@ abbrev pub IsDenseVerdict : Solving → DenseVerdict → Type 0
 IsDenseVerdict solving (Full values) = IsModel solving values
 IsDenseVerdict solving (Logged log) = IsRefuted solving log.lines
 
--- a model has a value for each of n names
+-- a model has a value for each of n dense variables
 abbrev pub HaveNamed : ℕ → Finding → Type 0
 HaveNamed n (Model values) = length values ≡ n
 HaveNamed n Refuted = Unit {0}
 
--- A search over names that ended with an answer: its lines were charged as the formula's.
+-- A search over dense variables that ended with an answer: its lines were charged as the formula's.
 pub record IsSettled {O : Type 0} (small : Formula) (names numbers : List ℕ) (full : Formula) (lemmas : List LogLine)
     (old new : Charging O) (answer : DenseVerdict) : Type 0 where
   pub lines : List LogLine
@@ -85,7 +85,7 @@ pub record IsSettled {O : Type 0} (small : Formula) (names numbers : List ℕ) (
   pub charged : AreCharged old (map (translated names numbers (length full.clauses + length lemmas)) lines) new
   pub verdict : IsTranslated names full.variables (lemmas ++ map (translated names numbers (length full.clauses + length lemmas)) lines) own answer
 
--- A search over names whose lines were charged up to one that was refused.
+-- A search over dense variables whose lines were charged up to one that was refused.
 pub record IsCutOff {O : Type 0} (small : Formula) (names numbers : List ℕ) (full : Formula) (lemmas : List LogLine)
     (old new : Charging O) (learned_lines : ℕ) : Type 0 where
   pub lines : List LogLine

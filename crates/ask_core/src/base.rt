@@ -4,19 +4,20 @@ ghost use Rattle.std.specs.Prelude.{◌≡◌, ◌<◌, ◌^◌, ◌++◌, All, 
 ghost use Rattle.cnf_core.specs.Clauses.{clause_at, AreKnown};
 ghost use Rattle.cnf_core.specs.Derivations.{clauses_of};
 ghost use Rattle.claim_core.specs.Formulas.{formula_of, query_clauses};
-ghost use Rattle.ask_core.specs.Renamings.{AreShort, IsRenaming, numbers_of, renamed, small_formula};
+ghost use Rattle.ask_core.specs.Renamings.{AreShort, IsRenaming, dense_formula, numbers_of, renamed};
 
 use crate::clauses::{all_clauses, over_names};
-use crate::names::names_of;
+use crate::occurring::occurring_variables;
 use cnf_core::{Base, Clause3, LogLine, SatLit};
 use query_core::ConeClauses;
 use std::alloc::{AllocError, Global};
 use std::marker::Model;
 
-/// Clauses of a formula and of lemmas, over the variables that occur in them alone. Variable k of theirs stands for the
-/// formula's of the k-th name, and these ascend.
+/// Clauses of a formula and of lemmas over dense variables: those of the formula's variables that occur in them,
+/// numbered from 0 on in the formula's order.
 #[derive(Drop)]
 pub struct DenseBase {
+    /// The formula's variable that each dense variable stands for, ascending.
     names: Vec<u64>,
     clauses: Vec<Clause3>,
     /// The number that each clause has in the formula and the lemmas after it.
@@ -50,7 +51,7 @@ impl DenseBase {
         requires known { All (AreKnown (formula_of cones.now.graphs cones.now.query).variables)
             (clauses_of lemmas.now) }
         requires short { AreShort (clauses_of lemmas.now) }
-        ensures renaming { IfOk result (λ dense. IsRenaming (small_formula dense) dense.names dense.numbers
+        ensures renaming { IfOk result (λ dense. IsRenaming (dense_formula dense) dense.names dense.numbers
             (formula_of cones.now.graphs cones.now.query) lemmas.now) }
         ensures whole { IfOk result (λ dense.
             map (clause_at (query_clauses cones.now.graphs cones.now.query)) cones.now.ids ++ clauses_of lemmas.now
@@ -58,7 +59,7 @@ impl DenseBase {
     {
         let variables = cones.variables();
         let clauses = all_clauses(alloc, cones, lemmas)?;
-        let names = names_of(alloc, &clauses, variables)?;
+        let names = occurring_variables(alloc, &clauses, variables)?;
         let clauses = over_names(alloc, &clauses, &names, variables)?;
         if clauses.len() as u64 >= 1 << 62 {
             return Err(AllocError);
@@ -71,7 +72,7 @@ impl DenseBase {
         })
     }
 
-    /// The formula's variables, of which each stands for the own one of its place.
+    /// The formula's variable that each dense variable stands for, ascending.
     pub fn names(&self) -> &[u64]
         ensures names { result.now ≡ self.now.names }
         ensures few { All (λ v. v < 2 ^ 63) self.now.names }
@@ -88,7 +89,7 @@ impl DenseBase {
 }
 
 impl Base for DenseBase {
-    ghost use Rattle.ask_core.specs.Renamings.{small_formula as formula_in};
+    ghost use Rattle.ask_core.specs.Renamings.{dense_formula as formula_in};
 
     ghost formula = { formula_in };
 

@@ -16,7 +16,7 @@ const ROUNDS: u32 = 7;
 
 /// How many words of 64 vectors the first round has for each input: one of each kind that `drawn_word` draws. Over all
 /// questions of a multiplier of 8 bits one even word leaves some 470 pairs that aren't equal, four 100, and eight 20.
-const FIRST: usize = 8;
+const FIRST_WORDS: usize = 8;
 
 /// How many words a round may have for all signals: 16 megabytes. So all rounds are drawn for up to 8,192 signals, and
 /// fewer for more.
@@ -71,9 +71,9 @@ fn words_of(round: u32) -> usize
     ensures { 0 < result }
 {
     if round == 0 {
-        return FIRST;
+        return FIRST_WORDS;
     }
-    FIRST << (round - 1)
+    FIRST_WORDS << (round - 1)
 }
 
 impl SignalClasses {

@@ -1,4 +1,4 @@
-//! Clauses, collected and written over names.
+//! Clauses, collected and written over dense variables.
 
 ghost use Rattle.std.specs.Prelude.{◌≡◌, ◌<◌, ◌≤◌, ◌++◌, All, Contains, IfOk, length, map};
 ghost use Rattle.std.specs.List.Sorted.{IsNonDecreasing};
@@ -60,7 +60,7 @@ fn short(clause: &[SatLit]) -> Clause3
     }
 }
 
-/// The clauses with the place of each name in place of the name.
+/// The clauses over dense variables, of which each stands for the formula's variable at its place in `names`.
 pub(crate) fn over_names(
     alloc: Global,
     clauses: &[Clause3],

@@ -1,4 +1,4 @@
-//! Lines over names, in terms of the formula.
+//! Lines over dense variables, in terms of the formula.
 
 ghost use Rattle.std.specs.Prelude.{◌≡◌, ◌+◌, ◌-◌, ◌<◌, ◌^◌, All, IfOk, length, map};
 ghost use Rattle.cnf_core.specs.Clauses.{AreKnown};
@@ -9,7 +9,7 @@ use cnf_core::{LogLine, SatLit};
 use items::Items;
 use std::alloc::{AllocError, Global};
 
-/// A line over names, as one of the formula's, where the numbers of lines over names go on from a number.
+/// A line over dense variables, as one of the formula's, where the numbers of such lines go on from a number.
 ///
 /// # Errors
 ///

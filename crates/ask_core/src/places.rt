@@ -1,4 +1,4 @@
-//! The places of names.
+//! The dense variables of a formula's variables: their places among those that occur, which are called names here.
 
 ghost use Rattle.std.specs.Prelude.{◌≡◌, ◌<◌, ◌^◌, All, Contains, IfOk, length, slice_index_or};
 ghost use Rattle.std.specs.List.Sorted.{IsNonDecreasing};
@@ -10,17 +10,17 @@ use std::alloc::{AllocError, Global};
 /// the two or three literals of a clause. With this many variables for a clause both are reckoned to cost the same.
 const VARIABLES_A_CLAUSE: usize = 32;
 
-/// How the place of a name is found.
+/// How a variable's dense variable is found.
 #[derive(Drop)]
 pub(crate) enum Places {
-    /// By a table: the place of each variable that is a name.
+    /// By a table: the dense variable of each variable that occurs.
     Table(Vec<u64>),
-    /// By bisection of the names.
+    /// By bisection of the variables that occur.
     Bisected,
 }
 
-/// How the places of names are found where this many clauses are written over them: by a table where these are many
-/// beside the variables, and else by bisection.
+/// How dense variables are found where this many clauses are written over them: by a table where the clauses are many
+/// beside the formula's variables, and else by bisection. The names are the variables that occur.
 pub(crate) fn places_for(
     alloc: Global,
     clauses: usize,
@@ -39,7 +39,7 @@ pub(crate) fn places_for(
 }
 
 impl Places {
-    /// The place of a name.
+    /// The dense variable of a variable that occurs.
     pub(crate) fn of(&self, names: &[u64], name: u64) -> usize
         requires named { Contains names.now name }
         requires places { ArePlacesOf names.now self.now }
@@ -53,7 +53,7 @@ impl Places {
     }
 }
 
-// The place that bisection finds.
+// The dense variable that bisection finds.
 fn bisected(names: &[u64], name: u64) -> usize
     requires named { Contains names.now name }
     requires ascending { IsNonDecreasing names.now }
@@ -66,7 +66,7 @@ fn bisected(names: &[u64], name: u64) -> usize
     place
 }
 
-// The place of each name.
+// The dense variable of each variable that occurs.
 fn table_of(alloc: Global, names: &[u64], variables: u64) -> Result<Vec<u64>, AllocError>
     requires names { AreNames variables names.now }
     ensures { IfOk result (λ places. ArePlaces variables names.now places.items) }

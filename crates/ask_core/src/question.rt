@@ -57,7 +57,7 @@ pub fn ask(
     ask_watched(alloc, graphs, query, ledger, &Silent)
 }
 
-/// The same, with a watcher that gets what is learned.
+/// As [`ask`], with a watcher that gets what is learned.
 pub fn ask_watched<W: Watch>(
     alloc: Global,
     graphs: &Graphs<'_>,

@@ -1,14 +1,14 @@
-//! The search over names, in terms of the formula.
+//! The search over dense variables, in terms of the formula.
 
 ghost use Rattle.std.specs.Prelude.{◌≡◌, ◌<◌, ◌^◌, All, IfOk, IfErr, true, false, length};
 ghost use Rattle.cnf_core.specs.Derivations.{AreDerived, clauses_of};
 ghost use Rattle.claim_core.specs.Formulas.{formula_of};
 ghost use Rattle.learn_solver.specs.Solvers.{IsAsking, IsExtended, IsStopped};
-ghost use Rattle.ask_core.specs.Renamings.{AreShort, IsRenaming, small_formula};
+ghost use Rattle.ask_core.specs.Renamings.{AreShort, IsRenaming, dense_formula};
 ghost use Rattle.ask_core.specs.Solved.{IsDenseVerdict, IsOf, IsSettled, IsUnsettled, start_of, with_lines_of};
 
 use crate::base::DenseBase;
-use crate::small::{solve_small, solver_of};
+use crate::dense_search::{solve_over_dense, solver_of};
 use crate::tab::Tab;
 use crate::translation::{charge_translated, verdict_of};
 use crate::verdict::DenseVerdict;
@@ -58,7 +58,7 @@ pub fn solve_dense<L: Charge, W: Watch>(
     search_dense(alloc, cones, &dense, lemmas, &mut tab, ledger)
 }
 
-// The search over the variables that occur. Its clauses are those of the cones, and then the lemmas.
+// The search over dense variables. Its clauses are those of the cones, and then the lemmas.
 fn search_dense<L: Charge, W: Watch>(
     alloc: Global,
     cones: &ConeClauses<'_>,
@@ -67,18 +67,18 @@ fn search_dense<L: Charge, W: Watch>(
     tab: &mut Tab<'_, W>,
     ledger: &mut L,
 ) -> Result<DenseVerdict, Stop>
-    requires renaming { IsRenaming (small_formula dense.now) dense.now.names dense.now.numbers
+    requires renaming { IsRenaming (dense_formula dense.now) dense.now.names dense.now.numbers
         (formula_of cones.now.graphs cones.now.query) lemmas.now }
     requires few { length lemmas.now < 2 ^ 62 }
     requires opened { (L.charging ledger.old).opened ≡ true }
     requires not_spent { (L.charging ledger.old).spent ≡ false }
     requires same { IsOf tab.old (L.charging ledger.old) }
     ensures settled { IfOk result
-        (IsSettled (small_formula dense.now) dense.now.names dense.now.numbers
+        (IsSettled (dense_formula dense.now) dense.now.names dense.now.numbers
         (formula_of cones.now.graphs cones.now.query) lemmas.now
         (L.charging ledger.old) (L.charging ledger.new)) }
     ensures unsettled { IfErr result
-        (IsUnsettled (small_formula dense.now) dense.now.names dense.now.numbers
+        (IsUnsettled (dense_formula dense.now) dense.now.names dense.now.numbers
         (formula_of cones.now.graphs cones.now.query) lemmas.now
         (L.charging ledger.old) (L.charging ledger.new)) }
 {
@@ -86,7 +86,7 @@ fn search_dense<L: Charge, W: Watch>(
     let _count = dense.count();
     let next = cones.count() + lemmas.len() as u64;
     let mut solver = solver_of(alloc, dense)?;
-    match solve_small(alloc, dense, cones.ids().len(), &mut solver, tab) {
+    match solve_over_dense(alloc, dense, cones.ids().len(), &mut solver, tab) {
         Ok(own) => {
             let found = solver.into_log();
             let lines = charge_translated(alloc, dense, next, &found.lines, ledger)?;

@@ -1,4 +1,4 @@
-//! What learned lines are charged to while a question is searched over names.
+//! What learned lines are charged to while a question is searched over dense variables.
 
 ghost use Rattle.std.specs.Prelude.{◌≡◌, ◌≤◌, [], false, true, OnOk, OnErr, IfErr, ◌++◌, ◌∷◌};
 

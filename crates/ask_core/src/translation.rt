@@ -1,4 +1,4 @@
-//! What was found over names, translated into terms of the formula.
+//! What was found over dense variables, translated into terms of the formula.
 
 ghost use Rattle.std.specs.Prelude.{◌≡◌, ◌+◌, ◌<◌, ◌^◌, ◌++◌, All, IfOk, IfErr, OnOk, true, false, length, map};
 ghost use Rattle.cnf_core.specs.Derivations.{clauses_of};
@@ -16,7 +16,7 @@ use items::Items;
 use learn_solver::Finding;
 use std::alloc::{AllocError, Global};
 
-/// Charges lines over names as lines of the formula, and answers these.
+/// Charges lines over dense variables as lines of the formula, and answers these.
 pub(crate) fn charge_translated<L: Charge>(
     alloc: Global,
     dense: &DenseBase,
@@ -40,7 +40,7 @@ pub(crate) fn charge_translated<L: Charge>(
     Ok(copies)
 }
 
-// Lines over names as lines of the formula.
+// Lines over dense variables as lines of the formula.
 fn translated_all(
     alloc: Global,
     dense: &DenseBase,
@@ -58,7 +58,7 @@ fn translated_all(
     Ok(copies)
 }
 
-/// An answer over names, over n variables of the formula. A log has the lemmas and then the lines.
+/// An answer over dense variables, over n variables of the formula. A log has the lemmas and then the lines.
 pub(crate) fn verdict_of(
     alloc: Global,
     dense: &DenseBase,
@@ -83,7 +83,7 @@ pub(crate) fn verdict_of(
     }
 }
 
-// The variables that are true: those whose names are.
+// The formula's variables that are true: those whose dense variables are.
 fn spread(
     alloc: Global,
     names: &[u64],

@@ -3,7 +3,7 @@
 use bit_list::Marks;
 use cnf_core::Log;
 
-/// How a search over the variables of some clauses ends, in terms of the formula.
+/// How a search over dense variables ends, in terms of the formula.
 #[derive(Drop)]
 pub enum DenseVerdict {
     /// The variables that are true: together with the others, which are false, they meet the clauses.

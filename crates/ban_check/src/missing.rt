@@ -10,7 +10,7 @@ use circuits::Pair;
 pub(crate) enum Missing {
     /// All are.
     None,
-    /// This one alone isn't.
+    /// This pair alone isn't.
     One(Pair),
     /// Several that differ aren't.
     Several,

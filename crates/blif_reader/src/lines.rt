@@ -45,7 +45,7 @@ impl<'a> JoinedLines<'a> {
         self.read_word()
     }
 
-    // The same, with what is left of the file: where there is no word the line is at its end, and no byte comes back.
+    // The next word, with what is left of the file: where there is none the line is at its end, and no byte comes back.
     fn read_word(&mut self) -> Option<Span<'a>>
         ensures word { TakesWord result
             (words_left self.old)

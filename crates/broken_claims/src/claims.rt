@@ -6,7 +6,7 @@ use net_core::Side;
 use port_cells::port_at;
 use std::alloc::{AllocError, Global};
 
-/// No number was noted.
+/// No number was noted. A list of `Option` would take twice the memory, and it has a place for each claim of one input.
 const NOT_NOTED: u32 = u32::MAX;
 
 /// The claims about two circuits that vectors were seen to break: those of one input, and once they are looked for

@@ -10,9 +10,9 @@ const WORD: u32 = 64;
 /// falls as the input goes up, and where all have an odd one it never falls as the input goes down.
 #[derive(Clone, Copy, Debug, Drop)]
 pub(crate) struct Paths {
-    /// Whether there is one with an even number of negations.
+    /// Whether there is a path with an even number of negations.
     pub(crate) even: bool,
-    /// Whether there is one with an odd number.
+    /// Whether there is a path with an odd number of them.
     pub(crate) odd: bool,
 }
 
@@ -42,7 +42,7 @@ impl PathWords {
         }
     }
 
-    // Those of one of the inputs.
+    // The paths of one of the inputs.
     fn of(self, place: u32) -> Paths {
         Paths {
             even: (self.even >> (place % WORD)) % 2 == 1,
@@ -103,7 +103,7 @@ fn words_of(alloc: Global, graph: &Graph, first: u32) -> Result<Vec<PathWords>, 
     Ok(words)
 }
 
-// By which paths the 64 inputs from one on reach the constant and each input, with room for all signals.
+// The words of the constant and of the inputs, for the 64 inputs from `first` on, with capacity for all signals.
 fn words_of_inputs(alloc: Global, graph: &Graph, first: u32) -> Result<Vec<PathWords>, AllocError> {
     let mut words = Vec::with_capacity(alloc, graph.signals())?;
     words.push(PathWords::none())?;

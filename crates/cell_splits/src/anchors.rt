@@ -342,7 +342,7 @@ struct ProfileClass {
     size: usize,
     /// Where they begin in the first circuit's places.
     first: usize,
-    /// In the second's.
+    /// Where they begin in the second circuit's.
     second: usize,
 }
 

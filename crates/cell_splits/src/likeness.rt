@@ -195,11 +195,11 @@ pub struct Likeness {
     shared: Vec<u64>,
     /// What those of an input of the first circuit weigh that some input of the second has.
     first: Vec<u64>,
-    /// Of the second circuit.
+    /// What those of an input of the second circuit weigh that some input of the first has.
     second: Vec<u64>,
     /// The place of each input of the first circuit in the order in which they are met from the outputs on.
     first_places: Vec<usize>,
-    /// Of the second circuit.
+    /// The place of each input of the second circuit in that order.
     second_places: Vec<usize>,
     /// How many responses of gates to inputs were compared, with a sixteenth of the pairs of inputs, which take about
     /// as long.

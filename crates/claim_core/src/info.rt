@@ -5,11 +5,11 @@ use items::Items;
 /// How an output depends on an input.
 #[derive(Clone, Copy, Debug, Drop, PartialEq, Eq)]
 pub enum Unate {
-    /// It never falls where the input rises.
+    /// The output never falls where the input rises.
     Positive,
-    /// It never rises where the input rises.
+    /// The output never rises where the input rises.
     Negative,
-    /// It does both.
+    /// The output falls and rises: it is binate in the input.
     Binate,
 }
 

@@ -26,7 +26,7 @@ pub(crate) struct Column<'a> {
 }
 
 impl<'a> Column<'a> {
-    /// What it says beside assigned pairs of other inputs.
+    /// What a pair of outputs says of an input's ways beside assigned pairs of other inputs.
     pub(crate) fn new(
         alloc: Global,
         tabled: TabledPair<'a>,

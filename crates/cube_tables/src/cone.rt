@@ -14,16 +14,16 @@ pub(crate) const UNKNOWN: u8 = 2;
 /// The bit of a cube on which an output has 0 on some vector.
 pub(crate) const HAS_ZERO: u8 = 1;
 
-/// The bit of a cube on which it has 1 on some vector.
+/// The bit of a cube on which an output has 1 on some vector.
 pub(crate) const HAS_ONE: u8 = 2;
 
 /// The bit of a place where an output falls on some vector as the input rises, as `BrokenClaims::broken` has it.
 const FALLS: u8 = 1;
 
-/// The bit of a place where it rises.
+/// The bit of a place where an output rises on some vector as the input rises.
 const RISES: u8 = 2;
 
-/// Both: the output is binate in the input.
+/// Both bits of a place: the output is binate in the input.
 const BINATE: u8 = FALLS | RISES;
 
 /// An output that reaches few inputs through gates.
@@ -31,9 +31,9 @@ const BINATE: u8 = FALLS | RISES;
 pub(crate) struct Cone {
     /// The inputs that it reaches, ascending. An input's place is that in this list.
     pub(crate) inputs: Items<u32>,
-    /// What it has on each cube by its gates, evaluated by three values: 0, 1, or `UNKNOWN`.
+    /// What the output has on each cube by its gates, evaluated by three values: 0, 1, or `UNKNOWN`.
     pub(crate) values: Items<u8>,
-    /// What it has on vectors of each cube: `HAS_ZERO`, `HAS_ONE`, or both bits.
+    /// What the output has on vectors of each cube: `HAS_ZERO`, `HAS_ONE`, or both bits.
     pub(crate) bits: Items<u8>,
     /// Of each place which claims of one input fail: `FALLS`, `RISES`, or both bits.
     pub(crate) broken: Items<u8>,
@@ -43,7 +43,7 @@ pub(crate) struct Cone {
 }
 
 impl Cone {
-    /// That of an output that reaches these inputs.
+    /// The cone of an output that reaches these inputs.
     pub(crate) fn new(
         alloc: Global,
         graph: &Graph,

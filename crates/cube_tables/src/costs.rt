@@ -29,7 +29,7 @@ pub(crate) struct Shares {
 }
 
 impl Shares {
-    /// Those of a cone.
+    /// The shares of a cone's cubes.
     pub(crate) fn new(alloc: Global, halves: &Halves, cone: &Cone) -> Result<Shares, AllocError> {
         let counts = CubeCounts::new(alloc, cone)?;
         let mut exponents = Vec::with_capacity(alloc, counts.without.len())?;
@@ -54,7 +54,7 @@ impl Shares {
 #[derive(Drop)]
 struct CubeCounts {
     all: Vec<u64>,
-    /// Those on which it has no 0, and those on which it has no 1: two counts for each number of places.
+    /// How many have no 0 of the output, and how many no 1: two counts for each number of places.
     without: Vec<u64>,
 }
 
@@ -122,7 +122,7 @@ pub(crate) struct Costs {
 }
 
 impl Costs {
-    /// Those of a pair of outputs.
+    /// The costs of a pair of outputs.
     pub(crate) fn new(
         alloc: Global,
         halves: &Halves,

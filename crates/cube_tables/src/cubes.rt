@@ -17,7 +17,7 @@ pub(crate) const FREE: usize = 2;
 /// How many cubes are in a word, one a bit.
 pub(crate) const WORD: usize = 64;
 
-/// How many words are evaluated at once, as word_sim does.
+/// How many words are evaluated at once: as many as the lanes of `word_sim`.
 pub(crate) const BLOCK: usize = 8;
 
 /// How many digits there are.
@@ -53,7 +53,7 @@ pub(crate) struct Digits {
 }
 
 impl Digits {
-    /// Those of a cube.
+    /// The digits of a cube, from the first place on.
     pub(crate) fn of(cube: usize) -> Digits {
         Digits { rest: cube }
     }
@@ -106,14 +106,14 @@ pub(crate) struct CubeColumn {
 }
 
 impl CubeColumn {
-    /// That of the first cubes.
+    /// The column of a place, of so many cubes from the first on.
     pub(crate) fn new(alloc: Global, place: usize, cubes: usize) -> Result<CubeColumn, AllocError> {
         let zeros = digit_words(alloc, place, cubes, 0)?;
         let ones = digit_words(alloc, place, cubes, 1)?;
         Ok(CubeColumn { zeros, ones })
     }
 
-    /// That of the 512 cubes of eight words, X where the place is free.
+    /// What the place has on the 512 cubes of eight words, X where it is free.
     pub(crate) fn rails(&self, word: usize) -> Rails {
         Rails {
             ones: block_at(&self.ones, word),

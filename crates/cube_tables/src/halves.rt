@@ -9,11 +9,11 @@ const PARTS: u32 = 256;
 pub(crate) const ONE: u64 = 1 << 32;
 
 /// The 256th root of a half, times `ONE`.
-const ROOT: u64 = 4_283_353_945;
+const ROOT_OF_HALF: u64 = 4_283_353_945;
 
 /// The exponent of a share of 0. Any other share is greater than the 16th power of a half: there are 59,049 cubes at
 /// most.
-const MOST: u32 = 20;
+const MOST_EXPONENT: u32 = 20;
 
 /// The greatest value that is scaled, so that its product with `ONE` fits 64 bits.
 pub(crate) const MOST_VALUE: u64 = 1 << 31;
@@ -30,7 +30,7 @@ impl Halves {
         let mut power = ONE;
         for _ in 0..PARTS {
             powers.push(power)?;
-            power = (power.min(ONE) * ROOT) >> 32;
+            power = (power.min(ONE) * ROOT_OF_HALF) >> 32;
         }
         Ok(Halves { powers })
     }
@@ -38,7 +38,7 @@ impl Halves {
     /// Which power of a half a share is, about.
     pub(crate) fn exponent(&self, share: u64) -> u32 {
         let mut share = share;
-        for whole in 0..MOST {
+        for whole in 0..MOST_EXPONENT {
             if share > ONE / 2 {
                 return whole
                     .saturating_mul(PARTS)
@@ -46,7 +46,7 @@ impl Halves {
             }
             share = share.saturating_mul(2);
         }
-        MOST.saturating_mul(PARTS)
+        MOST_EXPONENT.saturating_mul(PARTS)
     }
 
     // By how many parts the exponent of a share between a half and one is above 0.

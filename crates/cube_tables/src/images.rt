@@ -19,7 +19,7 @@ pub(crate) struct Images {
 }
 
 impl Images {
-    /// Those by the pairs of inputs that are assigned.
+    /// The images by the pairs of inputs that are assigned.
     pub(crate) fn new(
         alloc: Global,
         tabled: &TabledPair<'_>,

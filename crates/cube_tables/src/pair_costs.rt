@@ -19,11 +19,11 @@ const NEVER: u64 = 1 << 40;
 /// What excluding a pair of outputs costs.
 #[derive(Drop)]
 enum PairCost {
-    /// One of the two has no table.
+    /// One of the two outputs has no table.
     Unknown,
-    /// Their counts differ: one ban excludes it.
+    /// The counts of the two outputs differ: one ban excludes the pair.
     OneBan,
-    /// The inputs that they reach are paired first, one after the other.
+    /// The inputs that the two outputs reach are paired first, one after the other.
     ByInputs(Costs),
 }
 
@@ -54,7 +54,7 @@ pub(crate) struct PairCosts {
 }
 
 impl PairCosts {
-    /// Those of two circuits with so many outputs.
+    /// What excluding each pair costs of two circuits with so many outputs.
     pub(crate) fn new(
         alloc: Global,
         tables: &Tables,
@@ -194,7 +194,7 @@ pub(crate) fn output_port(side: Side, number: u32) -> Port {
     }
 }
 
-/// How many ways a port has to so many ports.
+/// How many ways there are to pair a port with one of `ports`: plain or inverted.
 pub(crate) fn ways_to(ports: u32) -> u64
     ensures { result ≡ 2 * ports }
 {

@@ -36,7 +36,7 @@ pub(crate) struct TabledPair<'a> {
 }
 
 impl Tables {
-    /// Those of two circuits.
+    /// The tables of two circuits.
     pub(crate) fn new(alloc: Global, graphs: &PairableGraphs<'_>) -> Result<Tables, AllocError> {
         let mut columns = Vec::with_capacity(alloc, MOST_INPUTS)?;
         for place in 0..MOST_INPUTS {

@@ -7,7 +7,7 @@ use std::alloc::Global;
 use text_core::line_length;
 
 /// The most bytes of a line that are kept: more than are shown.
-const MOST: usize = 640;
+const MOST_KEPT: usize = 640;
 
 /// Looks for a line of a text by its number. An account in bytes has no lines to show.
 #[derive(Drop)]
@@ -47,7 +47,7 @@ impl LineSearch {
             self.before -= u64::from(whole);
             return Ok(Need::More);
         }
-        let room = MOST.saturating_sub(self.line.len());
+        let room = MOST_KEPT.saturating_sub(self.line.len());
         self.line.extend_from_slice(&part[..room.min(part.len())])?;
         Ok(if whole { Need::Nothing } else { Need::More })
     }

@@ -19,7 +19,7 @@ pub enum FolderFault {
     ClosedFile,
 }
 
-/// That a file can't be written.
+/// A warning that a file can't be written.
 #[derive(Clone, Copy, Debug)]
 pub struct Warning<'a> {
     pub name: &'a str,

@@ -7,9 +7,9 @@ use std::fmt;
 /// Where a byte of a text stands.
 #[derive(Clone, Copy, Debug, PartialEq, Eq)]
 pub(crate) struct TextPlace {
-    /// Its line, from 1.
+    /// The byte's line, from 1.
     line: usize,
-    /// Its column in that line, in bytes, from 1.
+    /// The byte's column in that line, in bytes, from 1.
     column: usize,
 }
 

@@ -50,19 +50,19 @@ const MATCH: &[Slot] = &[
     Slot::Seed,
 ];
 
-/// Those after `check`.
+/// The words after `check`.
 const CHECK: &[Slot] = &[Slot::First, Slot::Second, Slot::Account];
 
-/// Those after `restore`: of a check, and the file that is written.
+/// The words after `restore`: those of a check, and the file that is written.
 const RESTORE: &[Slot] = &[Slot::First, Slot::Second, Slot::Account, Slot::New];
 
-/// Those after `info`, of which BUDGET may be left out.
+/// The words after `info`, of which BUDGET may be left out.
 const INFO: &[Slot] = &[Slot::File, Slot::Budget];
 
-/// Those after `make`: the pair's number, and the files that are written.
+/// The words after `make`: the pair's number, and the files that are written.
 const MAKE: &[Slot] = &[Slot::Number, Slot::First, Slot::Second];
 
-/// Those after `trial`.
+/// The words after `trial`.
 const TRIAL: &[Slot] = &[Slot::Number];
 
 /// The form of the words after a command's name, where there is such a command.

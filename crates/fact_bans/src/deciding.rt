@@ -70,7 +70,8 @@ fn is_of(facts: &[Fact], number: u64, claim: Claim) -> bool
     }
 }
 
-/// Has a claim decided, and adds the number of its fact where that says what is wanted. Answers whether it does.
+/// Has a claim decided, and adds the number of its fact where the claim holds or fails as `holds` says. Answers whether
+/// it does.
 pub(crate) fn add_fact<O: Oracle>(
     asker: &mut Asker<'_, O>,
     claim: Claim,

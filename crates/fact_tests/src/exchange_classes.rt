@@ -160,7 +160,7 @@ fn put(
     Ok(place)
 }
 
-/// The same for the classes alone.
+/// Puts the next input into the classes alone, not among the places.
 fn put_class(
     entry: (u32, Unate),
     found: Option<FoundClass>,

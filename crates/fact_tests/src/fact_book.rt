@@ -59,7 +59,7 @@ impl<'a> FactBook<'a> {
 }
 
 impl<'a, W: Watch> FactBook<'a, W> {
-    /// The same, with a watcher that gets what the run is at.
+    /// As [`FactBook::new`], with a watcher that gets what the run is at.
     ///
     /// # Errors
     ///

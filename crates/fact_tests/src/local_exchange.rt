@@ -54,9 +54,9 @@ pub(crate) struct Near {
 /// How it went to go over a gate.
 #[derive(Clone, Copy, Drop)]
 pub(crate) enum Went {
-    /// Its signal doesn't differ.
+    /// The gate's signal doesn't differ.
     Same,
-    /// Its signal may differ, and is listed.
+    /// The gate's signal may differ, and is listed.
     Differs,
     /// There are too many leaves, or signals that may differ.
     TooFar,

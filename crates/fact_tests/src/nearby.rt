@@ -16,7 +16,7 @@ use std::marker::Model;
 
 /// How many signatures are kept. Each takes what those of a group take, 8 MiB at most (`Sightings`). A near miss of an
 /// adder of 64 bits (`adder64`, output) takes 2.3 s where two are kept, 2.1 with four and 1.6 with eight.
-const MOST: usize = 8;
+const MOST_KEPT: usize = 8;
 
 /// A question takes about as long as that many passes over the gates: some 70 about an adder of 64 bits, and three
 /// where its cone is small. With 4 that adder asks more and takes 4.5 s in place of 2.6, with 256 many small blocks
@@ -31,7 +31,7 @@ const PASSES_A_QUESTION: u32 = 64;
 pub(crate) struct Nearby<'a> {
     graph: &'a Graph,
     seed: u64,
-    /// Those that were made last.
+    /// The signatures that were made last.
     kept: Items<Signatures<'a>>,
     /// How many were made.
     made: u64,
@@ -118,11 +118,11 @@ fn keep<'a>(
 ) -> Result<(), AllocError>
     ensures { (net : Net) → IsOf net signatures.entry → All (IsOf net) kept.old → All (IsOf net) kept.new }
 {
-    if kept.len() < MOST {
+    if kept.len() < MOST_KEPT {
         kept.push(signatures)?;
         return Ok(());
     }
-    kept.set((made % MOST as u64) as usize, signatures);
+    kept.set((made % MOST_KEPT as u64) as usize, signatures);
     Ok(())
 }
 

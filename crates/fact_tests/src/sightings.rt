@@ -13,7 +13,7 @@ use std::marker::Model;
 
 /// How many blocks of 64 bytes are kept of a circuit: an output has one for each input, and one more. They take 8 MiB,
 /// which is enough for all outputs of a circuit with 361 inputs and as many outputs.
-const MOST: u32 = 131_072;
+const MOST_BLOCKS: u32 = 131_072;
 
 /// What is seen of the outputs of a circuit, a group of them at a time: as many as their signatures are kept of. They
 /// are made when one of the group is asked about, once: 512 vectors, since a claim that they all keep is nearly always
@@ -22,7 +22,7 @@ const MOST: u32 = 131_072;
 pub(crate) struct Sightings<'a> {
     graph: &'a Graph,
     seed: u64,
-    /// Those of the group that was asked about last.
+    /// The signatures of the group that was asked about last.
     last_group: Option<Signatures<'a>>,
 }
 
@@ -97,7 +97,7 @@ pub(crate) fn group_with(graph: &Graph, output: u32) -> (u32, u32)
     ensures within { result.0 + result.1 ≤ length graph.now.outputs }
 {
     let outputs = graph.outputs().len() as u32;
-    let size = (MOST / (graph.inputs() + 1)).max(1);
+    let size = (MOST_BLOCKS / (graph.inputs() + 1)).max(1);
     let first = output - output % size;
     (first, size.min(outputs - first))
 }

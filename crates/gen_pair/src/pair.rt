@@ -33,7 +33,7 @@ const FIRST_LETTERS: Letters = Letters {
     output: b'f',
 };
 
-// Those of the second netlist, others, so that no port of the one has the name of a port of the other.
+// The letters of the second netlist's ports: others, so that no port of the one has the name of a port of the other.
 const SECOND_LETTERS: Letters = Letters {
     input: b'p',
     output: b'q',

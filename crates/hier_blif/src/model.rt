@@ -46,8 +46,8 @@ pub enum ModelLine<'a> {
 pub struct BlifModel<'a> {
     /// Where its `.model` line stands, and 0 where it has none.
     pub at: u64,
-    /// Its name, which is empty where it has no `.model` line.
+    /// The model's name, which is empty where it has no `.model` line.
     pub name: Span<'a>,
-    /// Its lines that say something of its function, in the order of the text.
+    /// The lines that say something of the model's function, in the order of the text.
     pub lines: Items<ModelLine<'a>>,
 }

@@ -47,11 +47,11 @@ pub(crate) fn order_models(alloc: Global, scope: &Scope<'_, '_>) -> Result<Vec<u
 /// How far the search has come at a model.
 #[derive(Clone, Copy, Drop)]
 enum Visit {
-    /// It was not met yet.
+    /// The model was not met yet.
     New,
-    /// It is on the stack: the models of its instances are searched.
+    /// The model is on the stack: the models of its instances are searched.
     Open,
-    /// It is in the order.
+    /// The model is in the order.
     Listed,
 }
 

@@ -17,7 +17,7 @@ const MOST_PARTS: u64 = 8_000_000;
 /// What one instance of a model makes. Of each kind no more than the limit and one are counted.
 #[derive(Clone, Copy, Drop)]
 pub(crate) struct Size {
-    /// The instances, itself as one.
+    /// The instances, the model's own as one.
     pub(crate) instances: u64,
     /// The covers of all these instances.
     pub(crate) covers: u64,
@@ -31,7 +31,7 @@ impl Size {
         self.instances.saturating_add(self.covers) > MOST_PARTS
     }
 
-    /// Both together.
+    /// The two sizes together.
     fn with(self, more: Size) -> Size
         ensures instances { result.instances ≡ capped (self.instances + more.instances) }
         ensures covers { result.covers ≡ capped (self.covers + more.covers) }

@@ -12,7 +12,7 @@ use std::marker::Model;
 use std::mem;
 
 /// So many literals are gone over one by one. The hints of a lemma make fewer true.
-const FEW: usize = 16;
+const MOST_SCANNED: usize = 16;
 
 /// A partial assignment that grows. Contracts see it as the literals that were made true, in order.
 pub(crate) struct Made {
@@ -108,7 +108,7 @@ fn with_number(
     requires { AreTold literals.now numbers }
     ensures { IfOk result (AreTold (literals.now ++ literal ∷ [])) }
 {
-    if literals.len() < FEW {
+    if literals.len() < MOST_SCANNED {
         return Ok(Numbers::Few);
     }
     let mut all = numbers_of(alloc, numbers, literals)?;

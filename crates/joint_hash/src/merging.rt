@@ -37,7 +37,7 @@ pub fn merge(alloc: Global, cones: &ConeClauses<'_>) -> Result<Vec<LogLine>, All
     merge_ids(alloc, cones, cones.ids())
 }
 
-// The same, by the numbers of the cones' clauses.
+// The lemmas of `merge`, by the numbers of the cones' clauses.
 fn merge_ids(
     alloc: Global,
     cones: &ConeClauses<'_>,

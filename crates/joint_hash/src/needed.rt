@@ -40,7 +40,7 @@ pub fn refute(alloc: Global, cones: &ConeClauses<'_>) -> Result<Option<Refutatio
     refute_by(cones, &mut needed)
 }
 
-// The same, where nothing is needed yet.
+// The refutation, where nothing is needed yet.
 fn refute_by(cones: &ConeClauses<'_>, needed: &mut Needed) -> Result<Option<Refutation>, AllocError>
     ensures { IfOk result (λ found. IfSome found (λ refutation.
         AreClosedBy (formula_of cones.now.graphs cones.now.query) refutation.lemmas.items refutation.last)) }
@@ -86,11 +86,11 @@ struct Visit {
 struct Needed {
     alloc: Global,
     classes: Classes,
-    /// Those that become lemmas, each with its place among them once it is there.
+    /// The links that become lemmas, each with its place among the lemmas once it is there.
     places: IndexMap<Link, Option<u32>>,
-    /// Those that are left to be gone over, the next one last.
+    /// The links that are left to be gone over, the next one last.
     left: Vec<Visit>,
-    /// Those that propagation goes through, from the outputs down: no lemma is made of them.
+    /// The links that propagation goes through, from the outputs down: no lemma is made of them.
     path: Vec<Link>,
 }
 

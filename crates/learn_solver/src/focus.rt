@@ -97,7 +97,7 @@ impl Focus {
         }
     }
 
-    // The same of a part.
+    // The next literal to decide for a part.
     fn next_of_part(&self, number: usize, trail: &Trail, variables: usize) -> Option<SatLit>
         requires { variables ≡ trail.now.variables }
         ensures { IfSome result (IsFree trail.now) }
@@ -122,7 +122,7 @@ impl Focus {
         }
     }
 
-    // The same of a part, and so it is where there is none of this number.
+    // Whether a literal of a part that is to be true is false, or there is no part of this number.
     fn is_part_closed(&self, number: usize, trail: &Trail) -> bool {
         match self.parts.get(number) {
             Some(part) => part

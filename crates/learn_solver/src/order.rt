@@ -16,21 +16,21 @@ use trail_core::Trail;
 const GROWTH: u64 = 16;
 
 /// What the first conflict counts: many times `GROWTH`, so that little is lost where a weight is divided by that.
-const LEAST: u64 = 1 << 16;
+const FIRST_WEIGHT: u64 = 1 << 16;
 
 /// What a conflict counts at most, so that sums of such weights stay within a word.
-const MOST: u64 = 1 << 56;
+const MOST_WEIGHT: u64 = 1 << 56;
 
 /// By which power of two all is divided that was counted, once a conflict would count more: it counts 2^24 then, and
 /// all is divided again some 370 conflicts later.
-const BITS: u32 = 32;
+const SCALING_BITS: u32 = 32;
 
 /// The order in which variables are decided: first those that conflicts named most, of which later ones count more
 /// (variable state independent decaying sum: Moskewicz and others, Chaff, 2001; with a heap: Eén and Sörensson,
 /// MiniSat, 2003). Each gets the value that it had last (Pipatsrisawat and Darwiche, SAT 2007), at first 0. It says
 /// what is tried first; no answer depends on it.
 pub(crate) struct Order {
-    /// Those that are to be decided, by what was counted for them. Of those that are assigned any may be among them.
+    /// The variables that are to be decided, by what was counted for them. Assigned ones may be among them.
     pub(crate) heap: Heap,
     /// The value that each variable had last.
     pub(crate) phases: Vec<bool>,
@@ -67,7 +67,7 @@ impl Order {
         let mut order = Order {
             heap: Heap::new(alloc, variables)?,
             phases: no_marks(alloc, variables)?,
-            weight: LEAST,
+            weight: FIRST_WEIGHT,
             named: vec![in alloc; 0; variables]?,
             conflicts: 0,
         };
@@ -75,8 +75,8 @@ impl Order {
         Ok(order)
     }
 
-    /// Those of the variables that a focus has are to be decided, and no others. Of two for which nothing was counted
-    /// the one with the greater number comes first: where they are those of gates in order, the one next to the
+    /// The variables that a focus has are to be decided, and no others. Of two for which nothing was counted the one
+    /// with the greater number comes first: where they are those of gates in order, the one next to the
     /// outputs, by which adders take a tenth to a fifth fewer lines than by the inputs.
     pub(crate) fn refill(&mut self, variables: &[u64], focus: &Focus)
         requires { IsOrder (length self.old.heap) self.old }
@@ -160,9 +160,9 @@ impl Order {
     {
         self.conflicts = self.conflicts.saturating_add(1);
         self.weight = self.weight.saturating_add(self.weight / GROWTH);
-        if self.weight > MOST {
-            self.heap.divide_keys(BITS);
-            self.weight >>= BITS;
+        if self.weight > MOST_WEIGHT {
+            self.heap.divide_keys(SCALING_BITS);
+            self.weight >>= SCALING_BITS;
         }
     }
 }

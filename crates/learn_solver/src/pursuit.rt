@@ -13,11 +13,11 @@ use std::alloc::Global;
 
 /// How many lines the question itself gets before its candidates. Those of adders of 64 bits need no more, and would
 /// take half as many again with candidates.
-const FIRST: u64 = 100;
+const LINES_BEFORE: u64 = 100;
 
 /// How many lines a candidate gets. With 200 a resynthesized checksum of 32 bits takes 264,000 lines over all its
 /// questions, with 500 it takes 187,000, and with 1,000 no fewer.
-const MOST: u64 = 500;
+const LINES_A_CANDIDATE: u64 = 500;
 
 impl<'a, B: Base> Solver<'a, B> {
     /// Searches for a while, then looks at each candidate. None: the question itself is left, from level 0 on.
@@ -33,7 +33,7 @@ impl<'a, B: Base> Solver<'a, B> {
             (HasGone self.old self.new (L.charging ledger.old) (L.charging ledger.new) search.new) }
         ensures stop { IfErr result (IsStopped self.old self.new (L.charging ledger.old) (L.charging ledger.new)) }
     {
-        if let Some(soon) = self.pursue(alloc, search, FIRST, ledger)? {
+        if let Some(soon) = self.pursue(alloc, search, LINES_BEFORE, ledger)? {
             return Ok(Some(soon));
         }
         let Agenda {
@@ -66,7 +66,7 @@ impl<'a, B: Base> Solver<'a, B> {
     {
         for candidate in candidates.iter() {
             search.narrow(*candidate);
-            if let Some(found) = self.pursue(alloc, search, MOST, ledger)? {
+            if let Some(found) = self.pursue(alloc, search, LINES_A_CANDIDATE, ledger)? {
                 return Ok(Some(found));
             }
             guide.done_with(*candidate, self.count())?;

@@ -5,10 +5,10 @@ use watch_core::ReluctantDoubling;
 /// How many lines are learned at least from one restart to the next. With 50 the parity of 64 bits took a third fewer
 /// lines than without restarts, the majority of 15 a quarter fewer, and adders of 64 bits up to a twelfth more
 /// (bench/solve.sh).
-const UNIT: u64 = 50;
+const SHORTEST_RUN: u64 = 50;
 
-/// When a search goes back to level 0, with what it learned: after `UNIT` lines times the numbers of reluctant doubling.
-/// It says when, and no answer depends on it.
+/// When a search goes back to level 0, with what it learned: after `SHORTEST_RUN` lines times the numbers of reluctant
+/// doubling. It says when, and no answer depends on it.
 #[derive(Drop)]
 pub(crate) struct Restarts {
     factors: ReluctantDoubling,
@@ -19,7 +19,7 @@ pub(crate) struct Restarts {
 impl Restarts {
     pub(crate) fn new() -> Restarts {
         let mut factors = ReluctantDoubling::new();
-        let left = factors.next().saturating_mul(UNIT);
+        let left = factors.next().saturating_mul(SHORTEST_RUN);
         Restarts { factors, left }
     }
 
@@ -29,7 +29,7 @@ impl Restarts {
         if self.left > 0 {
             return false;
         }
-        self.left = self.factors.next().saturating_mul(UNIT);
+        self.left = self.factors.next().saturating_mul(SHORTEST_RUN);
         true
     }
 }

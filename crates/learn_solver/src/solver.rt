@@ -317,7 +317,7 @@ pub fn solve<B: Base, L: Charge>(
     Ok(verdict)
 }
 
-/// The same, where parts of the question are searched first (explicit learning: Lu, Wang, Cheng, Moon and Hanna, DATE
+/// A search, where parts of the question are searched first (explicit learning: Lu, Wang, Cheng, Moon and Hanna, DATE
 /// 2003): for each candidate in order, whether its two literals can be true together. What is learned from that serves
 /// all that comes after. No answer depends on the candidates. A refutation is the solver's lines (`Solver::into_log`).
 pub fn solve_guided<B: Base, G: QuestionGuide, L: Charge>(

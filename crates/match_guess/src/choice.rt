@@ -156,8 +156,8 @@ fn point_of(
 
 // Whether a round that goes by likeness looks for the likest literal in the best cell alone, the largest once no sign
 // is open. The likest of all may be in a small cell that splits nothing else: the AND and the exclusive or of the
-// points on each line of a plane of 57 aren't guessed by it. With the largest cell in all such rounds a SEC-DED code
-// isn't in line, so it is two of the four, the second and the last.
+// points on each line of a plane of 57 aren't guessed by it. With the largest cell in all such rounds few gates of a
+// SEC-DED code get partners of equal functions, so it is two of the four, the second and the last.
 fn goes_by_cell(round: u32) -> bool {
     round % 4 == 2
 }

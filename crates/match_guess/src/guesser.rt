@@ -40,8 +40,8 @@ const ANCHOR_FAILURES: u32 = 3;
 const MOST_STATES: u32 = 100_000;
 
 /// How many responses of gates to inputs may be compared so that inputs are paired by likeness. With an eighth of them
-/// matchings of the count of 128 inputs, and of the parity of 128 beside an AND, were found whose gates aren't in line,
-/// which isn't proved in ten seconds.
+/// matchings of the count of 128 inputs, and of the parity of 128 beside an AND, were found by which few gates have
+/// partners of equal functions, which isn't proved in ten seconds.
 const MOST_RESPONSES: u64 = 1 << 24;
 
 /// Up to how many words of gates are computed for it at once. Together with the next number that bounds the memory to

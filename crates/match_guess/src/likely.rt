@@ -22,11 +22,11 @@ const ONE_OF: usize = 2;
 /// How likely it is that a candidate is soon shown to be a match.
 #[derive(Clone, Copy, Debug, PartialEq, Eq)]
 pub(crate) enum Likely {
-    /// It is no matching of the ports, or outputs differ on a vector.
+    /// The candidate is no matching of the ports, or outputs differ on a vector.
     Not,
     /// Many gates seem to be equal under it.
     Near,
-    /// Its outputs agree on drawn vectors, and few other gates do.
+    /// The outputs agree on drawn vectors, and few other gates do.
     Far,
 }
 

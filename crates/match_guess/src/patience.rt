@@ -1,6 +1,6 @@
 /// How many guesses that fail at once count as one. With half as many the adder and subtractor of 24 bits takes a
 /// second longer; with twice as many none of 29 pairs changes.
-const SHARE: u32 = 8;
+const SHARES_A_POINT: u32 = 8;
 
 /// How many more guesses may fail, in shares.
 #[derive(Clone, Copy, Debug, Drop)]
@@ -23,8 +23,8 @@ impl Patience {
             };
         }
         Patience {
-            left: failures.saturating_mul(SHARE),
-            of_point: SHARE,
+            left: failures.saturating_mul(SHARES_A_POINT),
+            of_point: SHARES_A_POINT,
         }
     }
 
@@ -33,7 +33,7 @@ impl Patience {
         self.left = self.left.saturating_sub(1);
     }
 
-    /// That many choice points were left.
+    /// Counts choice points that were left, all of whose guesses failed.
     pub(crate) fn leave(&mut self, points: usize) {
         let shares = (points % (1 << 32)) as u32;
         self.left = self

@@ -26,7 +26,7 @@ const MOST_GUESSES: u32 = 16;
 pub(crate) enum Guessed {
     /// The matching is a match.
     Match(Matching, Items<Log>),
-    /// It is no match.
+    /// The candidate is no match.
     Fails,
     /// No matching was guessed.
     Nothing,

@@ -25,8 +25,9 @@ pub struct Guide {
     pub(crate) weights: Weights,
     pub(crate) rounds: Rounds,
     room: BanRoom,
-    /// The outputs of the first circuit whose tallies are made at first, in that order, and how many have been.
+    /// The outputs of the first circuit whose tallies are made at first, in that order.
     order: Vec<u32>,
+    /// How many of them have their tallies.
     tallied: usize,
     /// How many of the assigned pairs were compared with claims of one input.
     pub asked: usize,
@@ -94,18 +95,18 @@ impl Guide {
         self.begin_round(0);
     }
 
-    /// Whether the round has had what it may have: its conflicts, the lines that may be learned in the run, or the
-    /// bans' room.
+    /// Whether the round is over: it has used up its conflicts, the lines that may be learned in the run, or the memory
+    /// for bans.
     pub fn is_round_over(&self, learned: u64) -> bool {
         self.has_had_its_share(learned) | self.is_full()
     }
 
-    /// Whether the round has had its conflicts, or the lines that may be learned in the run.
+    /// Whether the round has used up its conflicts, or the lines that may be learned in the run.
     pub fn has_had_its_share(&self, learned: u64) -> bool {
         self.rounds.is_over(learned)
     }
 
-    /// Whether the bans take all their room.
+    /// Whether the bans take all the memory that they may.
     pub fn is_full(&self) -> bool {
         self.room.is_full()
     }

@@ -14,7 +14,7 @@ pub(crate) struct Reads {
 }
 
 impl Reads {
-    /// Those of two circuits.
+    /// What the outputs of two circuits read.
     pub(crate) fn new(alloc: Global, graphs: &PairableGraphs<'_>) -> Result<Reads, AllocError> {
         let first = reads_of(alloc, graphs.first())?;
         let second = reads_of(alloc, graphs.second())?;

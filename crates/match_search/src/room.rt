@@ -3,10 +3,10 @@ use broken_claims::BYTES_OF_BAN;
 
 /// How many bytes the bans may take. Searches that were measured with this bound took less than a gigabyte in all, with
 /// facts and what isn't counted.
-const MOST: u64 = 600_000_000;
+const MOST_BYTES: u64 = 600_000_000;
 
 /// What a reference of a cover takes. A cover of 128 ports and as many others has 32,768 of them.
-const REFERENCE: u64 = 16;
+const BYTES_OF_REFERENCE: u64 = 16;
 
 /// How much memory the bans of a search take, some of a book's, which come one after the other.
 #[derive(Drop)]
@@ -18,7 +18,7 @@ pub(crate) struct BanRoom {
 }
 
 impl BanRoom {
-    /// That of no bans.
+    /// No bans, no memory.
     pub(crate) fn new() -> BanRoom {
         BanRoom {
             taken: 0,
@@ -36,7 +36,7 @@ impl BanRoom {
 
     /// Whether the bans take all that they may.
     pub(crate) fn is_full(&self) -> bool {
-        self.taken >= MOST
+        self.taken >= MOST_BYTES
     }
 
     fn add(&mut self, bans: &[Ban]) {
@@ -52,7 +52,7 @@ fn bytes_of(step: &Step) -> u64 {
     let Step::Cover { refs, .. } = step else {
         return BYTES_OF_BAN as u64;
     };
-    REFERENCE
+    BYTES_OF_REFERENCE
         .saturating_mul(refs.len() as u64)
         .saturating_add(BYTES_OF_BAN as u64)
 }

@@ -12,7 +12,7 @@ const SHORTEST: u64 = 100;
 /// three of 11 near misses took 1.5 seconds and more that take less than one with 4.
 const OUTPUT_FACTOR: u64 = 4;
 
-/// In the other rounds it counts as if it had this many times its ways.
+/// In the other rounds an output counts as if it had this many times its ways.
 const OTHER_FACTOR: u64 = 2;
 
 /// The rounds of a search, after each of which it starts over. Their lengths are as the numbers of reluctant doubling,
@@ -24,7 +24,7 @@ pub(crate) struct Rounds {
     length: u64,
     /// Whether the round is the second, the fourth and so on.
     is_other: bool,
-    /// How many conflicts it had so far.
+    /// How many conflicts the round had so far.
     conflicts: u64,
     /// How many lines may be learned in the run before rounds end.
     lines: u64,
@@ -54,7 +54,7 @@ impl Rounds {
         self.conflicts = self.conflicts.saturating_add(1);
     }
 
-    /// Whether the round has had its conflicts, or as many lines are learned as may be.
+    /// Whether the round is over: it has used up its conflicts, or the lines that may be learned in the run.
     pub(crate) fn is_over(&self, learned: u64) -> bool {
         (self.conflicts >= self.length) | (learned >= self.lines)
     }

@@ -70,7 +70,7 @@ pub fn search<O: Oracle>(
     search_all(alloc, graphs, oracle, book, seed, ledger)
 }
 
-// The same, without what is said of a spent budget.
+// The search, without what is said of a spent budget.
 fn search_all<O: Oracle>(
     alloc: Global,
     graphs: &PairableGraphs<'_>,

@@ -60,7 +60,7 @@ impl TableTrail {
 /// What a step ahead comes to.
 #[derive(Drop)]
 pub(crate) enum TableAhead {
-    /// It goes on.
+    /// The search goes on.
     Advanced,
     /// Tables say of no other port.
     NoPort,
@@ -71,7 +71,7 @@ pub(crate) enum TableAhead {
 /// What a turn comes to.
 #[derive(Drop)]
 pub(crate) enum TurnEnd {
-    /// It isn't over.
+    /// The turn isn't over.
     Open,
     /// Tables don't refuse a match.
     Over,

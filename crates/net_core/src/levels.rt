@@ -14,11 +14,11 @@ use std::alloc::{AllocError, Global};
 /// How far the search has come at a definition.
 #[derive(Clone, Copy, Drop)]
 enum Visit {
-    /// It was not met yet.
+    /// The definition was not met yet.
     New,
-    /// It is on the stack: what it names is looked at.
+    /// The definition is on the stack: what it names is looked at.
     Open,
-    /// Its level is known.
+    /// The definition's level is known.
     Level(u32),
 }
 

@@ -66,7 +66,7 @@ impl<'a, T: Covered> Parts for Covers<'a, T> {
     }
 }
 
-// Its operands, its own name, and a row.
+// A gate's cover: its operands, its own name, and a row.
 impl Covered for Gate {
     ghost lines = { gate_lines };
 

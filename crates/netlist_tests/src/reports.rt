@@ -43,7 +43,7 @@ fn is_table_written(
     Ok(out.as_slice() == text)
 }
 
-// The same of a matching with these entries.
+// Whether the table of a matching with these entries is the text.
 fn is_written(
     alloc: Global,
     first: &Named,

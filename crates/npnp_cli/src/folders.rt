@@ -10,7 +10,8 @@ use std::{fs, io};
 /// The bits of a folder's mode by which its owner may make files in it: to write to it and to pass through it.
 const OWNER: u32 = 0o300;
 
-/// Those by which its group or all others may write to it. Without either, nobody but its owner makes files in it.
+/// The bits of a folder's mode by which its group or all others may write to it. Without either, nobody but its owner
+/// makes files in it.
 const OTHERS: u32 = 0o022;
 
 /// The folder that belongs to whoever runs the program.

@@ -11,10 +11,10 @@ use watch_core::{Stage, Watch};
 const VARIABLE: &str = "NPNP_PROGRESS";
 
 /// Nothing is printed before a run has taken this many seconds, since most runs are over then.
-const FIRST: u64 = 2;
+const SECONDS_BEFORE: u64 = 2;
 
 /// So many seconds lie between two lines, few enough that a reader sees that the run goes on.
-const BETWEEN: u64 = 1;
+const SECONDS_BETWEEN: u64 = 1;
 
 /// A watcher that prints on standard error now and then what a run is at.
 #[derive(Drop)]
@@ -41,7 +41,7 @@ impl Progress<HostRuntime> {
         Ok(Progress {
             rt: rt.clone()?,
             start,
-            due: Cell::new(Duration::from_secs(FIRST)),
+            due: Cell::new(Duration::from_secs(SECONDS_BEFORE)),
             stage: Cell::new(Stage::Reading { file: 1 }),
             learned: Cell::new(0),
         })
@@ -60,8 +60,7 @@ impl<R: Clock + Eprint + Drop> Watch for Progress<R> {
         if passed < self.due.get() {
             return;
         }
-        self.due
-            .set(passed.saturating_add(Duration::from_secs(BETWEEN)));
+        self.due.set(passed.saturating_add(Duration::from_secs(SECONDS_BETWEEN)));
         // a line that can't be written is left out
         let _ = self.write_line(passed.as_secs());
     }

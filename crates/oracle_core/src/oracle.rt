@@ -18,10 +18,10 @@ use watch_core::Stage;
 /// How an output of the first circuit compares with the output that a matching sends it to.
 #[derive(Debug, Drop)]
 pub enum Compared {
-    /// They agree on every vector. The first log refutes that they differ where the output is true, the second where it
-    /// is false.
+    /// The outputs agree on every vector. The first log refutes that they differ where the first one is true, the
+    /// second where it is false.
     Same(Log, Log),
-    /// They differ on this vector of the first circuit's inputs.
+    /// The outputs differ on this vector of the first circuit's inputs.
     Differs(Bits),
 }
 

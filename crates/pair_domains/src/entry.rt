@@ -4,9 +4,9 @@ use net_core::Side;
 /// Why a pair is assigned.
 #[derive(Clone, Copy, Debug, PartialEq, Eq)]
 pub enum Cause {
-    /// It was chosen.
+    /// The pair was chosen.
     Choice,
-    /// Its port of this circuit had no other way left.
+    /// The pair's port of this circuit had no other way left.
     LastWay(Side),
 }
 

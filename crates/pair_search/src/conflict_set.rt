@@ -52,7 +52,7 @@ pub(crate) fn cover_port(
     cover_block(view, block, resolved, pairs, made, book)
 }
 
-/// The same for a block: ports of both circuits that are together more than either circuit has.
+/// The conflict set of a block: ports of both circuits that are together more than either circuit has.
 pub(crate) fn cover_block(
     view: &TrailView<'_>,
     block: Block,

@@ -5,7 +5,7 @@ use circuits::{Pair, PortKind};
 use pair_domains::Domains;
 use std::alloc::{AllocError, Global};
 
-/// No port.
+/// No port. Lists of `Option` would take twice the memory.
 const NONE: u32 = u32::MAX;
 
 /// A partner for each port of the first circuit, of one kind: a port of the second one to which some way is left, no

@@ -8,7 +8,7 @@ use circuits::{Pair, PortKind};
 use pair_domains::Domains;
 use std::alloc::{AllocError, Global};
 
-/// The greatest number, where no entry stands.
+/// The number of no entry: it is greater than all others, so that a comparison needs no case for it.
 const NONE: usize = usize::MAX;
 
 /// A ban that watches a pair, by its place among those that watch, and another of its pairs: where that is deleted,

@@ -26,7 +26,7 @@ pub(crate) struct NotedWays<'a> {
     pub(crate) bans: &'a [Option<u64>],
 }
 
-/// One of them.
+/// A way, and the number of the ban that was noted for it.
 #[derive(Clone, Copy)]
 pub(crate) struct NotedWay {
     pub(crate) way: Pair,

@@ -15,7 +15,7 @@ use word_sim::mix;
 pub struct Cells {
     /// The cell of each literal of the first circuit, by the literal's number.
     first: Items<usize>,
-    /// Of the second circuit.
+    /// The cell of each literal of the second circuit.
     second: Items<usize>,
     /// How many cells there are. They are numbered from 0 on.
     count: usize,

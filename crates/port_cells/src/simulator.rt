@@ -15,7 +15,7 @@ pub struct FlipSim<'a> {
     fanouts: Items<Fanout>,
     /// What each signal has on the vectors.
     values: Vec<Lanes>,
-    /// What it has with the input inverted, and else the same, once an input was inverted on these vectors.
+    /// What each signal has with the input inverted, and else the same, once an input was inverted on these vectors.
     flipped: Vec<Lanes>,
     /// Whether that is so. Who inverts no input needs no copy.
     is_copied: bool,

@@ -139,7 +139,7 @@ impl<'a> ClaimBase<'a> {
         })
     }
 
-    /// The same, with the clauses of all gates. It takes some steps for each signal of the circuit.
+    /// The base with the clauses of all gates. It takes some steps for each signal of the circuit.
     ///
     /// # Errors
     ///

@@ -222,7 +222,7 @@ fn push_learned(asked: &mut Vec<Asked>, arena: &mut Vec<u8>, line: &LogLine) -> 
     }
 }
 
-// The same, but a refusal may leave a part of the bytes.
+// Adds a line and its bytes, of which a refusal may leave a part.
 fn push_both(asked: &mut Vec<Asked>, arena: &mut Vec<u8>, line: &LogLine) -> Result<(), Stop>
     requires { 0 < length asked.old.items }
     ensures pushed { OnOk result (asked.new.items ≡ with_line line.now asked.old.items) }

@@ -46,7 +46,7 @@ fn expect_in_turn(
     Ok(())
 }
 
-/// Of a longer account the calls up to the one that creates it.
+/// The first calls of a run with a longer account, up to the one that creates it.
 #[test]
 fn leaves_a_first_part_of_the_account(rt: HostRuntime) -> Result<(), Fail> {
     expect_in_turn(&rt, rt.alloc(), [EMPTY, EMPTY], &OF_NOTHING)?;

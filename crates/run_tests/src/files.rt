@@ -16,7 +16,7 @@ pub(crate) const TABLE: &[u8] =
 /// The AND of two inputs.
 pub(crate) const AND: &[u8] = b"aag 3 2 0 1 1\n2\n4\n6\n6 2 4\n";
 
-/// Their OR.
+/// The OR of two inputs.
 pub(crate) const OR: &[u8] = b"aag 3 2 0 1 1\n2\n4\n7\n6 3 5\n";
 
 /// One input that is the output.

@@ -11,7 +11,7 @@ use net_core::{Gate, Graph, Lit, Matching};
 use std::alloc::{AllocError, Global};
 
 /// The most inputs, gates or outputs of a sample, so that a caller has no bound to show.
-const MOST: usize = 1_000;
+const MOST_ITEMS: usize = 1_000;
 
 /// The graph of n inputs, whose gates and outputs have literals of these numbers (the AIGER format).
 ///
@@ -34,13 +34,13 @@ pub fn graph(
     ensures too_large { result ≡ Err SampleFault.TooLarge
         → (1000 < inputs) ⊎ (1000 < length gates.now) ⊎ (1000 < length outputs.now) }
 {
-    if inputs as usize > MOST {
+    if inputs as usize > MOST_ITEMS {
         return Err(SampleFault::TooLarge);
     }
-    if gates.len() > MOST {
+    if gates.len() > MOST_ITEMS {
         return Err(SampleFault::TooLarge);
     }
-    if outputs.len() > MOST {
+    if outputs.len() > MOST_ITEMS {
         return Err(SampleFault::TooLarge);
     }
     let gates = gates_of(alloc, gates)?;

@@ -25,7 +25,7 @@ pub fn drawn(alloc: Global, numbers: &mut Pcg32) -> Result<Graph, SampleFault>
     drawn_over(alloc, numbers, [2, 4, 6])
 }
 
-/// The same circuit with these literals in place of its inputs.
+/// The circuit of [`drawn`] with these literals in place of its inputs.
 ///
 /// # Errors
 ///

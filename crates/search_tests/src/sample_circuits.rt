@@ -86,7 +86,7 @@ pub(crate) fn drawn_by(alloc: Global, number: u64) -> Result<Graph, SampleFault>
     drawn(alloc, &mut Pcg32::new(number, 54))
 }
 
-/// The same with its inputs permuted and negated, by the number.
+/// The circuit of `drawn_by` with its inputs permuted and negated, by the number.
 fn moved_by(alloc: Global, number: u64) -> Result<Graph, SampleFault> {
     let orders = [
         [2, 4, 6],

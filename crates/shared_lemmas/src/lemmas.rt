@@ -18,8 +18,8 @@ pub(crate) struct Lemmas {
     pub(crate) numbers: Vec<Option<u64>>,
 }
 
-/// Those by which gates of one structure are one, and after them the lines of a stock that are over the variables of
-/// the cones, with what these lines rest on.
+/// The lemmas by which gates of one structure are one, and after them the lines of a stock that are over the variables
+/// of the cones, with what these lines rest on.
 pub(crate) fn lemmas_for(
     alloc: Global,
     cones: &ConeClauses<'_>,

@@ -28,11 +28,11 @@ use watch_core::Watch;
 
 /// A search over the formula's variables costs by the circuits. From this many clauses on, some 10,000 gates in either
 /// circuit, that is more than a question of small cones takes by itself.
-const LARGE: u64 = 60_000;
+const LARGE_FORMULA: u64 = 60_000;
 
 /// Cones are small that have at most one of this many clauses. Of 8 adders of 64 bits side by side, questions that
 /// structure answers take 1.3 times as long shared as alone, and others 0.4 times; of 24 adders, 2 and 0.6 times.
-const PART: u64 = 8;
+const SMALL_PART: u64 = 8;
 
 /// How many lines questions may get as lemmas in a run. Each is copied for its question, 250 bytes or so, which are
 /// free again once that is answered: all of them take some seconds. A sorter of 64 numbers gets 400,000, a code of 57
@@ -140,7 +140,7 @@ fn ask_sharing<W: Watch>(
 // Whether the clauses of cones are few beside those of large circuits.
 fn are_small(cones: &ConeClauses<'_>) -> bool {
     let count = cones.count();
-    (count >= LARGE) & (cones.ids().len() as u64 <= count / PART)
+    (count >= LARGE_FORMULA) & (cones.ids().len() as u64 <= count / SMALL_PART)
 }
 
 // Answers a query by itself, by structure, or by a stock that holds under its feeds, and adds to it.
@@ -181,7 +181,7 @@ fn ask_cones<W: Watch>(
     ask_by(alloc, question, &lemmas, &mut guide, stock, ledger)
 }
 
-// The same, by these lemmas. A guide says what is looked at first.
+// Answers a query by these lemmas, and adds to the stock. A guide says what is looked at first.
 fn ask_by<G: QuestionGuide>(
     alloc: Global,
     question: &Question<'_>,

@@ -15,7 +15,7 @@ use std::alloc::{AllocError, Global};
 use std::simd::prelude::*;
 use word_sim::{Rails, Words, and_lanes, first_bit, rails_eval, simulate};
 
-/// How many words are evaluated at once, as `word_sim` does.
+/// How many words are evaluated at once: the lanes of `word_sim`.
 const BLOCK: usize = 8;
 
 /// Vectors of the first circuit's inputs, 64 in a word, and what its outputs have on them: all vectors of at most
@@ -104,7 +104,7 @@ impl Trials {
         Ok(None)
     }
 
-    // The same for the 512 vectors of eight words.
+    // What `suspect` answers, on the 512 vectors of eight words.
     fn suspect_in(
         &self,
         alloc: Global,

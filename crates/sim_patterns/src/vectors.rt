@@ -8,7 +8,7 @@ use port_cells::{Draws, word_of_all};
 use std::alloc::{AllocError, Global};
 use word_sim::Words;
 
-/// How many words are tried at least: those that are evaluated at once.
+/// How many words are tried at least: the lanes of `word_sim`, which are evaluated at once.
 const FEWEST_WORDS: usize = 8;
 
 /// How many words are tried at most: 2,048 vectors show nearly every wrong pair, and a search tries them at each step.
@@ -27,7 +27,7 @@ pub(crate) fn first_vectors(alloc: Global, inputs: u32, seed: u64) -> Result<Wor
     )
 }
 
-/// That many words of vectors: all vectors where these are enough, else some that are drawn.
+/// So many words of vectors: all vectors where these are enough, else some that are drawn.
 fn vectors(alloc: Global, inputs: u32, words: usize, seed: u64) -> Result<Words, AllocError>
     requires { 8 ≤ words }
     ensures { IfOk result (HasColumns inputs) }

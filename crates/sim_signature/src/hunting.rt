@@ -10,7 +10,7 @@ use crate::claims::claims;
 use crate::reading::read_inputs;
 use crate::sighting::Sighting;
 use crate::signatures::Signatures;
-use crate::vectors::FEW;
+use crate::vectors::FEW_INPUTS;
 use claim_core::Shape;
 use net_core::Graph;
 use rand_pcg::Pcg32;
@@ -40,7 +40,7 @@ pub fn hunt(
         → IsSighted shape sightings.items) }
 {
     let mut generator = Pcg32::new(seed, output as u64);
-    if graph.inputs() > FEW {
+    if graph.inputs() > FEW_INPUTS {
         return hunt_drawn(alloc, graph, output, &mut generator, rounds);
     }
     // so few inputs need no second round: the first has all vectors

@@ -6,7 +6,7 @@ use net_core::Graph;
 use std::alloc::{AllocError, Global};
 
 /// Of each input the place of the gate that joins it to another one: the first gate whose operands are these two and
-/// which finds both without a gate. None where there is no such gate.
+/// for neither of which one was noted before. None where there is no such gate.
 ///
 /// # Errors
 ///
@@ -23,7 +23,7 @@ pub(crate) fn joining_gates(alloc: Global, graph: &Graph) -> Result<Vec<Option<u
     Ok(joints)
 }
 
-/// Notes the gate whose operands two signals are, where these are two inputs without one.
+/// Notes a gate for both its operands, where these are two inputs for which none was noted.
 fn join(first: u32, second: u32, gate: u32, joints: &mut [Option<u32>])
     ensures { length joints.new ≡ length joints.old }
 {
@@ -34,7 +34,7 @@ fn join(first: u32, second: u32, gate: u32, joints: &mut [Option<u32>])
     joints[second as usize - 1] = Some(gate);
 }
 
-/// Whether a signal is an input without a gate.
+/// Whether a signal is an input for which no gate was noted.
 fn is_free(signal: u32, joints: &[Option<u32>]) -> bool
     ensures least { IsTrue result → 1 ≤ signal }
     ensures there { IsTrue result → signal ≤ length joints.now }

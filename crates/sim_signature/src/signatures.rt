@@ -27,7 +27,7 @@ use word_sim::first_bit;
 #[derive(Drop)]
 pub struct Signatures<'a> {
     graph: &'a Graph,
-    /// That many outputs from this one on.
+    /// The outputs: `count` of them from the one of this number on.
     first: u32,
     count: u32,
     /// A block for each input: bit v of word w is the input's on vector 64 * w + v.
@@ -78,7 +78,7 @@ impl<'a> Signatures<'a> {
         )
     }
 
-    /// The same, with the vectors drawn by a generator.
+    /// The signatures, with the vectors drawn by a generator.
     pub(crate) fn drawn(
         alloc: Global,
         graph: &'a Graph,

@@ -13,7 +13,7 @@ use std::simd::prelude::*;
 use word_sim::alternating;
 
 /// How many inputs a circuit has at most whose vectors are all tried: a word has a bit for each.
-pub(crate) const FEW: u32 = 6;
+pub(crate) const FEW_INPUTS: u32 = 6;
 
 /// 512 vectors, a block of eight words for each input: all vectors of at most six inputs, else some that a generator
 /// draws.
@@ -30,7 +30,7 @@ pub(crate) fn vectors(
     ensures all { IfOk result (λ blocks. inputs ≤ 6 → (w v : ℕ) → w < 8 → v < 64
         → pattern blocks.items w v ≡ vector_of inputs v) }
 {
-    if inputs > FEW {
+    if inputs > FEW_INPUTS {
         return drawn_vectors(alloc, inputs, generator);
     }
     all_vectors(alloc, inputs)
@@ -50,7 +50,7 @@ fn all_vectors(alloc: Global, inputs: u32) -> Result<Vec<u64x8>, AllocError>
     Ok(blocks)
 }
 
-/// The same word eight times.
+/// A block of one word eight times.
 fn everywhere(word: u64) -> u64x8
     ensures { (w : ℕ) → w < 8 → word_of w result ≡ word }
 {

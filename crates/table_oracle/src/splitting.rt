@@ -291,7 +291,7 @@ fn excluding(alloc: Global, bits: &[bool]) -> Result<Items<SatLit>, AllocError>
     Ok(clause)
 }
 
-/// These bits with one more.
+/// A list of bits with one more.
 fn longer_by(alloc: Global, bits: &[bool], bit: bool) -> Result<Vec<bool>, AllocError>
     ensures { IfOk result (λ longer. longer.items ≡ bits.now ++ bit ∷ []) }
 {

@@ -41,7 +41,7 @@ pub(crate) fn vector_of(alloc: Global, bits: usize, code: u32) -> Result<Vec<boo
     Ok(vector)
 }
 
-/// That many bits.
+/// So many bits, all 0.
 fn no_bits(alloc: Global, count: usize) -> Result<Vec<bool>, AllocError>
     ensures { IfOk result (λ bits. length bits.items ≡ count) }
 {

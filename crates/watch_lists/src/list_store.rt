@@ -10,7 +10,7 @@ use std::marker::Model;
 
 /// The most places of a list that grows: 8 TB of watches, more than a machine has, so that twice as many, and 4, are
 /// counted without overflow.
-const MOST: usize = 1_000_000_000_000;
+const MOST_PLACES: usize = 1_000_000_000_000;
 
 /// Where the watches of a literal stand in the vector of all: at the first places from one on. Of those after them some
 /// are room that was asked for.
@@ -123,7 +123,7 @@ impl ListStore {
             return Ok(());
         }
         // such a list wouldn't fit into memory
-        if span.places > MOST {
+        if span.places > MOST_PLACES {
             return Err(AllocError);
         }
         let places = 2 * span.places + 4;

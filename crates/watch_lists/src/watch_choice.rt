@@ -18,11 +18,11 @@ use trail_core::Trail;
 /// What becomes of a clause of which a watched literal became false, by its other watched literal.
 #[derive(Clone, Copy)]
 pub(crate) enum WatchState {
-    /// The other one is true.
+    /// The other watched literal is true.
     Satisfied,
-    /// This literal isn't false, and isn't the other one.
+    /// This literal isn't false, and isn't the other watched one.
     Replacement(SatLit),
-    /// The other one alone isn't false, and is unassigned.
+    /// The other watched literal alone isn't false, and is unassigned.
     Unit,
     /// All are false.
     Conflict,

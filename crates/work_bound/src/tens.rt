@@ -20,7 +20,7 @@ pub fn tens_enough(graphs: &Graphs<'_>) -> u64
     )
 }
 
-// The same for circuits of so many inputs and outputs, with so many gates in all. The claims are no more than the
+// The exponent for circuits of so many inputs and outputs, with so many gates in all. The claims are no more than the
 // queries of matchings, so that there are at most 8 m^2 (2 n)^n queries.
 fn tens_of_lines(inputs: u64, outputs: u64, gates: u64) -> u64
     requires inputs { inputs < 2 ^ 32 }

@@ -11,7 +11,7 @@ use word_sim::{Words, simulate};
 /// The multiplier of the generator of words, a linear congruential one: that of Knuth's MMIX.
 const MULTIPLIER: u64 = 6_364_136_223_846_793_005;
 
-/// Its increment, of the same generator.
+/// The generator's increment.
 const INCREMENT: u64 = 1_442_695_040_888_963_407;
 
 /// Simulates the netlist for some rounds, each on new words of 64 vectors, and prints the exclusive or of all

@@ -84,7 +84,7 @@ impl Account {
         Ok(account)
     }
 
-    /// Its lines, none of which is printed.
+    /// The account's lines, none of which is printed.
     pub fn lines(&self) -> AccountLines<'_>
         ensures { records_left result ≡ records_of self.now }
     {

@@ -1,4 +1,4 @@
--- The names so far have their places.
+-- The variables so far that occur have their dense variables.
 use Rattle.ask_core.proofs.BaseLemmas.{IsPlacing}
 use Rattle.ask_core.proofs.places.table_of.Given as goal
 

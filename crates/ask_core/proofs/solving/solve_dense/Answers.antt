@@ -1,4 +1,4 @@
--- What the search over names found is the formula's.
+-- What the search over dense variables found is the formula's.
 use Rattle.claim_core.specs.Formulas.{formula_of}
 use Rattle.learn_solver.proofs.SolverLemmas.{lines_known}
 use Rattle.ask_core.proofs.FullLemmas.{dense_asking, dense_extended, dense_stopped, dense_verdict, translating}

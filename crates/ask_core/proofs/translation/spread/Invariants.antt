@@ -1,4 +1,4 @@
--- The names so far have their bits.
+-- The variables so far that occur have their bits.
 use Rattle.ask_core.proofs.BaseLemmas.{IsSpreading}
 use Rattle.ask_core.proofs.translation.spread.Given as goal
 

@@ -1,4 +1,4 @@
--- A line is over the names.
+-- A line is over dense variables.
 use Rattle.std.proofs.Common.{length}
 use Rattle.learn_solver.proofs.StartLemmas.{line_clause}
 use Rattle.ask_core.proofs.translation.translated_all.Goals as goal

@@ -1,4 +1,4 @@
--- What was collected is over the names.
+-- What was collected is over dense variables.
 use Rattle.std.proofs.Common.{ℕ, List, All, length, map, ◌++◌, sym, ap, subst, ◌∙◌}
 use Rattle.cnf_core.specs.declared.clause.Clause3.{Clause3}
 use Rattle.cnf_core.specs.Clauses.{clause_at, literals_of}

@@ -1,7 +1,7 @@
 -- One number more.
 use Rattle.std.proofs.Common.{◌≡◌, ◌+◌, [], ◌∷◌, ◌++◌, ap, ◌∙◌, arith}
 use Rattle.ask_core.proofs.BaseLemmas.{numbers_more}
-use Rattle.ask_core.proofs.small.places.Goals as goal
+use Rattle.ask_core.proofs.dense_search.places.Goals as goal
 
 pub loop-place-preserved : goal.loop-place-preserved
 loop-place-preserved c =

@@ -4,7 +4,7 @@ use Rattle.std.proofs.lemmas.List.{length-replicate}
 use Rattle.std.proofs.lemmas.List.Sorted.{IsNonDecreasingBy-from_sort}
 use Rattle.ask_core.specs.Renamings.{AreListed, AreMarks}
 use Rattle.ask_core.proofs.BaseLemmas.{named_in_order, names_from, no_marks}
-use Rattle.ask_core.proofs.names.names_of.Goals as goal
+use Rattle.ask_core.proofs.occurring.occurring_variables.Goals as goal
 
 pub list_clauses-requires-clause-marks : goal.list_clauses-requires-clause-marks
 list_clauses-requires-clause-marks c =

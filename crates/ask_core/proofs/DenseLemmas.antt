@@ -1,4 +1,4 @@
--- What a search over names says.
+-- What a search over dense variables says.
 use Rattle.std.proofs.Common.{◌≡◌, ℕ, ◌+◌, ◌<◌, false, List, [], ◌++◌, length, map, take, All, Result, Ok, Err, IfOk, IfErr, slice_index_or, refl, sym, ◌∙◌, ap, subst, arith}
 use Rattle.std.proofs.lemmas.List.{get_or-map, length-map}
 use Rattle.std.proofs.lemmas.List.FromFn.{fill_by_all, get_or-map-range_with_len, length-map-range_with_len}
@@ -53,13 +53,13 @@ learned {O} small s new before after all extended =
       fresh = λ k d within. subst (λ cs. All (λ clause. has_all (slice_index_or new.lines k d).clause clause ≡ false) (cs ++ clauses_of (take k new.lines))) whole (extended.added k d (omega (arith, ap length none)) within).fresh;
     }
 
-pub small_found : {O : Type 0} (small : Formula) (s new : Solving) (before after : Charging O) (r : Result Finding Stop) → IsAll small s → IfOk r (λ _. IsExtended s new before after) → IfOk r (IsFinding new) → IfOk r (IsFound small new.lines)
-small_found {O} small s new before after (Ok v) all extended is = found small s new before after v all extended is
-small_found {O} small s new before after (Err stop) all extended is = tt
+pub dense_found : {O : Type 0} (small : Formula) (s new : Solving) (before after : Charging O) (r : Result Finding Stop) → IsAll small s → IfOk r (λ _. IsExtended s new before after) → IfOk r (IsFinding new) → IfOk r (IsFound small new.lines)
+dense_found {O} small s new before after (Ok v) all extended is = found small s new before after v all extended is
+dense_found {O} small s new before after (Err stop) all extended is = tt
 
-pub small_learned : {O : Type 0} (small : Formula) (s new : Solving) (before after : Charging O) (r : Result Finding Stop) → IsAll small s → IfOk r (λ _. IsExtended s new before after) → IfOk r (λ _. AreLearned small new.lines)
-small_learned {O} small s new before after (Ok v) all extended = learned small s new before after all extended
-small_learned {O} small s new before after (Err stop) all extended = tt
+pub dense_learned : {O : Type 0} (small : Formula) (s new : Solving) (before after : Charging O) (r : Result Finding Stop) → IsAll small s → IfOk r (λ _. IsExtended s new before after) → IfOk r (λ _. AreLearned small new.lines)
+dense_learned {O} small s new before after (Ok v) all extended = learned small s new before after all extended
+dense_learned {O} small s new before after (Err stop) all extended = tt
 
 halted : {O : Type 0} (small : Formula) (s new : Solving) (before after : Charging O) (stop : Stop) → IsAll small s → IsStopped s new before after stop → IsHalted small new.lines before stop
 halted {O} small s new before after Memory all is = tt
@@ -71,6 +71,6 @@ halted {O} small s new before after (Spent n) all is = (
   },
 )
 
-pub small_halted : {O : Type 0} (small : Formula) (s new : Solving) (before after : Charging O) (r : Result Finding Stop) → IsAll small s → IfErr r (IsStopped s new before after) → IfErr r (IsHalted small new.lines before)
-small_halted {O} small s new before after (Ok v) all is = tt
-small_halted {O} small s new before after (Err stop) all is = halted small s new before after stop all is
+pub dense_halted : {O : Type 0} (small : Formula) (s new : Solving) (before after : Charging O) (r : Result Finding Stop) → IsAll small s → IfErr r (IsStopped s new before after) → IfErr r (IsHalted small new.lines before)
+dense_halted {O} small s new before after (Ok v) all is = tt
+dense_halted {O} small s new before after (Err stop) all is = halted small s new before after stop all is

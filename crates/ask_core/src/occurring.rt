@@ -8,7 +8,7 @@ use cnf_core::{Clause3, SatLit};
 use std::alloc::{AllocError, Global};
 
 /// The variables of clauses, ascending: the search looks first at those of the greatest numbers, as in the formula.
-pub(crate) fn names_of(
+pub(crate) fn occurring_variables(
     alloc: Global,
     clauses: &[Clause3],
     variables: u64,

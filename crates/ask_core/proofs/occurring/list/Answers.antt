@@ -2,7 +2,7 @@
 use Rattle.std.proofs.Common.{Bool, List, length, sym, subst, ◌∙◌}
 use Rattle.ask_core.specs.Renamings.{AreMarks}
 use Rattle.ask_core.proofs.BaseLemmas.{marks_more}
-use Rattle.ask_core.proofs.names.list.Goals as goal
+use Rattle.ask_core.proofs.occurring.list.Goals as goal
 
 pub returns-clause-marks : goal.returns-clause-marks
 returns-clause-marks c =

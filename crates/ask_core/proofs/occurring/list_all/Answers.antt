@@ -2,7 +2,7 @@
 use Rattle.std.proofs.Common.{ℕ, length, subst}
 use Rattle.ask_core.specs.Renamings.{AreMarks}
 use Rattle.ask_core.proofs.BaseLemmas.{listing_more}
-use Rattle.ask_core.proofs.names.list_all.Goals as goal
+use Rattle.ask_core.proofs.occurring.list_all.Goals as goal
 use Rattle.cnf_core.proofs.LiteralLemmas.{no_literal}
 
 pub loop-literal-preserved : goal.loop-literal-preserved

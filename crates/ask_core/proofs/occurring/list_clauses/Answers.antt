@@ -2,7 +2,7 @@
 use Rattle.std.proofs.Common.{ℕ, length, subst}
 use Rattle.ask_core.specs.Renamings.{AreMarks}
 use Rattle.ask_core.proofs.BaseLemmas.{clauses_listing_more, none}
-use Rattle.ask_core.proofs.names.list_clauses.Goals as goal
+use Rattle.ask_core.proofs.occurring.list_clauses.Goals as goal
 
 pub loop-clause-preserved : goal.loop-clause-preserved
 loop-clause-preserved c =
