@@ -9,9 +9,9 @@ use items::Items;
 /// What one position of a row requires of its signal (the Berkeley Logic Interchange Format).
 #[derive(Clone, Copy, Debug, Drop, PartialEq, Eq)]
 pub enum Trit {
-    /// The signal has to be 0.
+    /// That it is 0.
     Zero,
-    /// The signal has to be 1.
+    /// That it is 1.
     One,
     /// Nothing.
     Dash,

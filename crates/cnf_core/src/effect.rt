@@ -9,9 +9,9 @@ use crate::literal::SatLit;
 pub enum Effect {
     /// All its literals are false.
     Conflict,
-    /// The clause is unit: its literals that aren't false are all this one, which isn't true yet and becomes true.
+    /// It is unit: its literals that aren't false are all this one, which isn't true yet and is to be made true.
     Makes(SatLit),
-    /// The clause has another literal that isn't false, or a true one.
+    /// It has another literal that isn't false, or a true one.
     Neither,
 }
 

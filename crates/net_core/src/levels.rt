@@ -14,11 +14,11 @@ use std::alloc::{AllocError, Global};
 /// How far the search has come at a definition.
 #[derive(Clone, Copy, Drop)]
 enum Visit {
-    /// The definition was not met yet.
+    /// It was not met yet.
     New,
-    /// The definition is on the stack: what it names is looked at.
+    /// It is on the stack: what it names is looked at.
     Open,
-    /// The definition's level is known.
+    /// Its level is known.
     Level(u32),
 }
 

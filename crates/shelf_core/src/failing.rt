@@ -66,7 +66,7 @@ impl Failing {
     }
 }
 
-/// Whether a number is one of these, by a scan: tests name a call or two.
+/// Whether a number is one of these.
 fn is_among(numbers: &[u64], number: u64) -> bool
     ensures { IsTrue result ↔ Contains numbers.now number }
 {
