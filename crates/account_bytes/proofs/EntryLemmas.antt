@@ -1,5 +1,5 @@
 -- Entries: no bytes begin with two of them, and what a frame says of an entry.
-use Rattle.std.proofs.Common.{◌≡◌, ◌<◌, ◌^◌, ℕ, List, [], ◌∷◌, ◌++◌, Bool, true, false, length, take, drop, Result, Ok, Err, refl, sym, ap, subst, ◌∙◌, arith, append_assoc, append-nil, length-append}
+use Rattle.std.proofs.Common.{◌≡◌, ◌<◌, ◌^◌, ℕ, List, [], ◌∷◌, ◌++◌, Bool, true, false, length, take, drop, Result, Ok, Err, refl, sym, ap, subst, ◌∙◌, arith, append_assoc, append-nil}
 use Rattle.std.proofs.Math.Seq.{take-append_seam}
 use Rattle.std.proofs.Math.Dec.{eqb}
 use Rattle.std.proofs.lemmas.Bool.{eqb-true, false≢true}
@@ -98,34 +98,6 @@ entry_one x y after other fits fit same =
 
 pub entry_code : IsPrefixCode entry_bytes EntryFits
 entry_code = record { one = entry_one }
-
--- the bytes end within a frame
-pub frame_without_tag : (old : List ℕ) → old ≡ [] → BeginsNone frame_bytes FrameFits old
-frame_without_tag old empty = record { none = λ x left begins. absurd (cc (empty, begins.text_is)) }
-
-pub frame_without_length : (old mid : List ℕ) (tag : ℕ) → old ≡ tag ∷ mid → length mid < 8 → BeginsNone frame_bytes FrameFits old
-frame_without_length old mid tag old_is few = record {
-  none = λ x left begins.
-      let tails : mid ≡ number_bytes 8 (length x.1) ++ (x.1 ++ left) = ap (drop 1) (sym old_is ∙ begins.text_is) ∙ frame_tail x left in
-      let count = ap length tails ∙ length-append (number_bytes 8 (length x.1)) (x.1 ++ left) in
-      absurd (omega (arith, few, count));
-}
-
-pub frame_without_body : (old mid : List ℕ) (tag count : ℕ) → old ≡ tag ∷ (number_bytes 8 count ++ mid) → count < 2 ^ 64 → length mid < count → BeginsNone frame_bytes FrameFits old
-frame_without_body old mid tag count old_is small few = record {
-  none = λ x left begins.
-      let tails : number_bytes 8 count ++ mid ≡ number_bytes 8 (length x.1) ++ (x.1 ++ left) = ap (drop 1) (sym old_is ∙ begins.text_is) ∙ frame_tail x left in
-      let counts = (number_code 8).one count (length x.1) mid (x.1 ++ left) small begins.fits tails in
-      let rest = same_left (number_bytes 8) (λ n. n < 256 ^ 8) (number_code 8) count (length x.1) mid (x.1 ++ left) small begins.fits tails in
-      let long = ap length rest ∙ length-append x.1 left in
-      absurd (omega (arith, few, counts, long));
-}
-
-pub whole_frame : (old mid body left : List ℕ) (tag count : ℕ) → old ≡ tag ∷ (number_bytes 8 count ++ mid) → mid ≡ body ++ left → length body ≡ count → count < 2 ^ 64 → BeginsWith frame_bytes FrameFits old (tag, body) left
-whole_frame old mid body left tag count old_is mid_is count_is small = record {
-  fits = subst (λ n. n < 2 ^ 64) (sym count_is) small;
-  text_is = old_is ∙ (ap (λ m. tag ∷ (number_bytes 8 count ++ m)) mid_is ∙ (ap (λ n. tag ∷ (number_bytes 8 n ++ (body ++ left))) (sym count_is) ∙ ap (λ m. tag ∷ m) (sym (append_assoc (number_bytes 8 (length body)) body left))));
-}
 
 -- an entry that its frame begins
 pub entry_begins : (old left : List ℕ) (tag : ℕ) (body : List ℕ) (entry : Entry) → BeginsWith frame_bytes FrameFits old (tag, body) left → ReadsBody tag body (Ok entry) → BeginsWith entry_bytes EntryFits old entry left

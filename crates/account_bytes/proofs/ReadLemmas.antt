@@ -1,8 +1,8 @@
 -- What reading a value says of reading another that begins with it.
-use Rattle.std.proofs.Common.{◌≡◌, ℕ, List, ◌∷◌, ◌++◌, Result, Ok, Err, refl, sym, ap, subst, ◌∙◌, append_assoc}
+use Rattle.std.proofs.Common.{◌≡◌, ℕ, List, ◌∷◌, ◌++◌, Result, Ok, Err, refl, sym, ap, subst, ◌∙◌}
 use Rattle.std.specs.Result.{IsErrAnd}
 use Rattle.byte_form.specs.Codes.{BeginsWith, BeginsNone, BothFit, IsPrefixCode, both_bytes}
-use Rattle.byte_form.proofs.CodeLemmas.{first_none, next_none}
+use Rattle.byte_form.proofs.CodeLemmas.{next_none}
 use Rattle.account_bytes.specs.declared.form.FormStop.{FormStop}
 use Rattle.account_bytes.specs.declared.form.FormStop.TheVariants.{Malformed, Memory}
 use Rattle.account_bytes.specs.Bodies.{Always}
@@ -18,13 +18,6 @@ pub passed : {A X : Type 0} (bytes_a : A → List ℕ) (FitsA : A → Type 0) (b
 passed {A} {X} bytes_a FitsA bytes Fits mid after old new call (Ok x) why was from is turn = absurd from
 passed {A} {X} bytes_a FitsA bytes Fits mid after old new call (Err e) why was from is turn =
     subst (λ stop. Reads {X = X} bytes Fits old (Err stop) new) (sym from) (stop_as bytes_a FitsA bytes Fits mid after old new why (subst (λ r. Reads bytes_a FitsA mid r after) was is) turn)
-
--- a value that is written as another is
-pub begins_by : {X A : Type 0} (bytes : X → List ℕ) (Fits : X → Type 0) (bytes_a : A → List ℕ) (FitsA : A → Type 0) (text : List ℕ) (a : A) (left : List ℕ) (x : X) → bytes x ≡ bytes_a a → Fits x → BeginsWith bytes_a FitsA text a left → BeginsWith bytes Fits text x left
-begins_by {X} {A} bytes Fits bytes_a FitsA text a left x is fits begins = record {
-  fits = fits;
-  text_is = begins.text_is ∙ ap (λ b. b ++ left) (sym is);
-}
 
 pub none_by : {X A : Type 0} (bytes : X → List ℕ) (Fits : X → Type 0) (bytes_a : A → List ℕ) (FitsA : A → Type 0) (to : X → A) (text : List ℕ) → ((x : X) → bytes x ≡ bytes_a (to x)) → ((x : X) → Fits x → FitsA (to x)) → BeginsNone bytes_a FitsA text → BeginsNone bytes Fits text
 none_by {X} {A} bytes Fits bytes_a FitsA to text is fits h = record {
@@ -43,22 +36,6 @@ tagged {X} tag fields Fits old mid new given (Ok x) first reads = record {
 tagged {X} tag fields Fits old mid new given (Err Malformed) first reads =
     next_none (tagged_bytes tag fields) Fits one_byte Always tag fields old given mid (λ x. refl) (λ x fits. tt) byte_code first reads
 tagged {X} tag fields Fits old mid new given (Err Memory) first reads = tt
-
--- no tag
-pub untagged : {X : Type 0} (tag : X → ℕ) (fields : X → List ℕ) (Fits : X → Type 0) (old : List ℕ) → BeginsNone one_byte Always old → BeginsNone (tagged_bytes tag fields) Fits old
-untagged {X} tag fields Fits old h =
-    first_none (tagged_bytes tag fields) Fits one_byte Always tag fields old (λ x. refl) (λ x fits. tt) h
-
--- one value and then another
-pub both_begin : {A B : Type 0} (bytes_a : A → List ℕ) (FitsA : A → Type 0) (bytes_b : B → List ℕ) (FitsB : B → Type 0) (old mid new : List ℕ) (a : A) (b : B) → BeginsWith bytes_a FitsA old a mid → BeginsWith bytes_b FitsB mid b new → BeginsWith (both_bytes bytes_a bytes_b) (BothFit FitsA FitsB) old (a, b) new
-both_begin {A} {B} bytes_a FitsA bytes_b FitsB old mid new a b first second = record {
-  fits = (first.fits, second.fits);
-  text_is = first.text_is ∙ (ap (λ m. bytes_a a ++ m) second.text_is ∙ sym (append_assoc (bytes_a a) (bytes_b b) new));
-}
-
-pub first_of_both : {A B : Type 0} (bytes_a : A → List ℕ) (FitsA : A → Type 0) (bytes_b : B → List ℕ) (FitsB : B → Type 0) (old : List ℕ) → BeginsNone bytes_a FitsA old → BeginsNone (both_bytes bytes_a bytes_b) (BothFit FitsA FitsB) old
-first_of_both {A} {B} bytes_a FitsA bytes_b FitsB old h =
-    first_none (both_bytes bytes_a bytes_b) (BothFit FitsA FitsB) bytes_a FitsA (λ both. both.0) (λ both. bytes_b both.1) old (λ both. refl) (λ both fits. fits.0) h
 
 pub second_of_both : {A B : Type 0} (bytes_a : A → List ℕ) (FitsA : A → Type 0) (bytes_b : B → List ℕ) (FitsB : B → Type 0) (old mid : List ℕ) (a : A) → IsPrefixCode bytes_a FitsA → BeginsWith bytes_a FitsA old a mid → BeginsNone bytes_b FitsB mid → BeginsNone (both_bytes bytes_a bytes_b) (BothFit FitsA FitsB) old
 second_of_both {A} {B} bytes_a FitsA bytes_b FitsB old mid a code first h =

@@ -1,28 +1,29 @@
 -- What the next record of version 2, or the first fault, says of the bytes, and what is left after it.
-use Rattle.std.proofs.Common.{◌≡◌, ◌≢◌, ℕ, ◌+◌, ◌-◌, ◌≤◌, Bool, true, false, List, [], ◌∷◌, ◌++◌, length, drop, Option, None, Some, IsSome, Ok, Err, refl, sym, ap, subst, ◌∙◌, arith, inl, inr, append_assoc, append-nil, length-append, length-drop}
+use Rattle.std.proofs.Common.{◌≡◌, ◌≢◌, ℕ, ◌+◌, ◌-◌, ◌≤◌, Bool, true, false, List, [], ◌∷◌, ◌++◌, length, drop, Option, None, Some, IsSome, Result, Ok, Err, refl, sym, ap, subst, ◌∙◌, arith, inl, inr, append_assoc, length-append, length-drop}
 use Rattle.std.proofs.Math.Seq.{drop-append_seam}
 use Rattle.std.proofs.lemmas.Bool.{false≢true}
 use Rattle.std.proofs.lemmas.Bool.Decides.{Decides-eqb}
 use Rattle.std.proofs.lemmas.Slice.Eq.{starts_is}
-use Rattle.byte_form.specs.Codes.{BeginsNone, BeginsWith, number_bytes}
+use Rattle.std.specs.Result.{IsErrAnd}
+use Rattle.byte_form.specs.Codes.{BeginsWith, number_bytes}
 use Rattle.byteorder.specs.Numbers.{length-bytes_high_first}
 use Rattle.account_bytes.specs.declared.entry.Entry.{Entry}
 use Rattle.account_bytes.specs.declared.reading.EntryStop.{EntryStop}
-use Rattle.account_bytes.specs.Entries.{EntryFits, FrameFits, ReadsEntry, entry_body, entry_bytes, frame_bytes}
+use Rattle.account_bytes.specs.Entries.{EntryFits, ReadsEntry, entry_body, entry_bytes}
 use Rattle.account_bytes.specs.declared.reading.EntryStop.TheVariants as stop
 use Rattle.account_file.specs.declared.record.Record.{Record}
 use Rattle.account_file.specs.declared.record.Record.TheVariants as record_of
 use Rattle.account_file.specs.declared.fault.RecordFault.{RecordFault}
 use Rattle.account_file.specs.declared.fault.RecordFault.TheVariants as fault
 use Rattle.account_file.specs.declared.place.Place.{Place}
-use Rattle.account_file.specs.declared.place.Place.TheVariants.{Start, Headed, FactLog, Logs, Ended}
+use Rattle.account_file.specs.declared.place.Place.TheVariants.{Start, Headed, Ended}
 use Rattle.account_file.specs.declared.next_record.NextRecord.{NextRecord}
 use Rattle.account_file.specs.declared.next_record.NextRecord.TheVariants.{Wait, Read, Refuse}
 use Rattle.account_file.specs.Order.{next_place, place_after}
 use Rattle.account_file.specs.TextAccounts.{AreUnderWay}
 use Rattle.account_file.specs.Binary.{FitsBy, bytes_by, is_binary, record_with, signature}
 use Rattle.account_file.specs.BinaryAccounts.{AreEntries, BinaryFault, HasBinaryFault, SaysEntry}
-use Rattle.account_file.specs.NextRecords.{BeginsRecord, EntryFound, IsBinaryNext, IsFound, IsOpen, IsRefused, Waits, answer_by, cut_off, entry_next, next_at_end}
+use Rattle.account_file.specs.NextRecords.{BeginsRecord, EntryFound, IsBinaryNext, IsFound, IsOpen, IsRefused, Waits, answer_by, entry_next, next_at_end}
 use Rattle.account_file.proofs.BinaryLemmas.{entry_back, longer_entries, malformed_stays, more_entries}
 use Rattle.account_file.proofs.OrderLemmas.{place_after_last}
 
@@ -147,25 +148,22 @@ header_begins left e =
       within = omega (arith, ap length text, length-append signature (drop 8 left));
     }
 
--- bytes that end within a record
-pub cut_next : (left : List ℕ) (finished : Bool) (place : Place) → IsOpen place → BeginsNone frame_bytes FrameFits left → IsBinaryNext left finished place (cut_off finished)
-cut_next left true place open' none = (open', refl, none)
-cut_next left false Start open' none = (open', refl, none)
-cut_next left false Headed open' none = (open', refl, none)
-cut_next left false FactLog open' none = (open', refl, none)
-cut_next left false (Logs logs) open' none = (open', refl, none)
-cut_next left false Ended open' none = absurd (open'.not_ended refl)
-
 -- nothing stands after the end
 pub ended_next : (left : List ℕ) (finished : Bool) → IsBinaryNext left finished Ended (next_at_end Ended left)
 ended_next [] finished = refl
 ended_next (byte ∷ left) finished = (refl, λ e. cc)
 
 -- why no entry is there
-pub not_found : (left new : List ℕ) (why : EntryStop) → ReadsEntry left (Err why) new → EntryFound left (Err why)
+not_found : (left new : List ℕ) (why : EntryStop) → ReadsEntry left (Err why) new → EntryFound left (Err why)
 not_found left new stop.Cut reads = reads
 not_found left new stop.Malformed reads = reads
 not_found left new stop.Memory reads = tt
+
+-- it is passed on
+pub stop_passed : (left new : List ℕ) (call : Result Entry EntryStop) (answer : Result (Record × ℕ) EntryStop) (why : EntryStop) → call ≡ Err why → IsErrAnd answer (λ e. e ≡ why) → ReadsEntry left call new → EntryFound left answer
+stop_passed left new call (Ok found) why was from reads = absurd from
+stop_passed left new call (Err e) why was from reads =
+    subst (λ stop. EntryFound left (Err stop)) (sym from) (not_found left new why (subst (λ r. ReadsEntry left r new) was reads))
 
 pub fewer_left : (left new : List ℕ) (entry : Entry) → BeginsWith entry_bytes EntryFits left entry new → length new ≤ length left
 fewer_left left new entry begins = omega (arith, ap length begins.text_is, length-append (entry_bytes entry) new)

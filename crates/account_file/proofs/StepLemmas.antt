@@ -1,7 +1,6 @@
 -- How far an account of either version was read after a step, and what its answer says of all bytes.
 use Rattle.std.proofs.Common.{◌≡◌, ◌≢◌, ℕ, ◌+◌, ◌<◌, Bool, true, false, cond, List, [], ◌∷◌, ◌++◌, length, fold, drop, All, Option, Some, None, IsSome, IfSome, is_some, Result, Ok, Err, refl, sym, ap, subst, ◌∙◌, arith, append_assoc, append-nil, length-append}
 use Rattle.std.specs.List.{flat_map}
-use Rattle.std.specs.Result.{IsErrAnd}
 use Rattle.std.proofs.lemmas.List.Elements.{All-nil, All-push}
 use Rattle.std.proofs.lemmas.Option.{IfSome_then}
 use Rattle.std.proofs.lemmas.Grind.{flat_map-append}
@@ -21,7 +20,7 @@ use Rattle.account_file.specs.Binary.{is_binary}
 use Rattle.account_file.specs.Accounts.{SaysBy, SaysNext, may_be_binary, version_by, version_of}
 use Rattle.account_file.specs.Reading.{Reading, HasRead, IsSpelled, given_by, spelled}
 use Rattle.account_file.specs.Spelling.{record_line}
-use Rattle.account_file.specs.NextRecords.{FindsNext, IsNext, StepsFrom, StepsOn, answer_by, form_at, form_of, reading_after, known_version}
+use Rattle.account_file.specs.NextRecords.{IsNext, StepsFrom, StepsOn, answer_by, form_at, form_of, reading_after, known_version}
 use Rattle.account_file.specs.Texts.{Says}
 use Rattle.account_file.proofs.BinaryReadingLemmas.{binary_fault_stays, entry_says}
 use Rattle.account_file.proofs.BinaryLemmas.{binary_longer, text_longer}
@@ -233,17 +232,6 @@ step_refused old new wrong next other is answer now =
 
 pub step_again : (old : Reading) (wrong : RecordFault) → old.fault ≡ Some wrong → StepsFrom old.fault old (Err (Fault wrong)) old
 step_again old wrong e = subst (λ f. StepsFrom f old (Err (Fault wrong)) old) (sym e) (refl, refl)
-
-memory_only : (b finished : Bool) (left : List ℕ) (place : Place) (call : FileStop) → FindsNext b left finished place (Err call) → call ≡ Memory
-memory_only b finished left place (Fault wrong) finds = absurd finds
-memory_only b finished left place Memory finds = refl
-
-pub step_stopped : (old : Reading) (b finished : Bool) (left : List ℕ) (place : Place) (call : FileStop) (result : Result (Option Record) FileStop) → ((wrong : RecordFault) → old.fault ≡ Some wrong → ⊥) → FindsNext b left finished place (Err call) → IsErrAnd result (λ e. e ≡ call)
-    → StepsFrom old.fault old result old
-step_stopped old b finished left place call (Ok found) other finds from = absurd from
-step_stopped old b finished left place call (Err stop) other finds from =
-    subst (λ f. StepsFrom f old (Err stop) old) (sym (no_fault_given old.fault other))
-    (subst (λ s. StepsFrom None old (Err s) old) (sym (from ∙ memory_only b finished left place call finds)) refl)
 
 -- the fault of an account stays where it goes on
 stays_by : (b : Bool) (bytes piece : List ℕ) (records : List Record) (wrong : RecordFault) → is_binary bytes ≡ b → SaysBy b bytes false records (Err wrong) → SaysNext (bytes ++ piece) false records (Err wrong)

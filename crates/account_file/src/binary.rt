@@ -93,13 +93,9 @@ fn entry_found(alloc: Global, left: &[u8]) -> Result<(Record, usize), EntryStop>
     ensures { EntryFound left.now result }
 {
     let mut text = ByteReader::new(left);
-    match read_entry(alloc, &mut text) {
-        Ok(entry) => {
-            let used = left.len() - text.left().len();
-            Ok((record_with(entry), used))
-        }
-        Err(stop) => Err(stop),
-    }
+    let entry = read_entry(alloc, &mut text)?;
+    let used = left.len() - text.left().len();
+    Ok((record_with(entry), used))
 }
 
 // What is done with a record that was read.

@@ -58,10 +58,6 @@ abbrev pub is_names : Directive → Bool
 is_names Names = true
 is_names other = false
 
-abbrev pub is_subckt : Directive → Bool
-is_subckt Subckt = true
-is_subckt other = false
-
 abbrev pub is_end : Directive → Bool
 is_end End = true
 is_end other = false

@@ -37,11 +37,15 @@ const MOST_QUIET: u32 = 4;
 /// and leave fewer claims to be asked.
 const BLOCKS_OF_ANSWER: u32 = 2;
 
-/// The bit of the claim that an output never falls where an input goes up, where a number has both claims of the input.
-const UP: u8 = 1;
+/// The bit of an input and an output that falls on some vector as the input rises: it breaks the claim that it never
+/// does. `cube_tables` has the same two bits.
+const FALLS: u8 = 1;
 
-/// The bit of the claim that it never falls where the input goes down.
-const DOWN: u8 = 2;
+/// The bit where it rises as the input rises, and so falls as the input falls.
+const RISES: u8 = 2;
+
+/// Both: the output is binate in the input.
+const BINATE: u8 = FALLS | RISES;
 
 /// What is known of an input of an output: by which paths it reaches the output, and whether a vector breaks the claim
 /// that the output never falls where the input goes up, or down.
@@ -80,12 +84,11 @@ impl Flips {
         }
     }
 
-    /// Bit 0 says that a vector breaks the claim for the input going up, bit 1 that one breaks the claim for it going
-    /// down.
+    /// Which of the two claims vectors break: `FALLS`, `RISES`, or both bits.
     pub(crate) fn broken(self) -> u8 {
-        let up = if self.breaks_up { UP } else { 0 };
-        let down = if self.breaks_down { DOWN } else { 0 };
-        up | down
+        let falls = if self.breaks_up { FALLS } else { 0 };
+        let rises = if self.breaks_down { RISES } else { 0 };
+        falls | rises
     }
 
     /// Whether the claim of the input with a value is broken by no vector, though it doesn't hold by paths.
@@ -122,14 +125,14 @@ impl Flips {
     pub fn is_commonly(self, kind: Tallied) -> bool {
         match kind {
             Tallied::Support => self.common > 0,
-            Tallied::Binate => self.common == UP | DOWN,
+            Tallied::Binate => self.common == BINATE,
         }
     }
 
     /// The value of a claim of the input that fails, if one does: one that vectors commonly break where there is one.
     pub fn failing_value(self) -> bool {
         if self.common > 0 {
-            self.common == DOWN
+            self.common == RISES
         } else {
             !self.breaks_up
         }

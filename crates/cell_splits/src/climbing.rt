@@ -94,27 +94,27 @@ fn next_generation(
     draws: &mut Draws,
 ) -> Result<Items<Lanes>, AllocError> {
     let best = by_changes(alloc, vectors, simulator)?;
-    let turns = [turn(draws), turn(draws), turn(draws)];
+    let rotations = [rotation(draws), rotation(draws), rotation(draws)];
     let mut next = Vec::with_capacity(alloc, vectors.len())?;
     for lanes in vectors.iter() {
-        next.push(descended(*lanes, &best, turns))?;
+        next.push(descended(*lanes, &best, rotations))?;
     }
     mutate(draws, &mut next);
     Ok(Items::from_vec(next))
 }
 
-// By how much the best vectors are turned, which there are 64 of.
-fn turn(draws: &mut Draws) -> u32 {
+// By how much the word of the best vectors is rotated, which there are 64 of.
+fn rotation(draws: &mut Draws) -> u32 {
     (draws.word() % 64) as u32
 }
 
-// What an input has on the best vectors, and on three more turns of them.
-fn descended(lanes: Lanes, best: &[usize], turns: [u32; 3]) -> Lanes {
+// What an input has on the best vectors, and on three rotations of them.
+fn descended(lanes: Lanes, best: &[usize], rotations: [u32; 3]) -> Lanes {
     let mut word = 0u64;
     for (place, lane) in best.iter().take(BEST).enumerate() {
         word |= (bit_of(lanes, *lane) as u64) << (place % 64);
     }
-    let [one, two, three] = turns;
+    let [one, two, three] = rotations;
     Lanes::from_array([
         word,
         word.rotate_left(one),

@@ -105,10 +105,10 @@ asks_make words word first second number (Some made) form is are names = record 
 }
 
 -- where the second word is no number, no pair is asked for
-pub not_make : (words : List (List ℕ)) (word : List ℕ) → get_or words 1 [] ≡ word → ((value : ℕ) → IsNumber word value → ⊥) → (wanted : MakeRequest) → AsksMake words wanted → ⊥
-not_make words word is none wanted asks =
+pub not_make : (words : List (List ℕ)) (word : List ℕ) → get_or words 1 [] ≡ word → ((value : ℕ) → IsNumber word value → ⊥) → (request : MakeRequest) → AsksMake words request → ⊥
+not_make words word is none request asks =
     let same : asks.word ≡ word = sym (ap (λ (words : List (List ℕ)). get_or words 1 []) asks.form) ∙ is in
-    none wanted.number (subst (λ w. IsNumber w wanted.number) same asks.number_is)
+    none request.number (subst (λ w. IsNumber w request.number) same asks.number_is)
 
 -- what nothing says
 pub none_says : {X : Type 0} (P : Type 0) (result : Option X) → P → IfNone result P

@@ -70,9 +70,9 @@ pub record RestoreRequest : Type 0 where
   pub restored : List ℕ
 
 -- `restore FIRST SECOND ACCOUNT NEW`
-pub record AsksRestore (words : List (List ℕ)) (wished : RestoreRequest) : Type 0 where
-  pub form : words ≡ codes "restore" ∷ wished.first ∷ wished.second ∷ wished.account ∷ wished.restored ∷ []
-  pub names : AreFourNames wished.first wished.second wished.account wished.restored
+pub record AsksRestore (words : List (List ℕ)) (request : RestoreRequest) : Type 0 where
+  pub form : words ≡ codes "restore" ∷ request.first ∷ request.second ∷ request.account ∷ request.restored ∷ []
+  pub names : AreFourNames request.first request.second request.account request.restored
 
 -- `match FIRST SECOND ACCOUNT [BUDGET [SEED]]`
 pub record AsksMatch (words : List (List ℕ)) (sought : MatchRequest) : Type 0 where
@@ -105,11 +105,11 @@ pub record MakeRequest : Type 0 where
   pub second : List ℕ
 
 -- `make NUMBER FIRST SECOND`
-pub record AsksMake (words : List (List ℕ)) (wanted : MakeRequest) : Type 0 where
+pub record AsksMake (words : List (List ℕ)) (request : MakeRequest) : Type 0 where
   pub word : List ℕ
-  pub form : words ≡ codes "make" ∷ word ∷ wanted.first ∷ wanted.second ∷ []
-  pub number_is : IsNumber word wanted.number
-  pub names : AreTwoNames wanted.first wanted.second
+  pub form : words ≡ codes "make" ∷ word ∷ request.first ∷ request.second ∷ []
+  pub number_is : IsNumber word request.number
+  pub names : AreTwoNames request.first request.second
 
 -- `trial NUMBER`
 pub record AsksTrial (words : List (List ℕ)) (number : ℕ) : Type 0 where
@@ -119,7 +119,7 @@ pub record AsksTrial (words : List (List ℕ)) (number : ℕ) : Type 0 where
 
 -- the words ask for a pair
 abbrev pub AskForPair : List (List ℕ) → Type 0
-AskForPair words = (wanted : MakeRequest) × AsksMake words wanted
+AskForPair words = (request : MakeRequest) × AsksMake words request
 
 -- the words name two netlists and an account, for a check or for a match
 abbrev pub NameThree : List (List ℕ) → List ℕ → List ℕ → List ℕ → Type 0
@@ -133,13 +133,13 @@ abbrev pub ReadFiles : List (List ℕ) → Type 0
 ReadFiles words =
     ((first second account : List ℕ) × NameThree words first second account)
     ⊎ ((file : List ℕ) × (budget : ℕ) × AsksInfo words file budget)
-    ⊎ ((wished : RestoreRequest) × AsksRestore words wished)
+    ⊎ ((request : RestoreRequest) × AsksRestore words request)
 
 -- words of no form that is known
 pub record AskNothing (words : List (List ℕ)) : Type 0 where
   pub no_check : (first second account : List ℕ) → AsksCheck words first second account → ⊥
-  pub no_restore : (wished : RestoreRequest) → AsksRestore words wished → ⊥
+  pub no_restore : (request : RestoreRequest) → AsksRestore words request → ⊥
   pub no_match : (sought : MatchRequest) → AsksMatch words sought → ⊥
   pub no_info : (file : List ℕ) (budget : ℕ) → AsksInfo words file budget → ⊥
-  pub no_make : (wanted : MakeRequest) → AsksMake words wanted → ⊥
+  pub no_make : (request : MakeRequest) → AsksMake words request → ⊥
   pub no_trial : (number : ℕ) → AsksTrial words number → ⊥

@@ -153,7 +153,7 @@ fn check_asked(words: &[String]) -> Option<Check<'_>>
 fn restore_asked(words: &[String]) -> Option<Restore<'_>>
     ensures asked { IfSome result (λ asked. AsksRestore (map string_bytes words.now) (restore_request asked)) }
     ensures not_asked { IfNone result
-        ((wished : RestoreRequest) → AsksRestore (map string_bytes words.now) wished → ⊥) }
+        ((request : RestoreRequest) → AsksRestore (map string_bytes words.now) request → ⊥) }
 {
     match words {
         [command, first, second, account, restored] if command.as_str() == "restore" => restore_of(
@@ -296,7 +296,7 @@ fn info_of(file: &str, budget: u64) -> Option<Info<'_>>
 /// The pair that the words ask for: `make`, a number, and two names that aren't empty and differ.
 fn make_asked(words: &[String]) -> Option<Make<'_>>
     ensures asked { IfSome result (λ made. AsksMake (map string_bytes words.now) (make_request made)) }
-    ensures not_asked { IfNone result ((wanted : MakeRequest) → AsksMake (map string_bytes words.now) wanted → ⊥) }
+    ensures not_asked { IfNone result ((request : MakeRequest) → AsksMake (map string_bytes words.now) request → ⊥) }
 {
     match words {
         [command, number, first, second] if command.as_str() == "make" => {

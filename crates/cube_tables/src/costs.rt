@@ -15,11 +15,11 @@ use items::Items;
 use std::alloc::{AllocError, Global};
 
 /// In how many parts a ban is counted, since less than one is expected below most ways.
-pub(crate) const PARTS: u64 = 16;
+pub(crate) const BAN_PARTS: u64 = 16;
 
 /// What a node costs at which all inputs of a cone are paired. Other outputs have to exclude it, which isn't foreseen:
 /// so many bans that an output comes late which leaves such nodes open.
-const LEAF_COST: u64 = 1_000 * PARTS;
+const LEAF_COST: u64 = 1_000 * BAN_PARTS;
 
 /// How often a first cone has no 0, and no 1, on cubes with so many fixed places: exponents of a half, two for each
 /// number of places.
@@ -168,7 +168,7 @@ fn cost_at(halves: &Halves, exponents: &[u32], costs: &[u64], places: usize, set
             best = best.min(halves.scale(cost_in(costs, next), more));
         }
     }
-    ways.saturating_mul(PARTS.saturating_add(best))
+    ways.saturating_mul(BAN_PARTS.saturating_add(best))
         .min(MOST_VALUE)
 }
 

@@ -20,6 +20,9 @@ pub(crate) const WORD: usize = 64;
 /// How many words are evaluated at once: as many as the lanes of `word_sim`.
 pub(crate) const BLOCK: usize = 8;
 
+/// How many places a set of places may have: some more than a cone has inputs, and few enough for each `usize`.
+const MOST_PLACES: usize = 32;
+
 /// How many digits there are.
 const BASE: usize = 3;
 
@@ -33,7 +36,11 @@ pub(crate) fn power(place: usize) -> usize {
 
 /// The set of one place. A set of places is a number, of which each bit says whether a place is in it.
 pub(crate) fn bit(place: usize) -> usize {
-    if place < 32 { 1usize << place } else { 0 }
+    if place < MOST_PLACES {
+        1usize << place
+    } else {
+        0
+    }
 }
 
 /// Whether a place is in a set.

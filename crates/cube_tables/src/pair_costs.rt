@@ -3,7 +3,7 @@
 ghost use Rattle.std.specs.Prelude.{◌≡◌, ◌<◌, ◌*◌, ◌^◌};
 
 use crate::cone::Cone;
-use crate::costs::{Costs, PARTS, Shares, work_of};
+use crate::costs::{BAN_PARTS, Costs, Shares, work_of};
 use crate::halves::Halves;
 use crate::tables::Tables;
 use account_core::Port;
@@ -33,7 +33,7 @@ impl PairCost {
         match self {
             PairCost::Unknown => NEVER,
             PairCost::OneBan => 1,
-            PairCost::ByInputs(costs) => (costs.at(0) / PARTS).saturating_add(1),
+            PairCost::ByInputs(costs) => (costs.at(0) / BAN_PARTS).saturating_add(1),
         }
     }
 

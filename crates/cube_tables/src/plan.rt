@@ -1,7 +1,7 @@
 //! What tables show of assigned pairs, and which port comes next.
 
 use crate::column::Column;
-use crate::costs::PARTS;
+use crate::costs::BAN_PARTS;
 use crate::cubes::{bit, has};
 use crate::exclusions::{Exclusion, LookUp, exclusion_by, wrong_prime};
 use crate::images::Images;
@@ -188,7 +188,7 @@ impl Plan {
                 let port = input_port(*input);
                 let below = self.costs.at(tabled.pair, paired | bit(place));
                 let ways = self.open_ways(alloc, assigned, port)?;
-                let cost = ways.saturating_mul(PARTS.saturating_add(below));
+                let cost = ways.saturating_mul(BAN_PARTS.saturating_add(below));
                 if is_less(cost, best) {
                     best = Some((port, cost));
                 }

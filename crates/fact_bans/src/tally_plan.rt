@@ -78,14 +78,14 @@ fn by_kind(
     let other = other_side(side);
     let having = broken.row(side, port_on(side, pair));
     let lacking = broken.row(other, port_on(other, pair));
-    let never = count_never(lacking, kind);
-    let common = count_common(having, kind);
+    let never = Asked::Unbroken.count_first(lacking, kind);
+    let common = Asked::Failing.count_first(having, kind);
     let all = broken.count(side, port_on(side, pair), kind);
     let needed = inputs.saturating_add(1).saturating_sub(never);
     let asked = needed.max(common).min(all);
-    let have = failing_values(alloc, having, kind, asked)?;
+    let have = Asked::Failing.values(alloc, having, kind, asked)?;
     let wanted = inputs.saturating_add(1).saturating_sub(asked);
-    let lack = unbroken_values(alloc, lacking, kind, wanted)?;
+    let lack = Asked::Unbroken.values(alloc, lacking, kind, wanted)?;
     match kind {
         Tallied::Support => Ok(TallyPlan {
             side,
@@ -102,94 +102,85 @@ fn by_kind(
     }
 }
 
-// In how many inputs an output can't be of a kind by paths.
-fn count_never(row: &[Flips], kind: Tallied) -> u32 {
-    let mut count = 0u32;
-    for flips in row.iter() {
-        if flips.is_never(kind) {
-            count = count.saturating_add(1);
+// Which claims of inputs are asked.
+#[derive(Clone, Copy, Drop)]
+enum Asked {
+    // Of inputs that are of a kind, claims that fail: first of those of which vectors commonly show it.
+    Failing,
+    // Of inputs that aren't known to be of it, claims that no vector breaks: first of those that can't be of it by
+    // paths, whose claims hold by structure or nearly so.
+    Unbroken,
+}
+
+impl Asked {
+    // Whether a claim of the input may be asked.
+    fn may_ask(self, flips: Flips, kind: Tallied) -> bool {
+        match self {
+            Asked::Failing => flips.is_of(kind),
+            Asked::Unbroken => !flips.is_of(kind),
         }
     }
-    count
-}
 
-// In how many inputs vectors commonly show that an output is of a kind.
-fn count_common(row: &[Flips], kind: Tallied) -> u32 {
-    let mut count = 0u32;
-    for flips in row.iter() {
-        if flips.is_commonly(kind) {
-            count = count.saturating_add(1);
+    // Whether the input is among those that come first.
+    fn is_first(self, flips: Flips, kind: Tallied) -> bool {
+        match self {
+            Asked::Failing => flips.is_commonly(kind),
+            Asked::Unbroken => flips.is_never(kind),
         }
     }
-    count
-}
 
-// For that many inputs that are of a kind the value of a claim that fails: first for those of which vectors commonly
-// show it.
-fn failing_values(
-    alloc: Global,
-    row: &[Flips],
-    kind: Tallied,
-    wanted: u32,
-) -> Result<Vec<Option<bool>>, AllocError> {
-    let mut values = vec![in alloc; None; row.len()]?;
-    let mut left = wanted;
-    for is_common in [true, false] {
-        left = set_failing(&mut values, row, kind, is_common, left);
-    }
-    Ok(values)
-}
-
-// Sets the values of that many inputs at most that are of a kind, of those of which vectors commonly show it, or of the
-// others. Answers how many values are still wanted.
-fn set_failing(
-    values: &mut [Option<bool>],
-    row: &[Flips],
-    kind: Tallied,
-    is_common: bool,
-    wanted: u32,
-) -> u32 {
-    let mut left = wanted;
-    for (flips, value) in row.iter().zip(values.iter_mut()) {
-        if (left > 0) & (flips.is_commonly(kind) == is_common) & flips.is_of(kind) {
-            *value = Some(flips.failing_value());
-            left = left.saturating_sub(1);
+    // The value of the claim that is asked.
+    fn value(self, flips: Flips) -> bool {
+        match self {
+            Asked::Failing => flips.failing_value(),
+            Asked::Unbroken => flips.holding_value(),
         }
     }
-    left
-}
 
-// For that many inputs that aren't known to be of a kind the value of a claim that no vector breaks: first for those
-// that can't be of it by paths, whose claims hold by structure or nearly so; then for others.
-fn unbroken_values(
-    alloc: Global,
-    row: &[Flips],
-    kind: Tallied,
-    wanted: u32,
-) -> Result<Vec<Option<bool>>, AllocError> {
-    let mut values = vec![in alloc; None; row.len()]?;
-    let mut left = wanted;
-    for is_never in [true, false] {
-        left = set_unbroken(&mut values, row, kind, is_never, left);
-    }
-    Ok(values)
-}
-
-// Sets the values of that many inputs at most that aren't known to be of a kind, of those that can't be of it by paths,
-// or of the others. Answers how many values are still wanted.
-fn set_unbroken(
-    values: &mut [Option<bool>],
-    row: &[Flips],
-    kind: Tallied,
-    is_never: bool,
-    wanted: u32,
-) -> u32 {
-    let mut left = wanted;
-    for (flips, value) in row.iter().zip(values.iter_mut()) {
-        if (left > 0) & (flips.is_never(kind) == is_never) & !flips.is_of(kind) {
-            *value = Some(flips.holding_value());
-            left = left.saturating_sub(1);
+    // How many of the inputs come first.
+    fn count_first(self, row: &[Flips], kind: Tallied) -> u32 {
+        let mut count = 0u32;
+        for flips in row.iter() {
+            if self.is_first(*flips, kind) {
+                count = count.saturating_add(1);
+            }
         }
+        count
     }
-    left
+
+    // For that many inputs the value of the claim that is asked.
+    fn values(
+        self,
+        alloc: Global,
+        row: &[Flips],
+        kind: Tallied,
+        wanted: u32,
+    ) -> Result<Vec<Option<bool>>, AllocError> {
+        let mut values = vec![in alloc; None; row.len()]?;
+        let mut left = wanted;
+        for is_first in [true, false] {
+            left = self.set_values(&mut values, row, kind, is_first, left);
+        }
+        Ok(values)
+    }
+
+    // Sets the values of that many inputs at most, of those that come first or of the others. Answers how many values
+    // are still wanted.
+    fn set_values(
+        self,
+        values: &mut [Option<bool>],
+        row: &[Flips],
+        kind: Tallied,
+        is_first: bool,
+        wanted: u32,
+    ) -> u32 {
+        let mut left = wanted;
+        for (flips, value) in row.iter().zip(values.iter_mut()) {
+            if (left > 0) & (self.is_first(*flips, kind) == is_first) & self.may_ask(*flips, kind) {
+                *value = Some(self.value(*flips));
+                left = left.saturating_sub(1);
+            }
+        }
+        left
+    }
 }

@@ -22,9 +22,10 @@ pub(crate) struct Focus {
     parts: Vec<Part>,
     /// The number of the gate that each variable is of, and 1 more; 0 where it is of none.
     gate_numbers: Vec<usize>,
-    /// The last turn in which each variable was one of those from which the literals are computed.
-    turns: Vec<u64>,
-    turn: u64,
+    /// The stamp of the last cone that each variable was in.
+    stamps: Vec<u64>,
+    /// The number of the present cone, by which nothing is to be cleared for the next one.
+    stamp: u64,
     /// The variables from which the literals are computed, each once: the first `cone_len` of these.
     cone: Vec<u64>,
     cone_len: usize,
@@ -42,8 +43,8 @@ impl Drop for Focus {
             gates: _gates,
             parts: _parts,
             gate_numbers: _gate_numbers,
-            turns: _turns,
-            turn: _turn,
+            stamps: _stamps,
+            stamp: _stamp,
             cone: _cone,
             cone_len: _cone_len,
             leading: _leading,
@@ -61,15 +62,15 @@ impl Focus {
             gates: Vec::new(alloc),
             parts: Vec::new(alloc),
             gate_numbers: vec![in alloc; 0; variables]?,
-            turns: vec![in alloc; 0; variables]?,
-            turn: 0,
+            stamps: vec![in alloc; 0; variables]?,
+            stamp: 0,
             cone: vec![in alloc; 0; variables]?,
             cone_len: 0,
             leading: Vec::new(alloc),
         })
     }
 
-    /// Turns to the whole question, in which these literals are decided before all other variables.
+    /// Widens the search to the whole question, in which these literals are decided before all other variables.
     pub(crate) fn widen(&mut self, leading: Vec<SatLit>) {
         self.candidate = None;
         self.is_spread = false;
@@ -133,7 +134,7 @@ impl Focus {
         }
     }
 
-    /// Turns to a candidate.
+    /// Narrows the search to a candidate.
     pub(crate) fn narrow(&mut self, candidate: Candidate) {
         self.candidate = Some(candidate);
         self.exhausted = false;
@@ -154,7 +155,7 @@ impl Focus {
     pub(crate) fn spread(&mut self) {
         self.is_spread = true;
         self.cone_len = 0;
-        self.turn = self.turn.saturating_add(1);
+        self.stamp = self.stamp.saturating_add(1);
         // nothing but its literals is decided for a part
         if let Some(Candidate::Clash(clash)) = self.candidate {
             self.include(clash.one.variable());
@@ -165,10 +166,10 @@ impl Focus {
 
     // Takes a variable into the cone, unless it is there.
     fn include(&mut self, variable: u64) {
-        if is_marked(&self.turns, self.turn, variable) {
+        if is_marked(&self.stamps, self.stamp, variable) {
             return;
         }
-        mark(&mut self.turns, self.turn, variable);
+        mark(&mut self.stamps, self.stamp, variable);
         self.cone_len = put(&mut self.cone, self.cone_len, variable);
     }
 
@@ -207,7 +208,7 @@ impl Focus {
     /// Whether a variable is to be decided: all are for the whole question, and for a candidate those from which its
     /// literals are computed. None is before that is known.
     pub(crate) fn has(&self, variable: u64) -> bool {
-        self.is_spread & (self.candidate.is_none() || is_marked(&self.turns, self.turn, variable))
+        self.is_spread & (self.candidate.is_none() || is_marked(&self.stamps, self.stamp, variable))
     }
 }
 
@@ -247,15 +248,15 @@ fn set(numbers: &mut Vec<usize>, variable: u64, number: usize) {
     }
 }
 
-fn is_marked(turns: &[u64], turn: u64, variable: u64) -> bool {
-    match turns.get(variable as usize) {
-        Some(marked) => *marked == turn,
+fn is_marked(stamps: &[u64], stamp: u64, variable: u64) -> bool {
+    match stamps.get(variable as usize) {
+        Some(marked) => *marked == stamp,
         None => false,
     }
 }
 
-fn mark(turns: &mut Vec<u64>, turn: u64, variable: u64) {
-    if variable < turns.len() as u64 {
-        turns[variable as usize] = turn;
+fn mark(stamps: &mut Vec<u64>, stamp: u64, variable: u64) {
+    if variable < stamps.len() as u64 {
+        stamps[variable as usize] = stamp;
     }
 }

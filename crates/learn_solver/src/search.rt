@@ -215,7 +215,7 @@ impl Search {
         self.tools.focus.heed(gates, parts);
     }
 
-    /// Turns to a candidate, from level 0 on.
+    /// Narrows the search to a candidate, from level 0 on.
     pub(crate) fn narrow(&mut self, candidate: Candidate)
         requires { CanMove self.old }
         ensures { KeepsClauses self.old self.new }
@@ -224,7 +224,7 @@ impl Search {
         self.back_to_root();
     }
 
-    /// Turns to the whole question, from level 0 on, in which these literals are decided before all other variables.
+    /// Widens the search to the whole question, from level 0 on: these literals are decided before all other variables.
     pub(crate) fn widen(&mut self, leading: Vec<SatLit>)
         requires { CanMove self.old }
         ensures { KeepsClauses self.old self.new }

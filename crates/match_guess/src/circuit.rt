@@ -60,7 +60,7 @@ pub(crate) struct Circuit<'a> {
     pub(crate) simulator: FlipSim<'a>,
     pub(crate) counts: Counts,
     /// In which directions outputs were seen to change with inputs, also on vectors on which gates have rare values.
-    pub(crate) signs: Counts,
+    pub(crate) directions: Counts,
     /// Whether drawn vectors leave some inputs faint. Only then are there such vectors.
     pub(crate) is_faint: bool,
 }
@@ -71,7 +71,7 @@ impl Drop for Circuit<'_> {
         let Circuit {
             simulator: _simulator,
             counts: _counts,
-            signs: _signs,
+            directions: _directions,
             is_faint: _is_faint,
         } = self;
     }
@@ -99,11 +99,11 @@ impl<'a> Circuit<'a> {
         } else {
             Items::new(alloc)
         };
-        let signs = signs_on(alloc, &rare, &mut simulator, &mut counter)?;
+        let directions = directions_on(alloc, &rare, &mut simulator, &mut counter)?;
         let circuit = Circuit {
             simulator,
             counts,
-            signs,
+            directions,
             is_faint,
         };
         Ok((circuit, rare))
@@ -160,7 +160,7 @@ fn has_faint(simulator: &FlipSim<'_>, counts: &Counts) -> bool {
 }
 
 // In which directions outputs change on blocks of vectors too.
-fn signs_on(
+fn directions_on(
     alloc: Global,
     blocks: &[Items<Lanes>],
     simulator: &mut FlipSim<'_>,
@@ -171,7 +171,7 @@ fn signs_on(
         simulator.run();
         counter.add(simulator);
     }
-    counter.signs(alloc)
+    counter.directions(alloc)
 }
 
 // Gives the inputs a block of all vectors, or a drawn one.

@@ -421,8 +421,8 @@ impl<'a> Refiner<'a> {
             return Ok(state);
         }
         let link = Link {
-            first: &self.first.signs,
-            second: &self.second.signs,
+            first: &self.first.directions,
+            second: &self.second.directions,
             slack: None,
         };
         match link.split(alloc, state.copy()?)? {

@@ -1,4 +1,4 @@
-//! Bans that claims of two inputs show of the newest pair.
+//! Bans that claims of two inputs show of the latest pair.
 
 ghost use Rattle.std.specs.Prelude.{All, Contains, IfOk, IfSome, List};
 ghost use Rattle.circuits.specs.declared.port.Pair.{Pair as AnyPair};
@@ -13,39 +13,39 @@ use cnf_core::Stop;
 use fact_bans::{SwapPairs, swap_mismatch};
 use oracle_core::Oracle;
 
-/// Makes a ban that claims of two inputs show of the newest assigned pair and two others, and answers its number; None
+/// Makes a ban that claims of two inputs show of the latest assigned pair and two others, and answers its number; None
 /// where none was shown. It goes over all pairs of others. That is cheap enough: a look compares what vectors showed of
 /// two claims, and a claim is asked only where that differs.
 pub(crate) fn exclude_by_swaps<O: Oracle>(
     graphs: &PairableGraphs<'_>,
     session: &mut Session<'_, O>,
     assigned: &[Pair],
-    newest: Pair,
+    latest: Pair,
 ) -> Result<Option<u64>, Stop>
     requires may { MayGoOn graphs.now (lent O.known session.old) }
     requires known { All (IsKnown graphs.now) assigned.now }
-    requires newest { Contains assigned.now newest }
+    requires latest { Contains assigned.now latest }
     ensures { Excludes graphs.now (lent O.known session.old) (lent O.known session.new) assigned.now result }
 {
     for other in assigned.iter() {
-        if let Some(ban) = exclude_with(graphs, session, assigned, newest, *other)? {
+        if let Some(ban) = exclude_with(graphs, session, assigned, latest, *other)? {
             return Ok(Some(ban));
         }
     }
     Ok(None)
 }
 
-// Makes a ban of the newest pair, an input's, and a third one.
+// Makes a ban of the latest pair, an input's, and a third one.
 fn exclude_with<O: Oracle>(
     graphs: &PairableGraphs<'_>,
     session: &mut Session<'_, O>,
     assigned: &[Pair],
-    newest: Pair,
+    latest: Pair,
     other: Pair,
 ) -> Result<Option<u64>, Stop>
     requires may { MayGoOn graphs.now (lent O.known session.old) }
     requires known { All (IsKnown graphs.now) assigned.now }
-    requires newest { Contains assigned.now newest }
+    requires latest { Contains assigned.now latest }
     requires other { Contains assigned.now other }
     ensures { Excludes graphs.now (lent O.known session.old) (lent O.known session.new) assigned.now result }
 {
@@ -53,7 +53,7 @@ fn exclude_with<O: Oracle>(
         return Ok(None);
     }
     for third in assigned.iter() {
-        if let Some(ban) = exclude_three(graphs, session, newest, other, *third)? {
+        if let Some(ban) = exclude_three(graphs, session, latest, other, *third)? {
             return Ok(Some(ban));
         }
     }

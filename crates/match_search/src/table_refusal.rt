@@ -243,10 +243,10 @@ fn exclude_by_swaps_at<O: Oracle>(
 {
     // assigned pairs are of ports that exist, and share none
     let _lawful = domains.entries();
-    let Some(newest) = next_assigned(domains, place) else {
+    let Some(latest) = next_assigned(domains, place) else {
         return Ok(None);
     };
-    exclude_by_swaps(graphs, session, domains.pairs(), newest)
+    exclude_by_swaps(graphs, session, domains.pairs(), latest)
 }
 
 // By claims of one input, or else by a vector.

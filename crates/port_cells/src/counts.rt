@@ -126,10 +126,10 @@ impl Counter {
 
     /// In which directions outputs were seen to change with inputs: each count is 0 or 1, whatever the vectors were
     /// drawn by. How often outputs are true isn't counted.
-    pub fn signs(&self, alloc: Global) -> Result<Counts, AllocError> {
+    pub fn directions(&self, alloc: Global) -> Result<Counts, AllocError> {
         let mut of_inputs = Items::new(alloc);
         for influences in self.of_inputs.iter() {
-            of_inputs.push(signs_of(alloc, influences)?)?;
+            of_inputs.push(directions_of(alloc, influences)?)?;
         }
         let of_outputs = by_outputs(alloc, &of_inputs, self.ones.len())?;
         Ok(Counts {
@@ -202,18 +202,18 @@ fn some_of(alloc: Global, influences: &[Influence]) -> Result<Items<Influence>, 
 }
 
 // The influences that are some, with 1 for each count that isn't 0.
-fn signs_of(alloc: Global, influences: &[Influence]) -> Result<Items<Influence>, AllocError> {
-    let mut signs = Items::new(alloc);
+fn directions_of(alloc: Global, influences: &[Influence]) -> Result<Items<Influence>, AllocError> {
+    let mut directions = Items::new(alloc);
     for influence in influences.iter() {
         if influence.changes() > 0 {
-            signs.push(Influence {
+            directions.push(Influence {
                 port: influence.port,
                 agrees: influence.agrees.min(1),
                 differs: influence.differs.min(1),
             })?;
         }
     }
-    Ok(signs)
+    Ok(directions)
 }
 
 // The influences on each output, from those of each input.

@@ -1,5 +1,5 @@
 -- What a netlist that is restored says of the words and the files, and what it leaves.
-use Rattle.std.proofs.Common.{◌≡◌, ◌≢◌, ℕ, inl, inr, Bool, IsTrue, List, length, Option, Some, Result, Ok, Err, IfOk, IfErr, refl, sym, ap, subst, ◌∙◌}
+use Rattle.std.proofs.Common.{◌≡◌, ◌≢◌, ℕ, inl, inr, Bool, IsTrue, List, length, Some, Result, Ok, Err, IfOk, IfErr, refl, sym, ap, subst, ◌∙◌}
 use Rattle.std.specs.Str.{bytes_eq}
 use Rattle.circuits.specs.Matches.{IsMatchOfFunctions}
 use Rattle.net_core.specs.declared.matching.Matching.{Matching}
@@ -115,7 +115,7 @@ module _ (tells : Bool) (asked : RestoreWords) (old now : ShelfState) (answer : 
   restorable t words asks gates same =
       let verdict = subst (IsVerdict (graphs_of answer.first answer.second) (old.held asked.account.now)) is_match (judges.verdict t) in
       record {
-        wished = restore_request asked;
+        request = restore_request asked;
         asks = asks;
         matching = matching;
         accepted = record {
@@ -139,7 +139,7 @@ module _ (tells : Bool) (asked : RestoreWords) (old now : ShelfState) (answer : 
 
   left_whole : (restored : Named) (new : ShelfState) → HasFirstPorts answer.first answer.second restored → new.held asked.restored.now ≡ Some (aig_text restored) → IsTrue tells → (words : List (List ℕ)) → AsksRestore words (restore_request asked) → HasRestored old.held new.held words (length restored.graph.gates)
   left_whole restored new ported there t words asks = record {
-    wished = restore_request asked;
+    request = restore_request asked;
     asks = asks;
     first = netlist_of judges.first.circuit answer.first;
     second = answer.second.graph;
@@ -156,7 +156,7 @@ module _ (tells : Bool) (asked : RestoreWords) (old now : ShelfState) (answer : 
       elim (restores.part t) [
         | inl same ↦ inl (λ n. everywhere old.held new.held name (λ m other. restores.others t m other ∙ judges.files m) (same ∙ judges.files name) n (bytes_eq n name) refl)
         | inr (restored, ported, first_part) ↦ inr (inr (inr (record {
-          wished = restore_request asked;
+          request = restore_request asked;
           asks = asks;
           first = netlist_of judges.first.circuit answer.first;
           second = answer.second.graph;

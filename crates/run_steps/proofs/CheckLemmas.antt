@@ -164,17 +164,17 @@ SaysTwo held first second says o = SaysFile First (held first) (SaysFile Second 
 abbrev pub SaysThree : Telling → (List ℕ → Option (List ℕ)) → List ℕ → List ℕ → List ℕ → Outcome → Type 0
 SaysThree telling held first second account o = SaysTwo held first second (SaysAccount telling held first second account) o
 
-abbrev pub wished_of : List ℕ → List ℕ → List ℕ → List ℕ → RestoreRequest
-wished_of first second account restored = record { first = first; second = second; account = account; restored = restored }
+abbrev pub request_of : List ℕ → List ℕ → List ℕ → List ℕ → RestoreRequest
+request_of first second account restored = record { first = first; second = second; account = account; restored = restored }
 
-named_restore : (words : List (List ℕ)) (wished : RestoreRequest) → AsksRestore words wished → AsksRestore words (wished_of wished.first wished.second wished.account wished.restored)
-named_restore words wished asks = record { form = asks.form; names = asks.names }
+named_restore : (words : List (List ℕ)) (request : RestoreRequest) → AsksRestore words request → AsksRestore words (request_of request.first request.second request.account request.restored)
+named_restore words request asks = record { form = asks.form; names = asks.names }
 
 -- the words ask for a check by an account, or for a netlist to be restored by one
 abbrev pub JudgeBy : List (List ℕ) → Telling → List ℕ → List ℕ → List ℕ → Type 0
 JudgeBy words telling first second account =
     (AsksCheck words first second account × (telling ≡ accepted_as))
-    ⊎ ((restored : List ℕ) × AsksRestore words (wished_of first second account restored) × (telling ≡ restored_as))
+    ⊎ ((restored : List ℕ) × AsksRestore words (request_of first second account restored) × (telling ≡ restored_as))
 
 abbrev pub SaysCheck : (List ℕ → Option (List ℕ)) → List (List ℕ) → Outcome → Type 0
 SaysCheck held words o =
@@ -282,10 +282,10 @@ judged_one words k f g t k' f' g' t' one other =
     elim one [
       | inl (asks, is) ↦ elim other [
         | inl (asks', is') ↦ let e = names_one words f g t f' g' t' asks asks' in (is' ∙ sym is, e.0, e.1, e.2)
-        | inr (r, asks', is') ↦ absurd (restore_or_check words (wished_of f' g' t' r) f g t asks' asks)
+        | inr (r, asks', is') ↦ absurd (restore_or_check words (request_of f' g' t' r) f g t asks' asks)
       ]
       | inr (r, asks, is) ↦ elim other [
-        | inl (asks', is') ↦ absurd (restore_or_check words (wished_of f g t r) f' g' t' asks asks')
+        | inl (asks', is') ↦ absurd (restore_or_check words (request_of f g t r) f' g' t' asks asks')
         | inr (r', asks', is') ↦ let same = sym asks'.form ∙ asks.form in (is' ∙ sym is, ap (word_at 1) same, ap (word_at 2) same, ap (word_at 3) same)
       ]
     ]
@@ -294,21 +294,21 @@ judged_or_nothing : (words : List (List ℕ)) (k : Telling) (f g t : List ℕ) �
 judged_or_nothing words k f g t judge nothing =
     elim judge [
       | inl (asks, is) ↦ nothing.no_check f g t asks
-      | inr (r, asks, is) ↦ nothing.no_restore (wished_of f g t r) asks
+      | inr (r, asks, is) ↦ nothing.no_restore (request_of f g t r) asks
     ]
 
 judged_or_match : (words : List (List ℕ)) (k : Telling) (f g t : List ℕ) (sought : MatchRequest) → JudgeBy words k f g t → AsksMatch words sought → ⊥
 judged_or_match words k f g t sought judge asked =
     elim judge [
       | inl (asks, is) ↦ check_or_match words f g t sought asks asked
-      | inr (r, asks, is) ↦ restore_or_match words (wished_of f g t r) sought asks asked
+      | inr (r, asks, is) ↦ restore_or_match words (request_of f g t r) sought asks asked
     ]
 
 judged_or_info : (words : List (List ℕ)) (k : Telling) (f g t file : List ℕ) (budget : ℕ) → JudgeBy words k f g t → AsksInfo words file budget → ⊥
 judged_or_info words k f g t file budget judge asked =
     elim judge [
       | inl (asks, is) ↦ check_or_info words f g t file budget asks asked
-      | inr (r, asks, is) ↦ restore_or_info words (wished_of f g t r) file budget asks asked
+      | inr (r, asks, is) ↦ restore_or_info words (request_of f g t r) file budget asks asked
     ]
 
 check_one : (held : List ℕ → Option (List ℕ)) (words : List (List ℕ)) (a b : Outcome) → SaysCheck held words a → SaysCheck held words b → a ≡ b
@@ -420,18 +420,18 @@ three_too held f g t o other says =
     ]
 
 -- what the words of a check say, words that ask for a netlist to be restored say too
-says_restore : (held : List ℕ → Option (List ℕ)) (words : List (List ℕ)) (wished : RestoreRequest) (o : Outcome) → AsksRestore words wished → ((matching : Matching) → o ≢ AcceptedMatch matching) → Says held (check_words wished.first wished.second wished.account) o → Says held words o
-says_restore held words wished o asks other says =
-    let checked = check_words wished.first wished.second wished.account in
-    let check = check_of_restore words wished asks in
+says_restore : (held : List ℕ → Option (List ℕ)) (words : List (List ℕ)) (request : RestoreRequest) (o : Outcome) → AsksRestore words request → ((matching : Matching) → o ≢ AcceptedMatch matching) → Says held (check_words request.first request.second request.account) o → Says held words o
+says_restore held words request o asks other says =
+    let checked = check_words request.first request.second request.account in
+    let check = check_of_restore words request asks in
     elim says [
-      | inl (e, nothing) ↦ absurd (nothing.no_check wished.first wished.second wished.account check)
+      | inl (e, nothing) ↦ absurd (nothing.no_check request.first request.second request.account check)
       | inr (inl (k, f, g, t, judge, fact)) ↦
-          let e = judged_one checked accepted_as wished.first wished.second wished.account k f g t (inl (check, refl)) judge in
-          let same : SaysThree accepted_as held wished.first wished.second wished.account o = subst (λ n. SaysThree n held wished.first wished.second wished.account o) e.0 (subst (λ n. SaysThree k held n wished.second wished.account o) e.1 (subst (λ n. SaysThree k held f n wished.account o) e.2 (subst (λ n. SaysThree k held f g n o) e.3 fact))) in
-          inr (inl (restored_as, wished.first, wished.second, wished.account, inr (wished.restored, named_restore words wished asks, refl), three_too held wished.first wished.second wished.account o other same))
-      | inr (inr (inl (sought, asks', fact))) ↦ absurd (check_or_match checked wished.first wished.second wished.account sought check asks')
-      | inr (inr (inr (file, budget, asks', fact))) ↦ absurd (check_or_info checked wished.first wished.second wished.account file budget check asks')
+          let e = judged_one checked accepted_as request.first request.second request.account k f g t (inl (check, refl)) judge in
+          let same : SaysThree accepted_as held request.first request.second request.account o = subst (λ n. SaysThree n held request.first request.second request.account o) e.0 (subst (λ n. SaysThree k held n request.second request.account o) e.1 (subst (λ n. SaysThree k held f n request.account o) e.2 (subst (λ n. SaysThree k held f g n o) e.3 fact))) in
+          inr (inl (restored_as, request.first, request.second, request.account, inr (request.restored, named_restore words request asks, refl), three_too held request.first request.second request.account o other same))
+      | inr (inr (inl (sought, asks', fact))) ↦ absurd (check_or_match checked request.first request.second request.account sought check asks')
+      | inr (inr (inr (file, budget, asks', fact))) ↦ absurd (check_or_info checked request.first request.second request.account file budget check asks')
     ]
 
 -- so what is right as checked is said
@@ -439,20 +439,20 @@ says_checked : (held : List ℕ → Option (List ℕ)) (words : List (List ℕ))
 says_checked held words o P each other right =
     elim right [
       | inl is ↦ each words is
-      | inr (wished, asks, is) ↦ says_restore held words wished o asks other (each (check_words wished.first wished.second wished.account) is)
+      | inr (request, asks, is) ↦ says_restore held words request o asks other (each (check_words request.first request.second request.account) is)
     ]
 
 -- a netlist is restored by an account that a check accepts
 says_restored : (held : List ℕ → Option (List ℕ)) (words : List (List ℕ)) (gates : ℕ) → IsRestorable held words gates → Says held words (Restored gates)
 says_restored held words gates is =
-    let wished = is.wished in
+    let request = is.request in
     let has = is.accepted.has in
     let graphs = is.accepted.graphs in
-    let e = names_one (check_words wished.first wished.second wished.account) wished.first wished.second wished.account has.first_name has.second_name has.account_name (check_of_restore words wished is.asks) has.asks in
+    let e = names_one (check_words request.first request.second request.account) request.first request.second request.account has.first_name has.second_name has.account_name (check_of_restore words request is.asks) has.asks in
     let first = subst (λ name. HasGraph (held name) graphs.first) e.0 has.first_held in
     let second = subst (λ name. HasGraph (held name) graphs.second) e.1 has.second_held in
     let there = subst (λ name. held name ≡ Some is.accepted.account) e.2 has.there in
-    inr (inl (restored_as, wished.first, wished.second, wished.account, inr (wished.restored, named_restore words wished is.asks, refl), inr (first.netlist, first.holds, inr (second.netlist, second.holds, inr (graphs, first, second, is.accepted.account, there, inl (verdict.Match is.matching, ap Restored is.gates_are, is.accepted.accepted))))))
+    inr (inl (restored_as, request.first, request.second, request.account, inr (request.restored, named_restore words request is.asks, refl), inr (first.netlist, first.holds, inr (second.netlist, second.holds, inr (graphs, first, second, is.accepted.account, there, inl (verdict.Match is.matching, ap Restored is.gates_are, is.accepted.accepted))))))
 
 -- a budget is spent on a file that is a netlist, or on two
 asked_of_spent : (held : List ℕ → Option (List ℕ)) (words : List (List ℕ)) (ledger : Ledgered) → IsSpentOn held words ledger → IsAskedOf held words
@@ -516,16 +516,16 @@ right_of_check held words Memory is = tt
 right_of_check held words other is = absurd is
 
 -- and so is, for words that ask for a netlist to be restored, what a check by the first three names says, but that there is a match
-pub right_of_restore : (held : List ℕ → Option (List ℕ)) (words : List (List ℕ)) (wished : RestoreRequest) (o : Outcome) → AsksRestore words wished → ((matching : Matching) → o ≢ AcceptedMatch matching) → IsOfCheck held (check_words wished.first wished.second wished.account) o → IsRight held words o
-right_of_restore held words wished (AcceptedMatch matching) asks other is = absurd (other matching refl)
-right_of_restore held words wished AcceptedRefusal asks other is = inr (wished, asks, is)
-right_of_restore held words wished (Rejected line why) asks other is = inr (wished, asks, is)
-right_of_restore held words wished (Absent which) asks other is = inr (wished, asks, is)
-right_of_restore held words wished (TooLarge which) asks other is = inr (wished, asks, is)
-right_of_restore held words wished (Malformed which kind at) asks other is = inr (wished, asks, is)
-right_of_restore held words wished ReadFault asks other is = tt
-right_of_restore held words wished Memory asks other is = tt
-right_of_restore held words wished o asks other is = absurd is
+pub right_of_restore : (held : List ℕ → Option (List ℕ)) (words : List (List ℕ)) (request : RestoreRequest) (o : Outcome) → AsksRestore words request → ((matching : Matching) → o ≢ AcceptedMatch matching) → IsOfCheck held (check_words request.first request.second request.account) o → IsRight held words o
+right_of_restore held words request (AcceptedMatch matching) asks other is = absurd (other matching refl)
+right_of_restore held words request AcceptedRefusal asks other is = inr (request, asks, is)
+right_of_restore held words request (Rejected line why) asks other is = inr (request, asks, is)
+right_of_restore held words request (Absent which) asks other is = inr (request, asks, is)
+right_of_restore held words request (TooLarge which) asks other is = inr (request, asks, is)
+right_of_restore held words request (Malformed which kind at) asks other is = inr (request, asks, is)
+right_of_restore held words request ReadFault asks other is = tt
+right_of_restore held words request Memory asks other is = tt
+right_of_restore held words request o asks other is = absurd is
 
 pub right_at_first : (held : List ℕ → Option (List ℕ)) (words : List (List ℕ)) (f g t : List ℕ) → NameThree words f g t → (o : Outcome) → EndsAt First (held f) o → IsRight held words o
 right_at_first held words f g t asks o ends = right_of_check held words o (at_first held words f g t asks o ends)
@@ -580,14 +580,14 @@ account_reads held words graphs account has = inl (has.first_name, has.second_na
 
 -- words that ask for a netlist to be restored name files too
 checked_reads : (P : List (List ℕ) → Type 0) (words : List (List ℕ)) → (P words → ReadFiles words) → AsChecked P words → ReadFiles words
-checked_reads P words reads right = elim right [ inl is ↦ reads is | inr (wished, asks, is) ↦ inr (inr (wished, asks)) ]
+checked_reads P words reads right = elim right [ inl is ↦ reads is | inr (request, asks, is) ↦ inr (inr (request, asks)) ]
 
 -- where such an outcome is right the words name files
 exact_reads : (held : List ℕ → Option (List ℕ)) (words : List (List ℕ)) (o : Outcome) → IsExact o → IsRight held words o → ReadFiles words
 exact_reads held words (AcceptedMatch matching) exact right = account_reads held words right.graphs right.account right.has
 exact_reads held words AcceptedRefusal exact right = checked_reads (λ checked. IsAccepted held checked verdict.None) words (λ is. account_reads held words is.graphs is.account is.has) right
 exact_reads held words (Rejected line why) exact right = checked_reads (λ checked. IsRejected held checked line why) words (λ is. account_reads held words is.graphs is.account is.has) right
-exact_reads held words (Restored gates) exact right = inr (inr (right.wished, right.asks))
+exact_reads held words (Restored gates) exact right = inr (inr (right.request, right.asks))
 exact_reads held words (Absent which) exact right = checked_reads (λ checked. IsAbsent held checked which) words (λ is. elim is [
   | inl early ↦ early_reads held words (Absent which) early
   | inr (e, lacks) ↦ inl (lacks.asked.first_name, lacks.asked.second_name, lacks.account_name, inl lacks.asked.asks)

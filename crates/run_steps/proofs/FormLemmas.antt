@@ -48,18 +48,18 @@ check_or_match words f g t sought check asks =
     let is : 99 ≡ 109 = sym (ap letter check.form) ∙ ap letter asks.form in
     omega (arith, is)
 
-pub restore_or_check : (words : List (List ℕ)) (wished : RestoreRequest) (f g t : List ℕ) → AsksRestore words wished → AsksCheck words f g t → ⊥
-restore_or_check words wished f g t restore check = omega (arith, ap length restore.form, ap length check.form)
+pub restore_or_check : (words : List (List ℕ)) (request : RestoreRequest) (f g t : List ℕ) → AsksRestore words request → AsksCheck words f g t → ⊥
+restore_or_check words request f g t restore check = omega (arith, ap length restore.form, ap length check.form)
 
-pub restore_or_info : (words : List (List ℕ)) (wished : RestoreRequest) (file : List ℕ) (budget : ℕ) → AsksRestore words wished → AsksInfo words file budget → ⊥
-restore_or_info words wished file budget restore info =
+pub restore_or_info : (words : List (List ℕ)) (request : RestoreRequest) (file : List ℕ) (budget : ℕ) → AsksRestore words request → AsksInfo words file budget → ⊥
+restore_or_info words request file budget restore info =
     elim info.form [
       | inl (form, is) ↦ omega (arith, ap length restore.form, ap length form)
       | inr (word, form, is) ↦ omega (arith, ap length restore.form, ap length form)
     ]
 
-pub restore_or_match : (words : List (List ℕ)) (wished : RestoreRequest) (sought : MatchRequest) → AsksRestore words wished → AsksMatch words sought → ⊥
-restore_or_match words wished sought restore asks =
+pub restore_or_match : (words : List (List ℕ)) (request : RestoreRequest) (sought : MatchRequest) → AsksRestore words request → AsksMatch words sought → ⊥
+restore_or_match words request sought restore asks =
     let letter = λ (words : List (List ℕ)). get_or (get_or words 0 []) 0 0 in
     let is : 114 ≡ 109 = sym (ap letter restore.form) ∙ ap letter asks.form in
     omega (arith, is)
@@ -78,11 +78,11 @@ third_of_read words reads =
         | inl (form, is) ↦ inr (inr (inl (ap third form)))
         | inr (word, form, is) ↦ inr (inr (inl (ap third form)))
       ]
-      | inr (inr (wished, asks)) ↦ inr (inr (inr (ap third asks.form)))
+      | inr (inr (request, asks)) ↦ inr (inr (inr (ap third asks.form)))
     ]
 
 pub read_or_make : (words : List (List ℕ)) → ReadFiles words → AskForPair words → ⊥
-read_or_make words reads (wanted, make) =
+read_or_make words reads (request, make) =
     let is : third words ≡ 107 = ap third make.form in
     elim (third_of_read words reads) [
       | inl e ↦ omega (arith, e, is)
@@ -102,7 +102,7 @@ read_or_trial words number reads trial =
     ]
 
 pub make_or_trial : (words : List (List ℕ)) (number : ℕ) → AskForPair words → AsksTrial words number → ⊥
-make_or_trial words number (wanted, make) trial =
+make_or_trial words number (request, make) trial =
     let is : 107 ≡ 105 = sym (ap third make.form) ∙ ap third trial.form in
     omega (arith, is)
 
@@ -143,8 +143,8 @@ check_of words sought asks = record {
 }
 
 -- and of what names a netlist to be restored
-pub check_of_restore : (words : List (List ℕ)) (wished : RestoreRequest) → AsksRestore words wished → AsksCheck (check_words wished.first wished.second wished.account) wished.first wished.second wished.account
-check_of_restore words wished asks = record {
+pub check_of_restore : (words : List (List ℕ)) (request : RestoreRequest) → AsksRestore words request → AsksCheck (check_words request.first request.second request.account) request.first request.second request.account
+check_of_restore words request asks = record {
   form = refl;
   first_named = asks.names.first_named;
   second_named = asks.names.second_named;

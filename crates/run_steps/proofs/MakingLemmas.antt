@@ -106,7 +106,7 @@ module _ (tells : Bool) (asked : MakeWords) (pair : GenPair) (drawn : IsDrawn as
       let first = first_read asked.number pair drawn (new.held asked.first.now) first_there in
       let second = second_read asked.number pair drawn (new.held asked.second.now) second_there in
       record {
-        wanted = make_request asked;
+        request = make_request asked;
         asks = asks;
         pair = pair;
         drawn = drawn;
@@ -121,7 +121,7 @@ module _ (tells : Bool) (asked : MakeWords) (pair : GenPair) (drawn : IsDrawn as
 
   cut : (words : List (List ℕ)) → AsksMake words (make_request asked) → (o : Outcome) → WritesPair tells asked.first.now asked.second.now (aig_text pair.first) (blif_text pair.second.graph) old new (Err o) → IsTrue tells → HasPartOfPair old.held new.held words
   cut words asks o writes t = record {
-    wanted = make_request asked;
+    request = make_request asked;
     asks = asks;
     pair = pair;
     drawn = drawn;

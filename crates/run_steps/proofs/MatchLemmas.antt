@@ -58,7 +58,7 @@ part_of held words proved is =
 -- a whole netlist is its first part
 part_of_restored : (before after : List ℕ → Option (List ℕ)) (words : List (List ℕ)) (gates : ℕ) → HasRestored before after words gates → HasPartOfRestored before after words
 part_of_restored before after words gates is = record {
-  wished = is.wished;
+  request = is.request;
   asks = is.asks;
   first = is.first;
   second = is.second;
@@ -76,7 +76,7 @@ part_of_pair : (before after : List ℕ → Option (List ℕ)) (words : List (Li
 part_of_pair before after words is =
     let text = blif_text is.pair.second.graph in
     record {
-      wanted = is.wanted;
+      request = is.request;
       asks = is.asks;
       pair = is.pair;
       drawn = is.drawn;

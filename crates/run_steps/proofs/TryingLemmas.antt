@@ -99,7 +99,7 @@ one_number words one other asks also =
 follows_tried : (held : List ℕ → Option (List ℕ)) (words : List (List ℕ)) (number : ℕ) (account : List ℕ) → AsksTrial words number → IsTrialOf number account → FollowsWords words (Tried number account)
 follows_tried held words number account asks trial = record {
   made = λ e. absurd (cc e);
-  pair = λ wanted reported. absurd (make_or_trial words number wanted asks);
+  pair = λ request reported. absurd (make_or_trial words number request asks);
   tried = λ n a e. subst (IsRight held words) e (record { asks = asks; trial = trial });
   trial = λ n also reported. inl (account, ap (λ k. Tried k account) (one_number words number n asks also));
   read = λ e. absurd (cc e);
@@ -108,7 +108,7 @@ follows_tried held words number account asks trial = record {
 follows_spent : (words : List (List ℕ)) (number : ℕ) (ledger : Ledgered) → AsksTrial words number → IsSpentOnPairOf number ledger → FollowsWords words (Spent ledger)
 follows_spent words number ledger asks spent = record {
   made = λ e. absurd (cc e);
-  pair = λ wanted reported. absurd (make_or_trial words number wanted asks);
+  pair = λ request reported. absurd (make_or_trial words number request asks);
   tried = λ n a e. absurd (cc e);
   trial = λ n also reported. inr (ledger, refl, subst (λ k. IsSpentOnPairOf k ledger) (one_number words number n asks also) spent);
   read = λ e. absurd (cc e);

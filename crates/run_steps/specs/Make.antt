@@ -35,16 +35,16 @@ pub record HasComputed (content : Option (List ℕ)) (graph : Net) (netlist : Ne
 -- The words ask for a pair, and the two files have it, the first netlist in the binary form of AIGER and the second as
 -- BLIF: netlists that its graphs compute, and of which its matching is a match.
 pub record HasMadePair (held : List ℕ → Option (List ℕ)) (words : List (List ℕ)) : Type 0 where
-  pub wanted : MakeRequest
-  pub asks : AsksMake words wanted
+  pub request : MakeRequest
+  pub asks : AsksMake words request
   pub pair : GenPair
-  pub drawn : IsDrawn wanted.number pair
-  pub first_there : held wanted.first ≡ Some (aig_text pair.first)
-  pub second_there : held wanted.second ≡ Some (blif_text pair.second.graph)
+  pub drawn : IsDrawn request.number pair
+  pub first_there : held request.first ≡ Some (aig_text pair.first)
+  pub second_there : held request.second ≡ Some (blif_text pair.second.graph)
   pub first_file : Netlist
   pub second_file : Netlist
-  pub first_read : HasComputed (held wanted.first) pair.first.graph first_file
-  pub second_read : HasComputed (held wanted.second) pair.second.graph second_file
+  pub first_read : HasComputed (held request.first) pair.first.graph first_file
+  pub second_read : HasComputed (held request.second) pair.second.graph second_file
   pub matches : IsMatch first_file.circuit second_file.circuit pair.hidden.inputs pair.hidden.outputs
 
 -- a file is as it was, or has the first bytes of a text
@@ -54,22 +54,22 @@ IsCutFrom text before after = (after ≡ before) ⊎ ((count : ℕ) × (after �
 -- The words ask for a pair, and the writing was cut off: in the first file, before the second was touched, or in the
 -- second.
 pub record HasPartOfPair (before after : List ℕ → Option (List ℕ)) (words : List (List ℕ)) : Type 0 where
-  pub wanted : MakeRequest
-  pub asks : AsksMake words wanted
+  pub request : MakeRequest
+  pub asks : AsksMake words request
   pub pair : GenPair
-  pub drawn : IsDrawn wanted.number pair
+  pub drawn : IsDrawn request.number pair
   pub part :
-      (IsCutFrom (aig_text pair.first) (before wanted.first) (after wanted.first) × (after wanted.second ≡ before wanted.second))
-      ⊎ ((after wanted.first ≡ Some (aig_text pair.first))
-      × IsCutFrom (blif_text pair.second.graph) (before wanted.second) (after wanted.second))
+      (IsCutFrom (aig_text pair.first) (before request.first) (after request.first) × (after request.second ≡ before request.second))
+      ⊎ ((after request.first ≡ Some (aig_text pair.first))
+      × IsCutFrom (blif_text pair.second.graph) (before request.second) (after request.second))
 
 -- the words ask for a match, for a pair or for a netlist to be restored, which are written
 abbrev pub WriteFiles : List (List ℕ) → Type 0
 WriteFiles words =
     ((sought : MatchRequest) × AsksMatch words sought)
-    ⊎ ((wanted : MakeRequest) × AsksMake words wanted)
-    ⊎ ((wished : RestoreRequest) × AsksRestore words wished)
+    ⊎ ((request : MakeRequest) × AsksMake words request)
+    ⊎ ((request : RestoreRequest) × AsksRestore words request)
 
 -- the words ask for a pair, of which one file has this name
 abbrev pub NamesPair : List (List ℕ) → List ℕ → Type 0
-NamesPair words name = (wanted : MakeRequest) × AsksMake words wanted × ((name ≡ wanted.first) ⊎ (name ≡ wanted.second))
+NamesPair words name = (request : MakeRequest) × AsksMake words request × ((name ≡ request.first) ⊎ (name ≡ request.second))

@@ -15,15 +15,15 @@ use Rattle.check_steps.specs.Words.{AsksRestore, RestoreRequest, check_words}
 -- this is so of the words, or they ask for a netlist to be restored and it is so of a check by the first three names
 abbrev pub AsChecked : (List (List ℕ) → Type 0) → List (List ℕ) → Type 0
 AsChecked P words =
-    P words ⊎ ((wished : RestoreRequest) × AsksRestore words wished × P (check_words wished.first wished.second wished.account))
+    P words ⊎ ((request : RestoreRequest) × AsksRestore words request × P (check_words request.first request.second request.account))
 
 -- The words ask for a netlist to be restored, and a check by the first three names accepts the account: it proves that
 -- a matching is a match. The second netlist's graph has so many gates.
 pub record IsRestorable (held : List ℕ → Option (List ℕ)) (words : List (List ℕ)) (gates : ℕ) : Type 0 where
-  pub wished : RestoreRequest
-  pub asks : AsksRestore words wished
+  pub request : RestoreRequest
+  pub asks : AsksRestore words request
   pub matching : Matching
-  pub accepted : IsAccepted held (check_words wished.first wished.second wished.account) (verdict.Match matching)
+  pub accepted : IsAccepted held (check_words request.first request.second request.account) (verdict.Match matching)
   pub gates_are : gates ≡ length accepted.graphs.second.gates
 
 -- The bytes are a file of the binary form of AIGER: a netlist that has the ports of a first one, in their order and
@@ -39,30 +39,30 @@ pub record IsRestored (first : Netlist) (second : Net) (gates : ℕ) (bytes : Li
 
 -- The words ask for a netlist to be restored, and the new file has it.
 pub record HasRestored (before after : List ℕ → Option (List ℕ)) (words : List (List ℕ)) (gates : ℕ) : Type 0 where
-  pub wished : RestoreRequest
-  pub asks : AsksRestore words wished
+  pub request : RestoreRequest
+  pub asks : AsksRestore words request
   pub first : Netlist
   pub second : Net
-  pub first_held : HasNetlist (before wished.first) first
-  pub second_held : HasGraph (before wished.second) second
+  pub first_held : HasNetlist (before request.first) first
+  pub second_held : HasGraph (before request.second) second
   pub bytes : List ℕ
-  pub there : after wished.restored ≡ Some bytes
+  pub there : after request.restored ≡ Some bytes
   pub restored : IsRestored first second gates bytes
 
 -- The words ask for a netlist to be restored, and the new file has the first bytes of it.
 pub record HasPartOfRestored (before after : List ℕ → Option (List ℕ)) (words : List (List ℕ)) : Type 0 where
-  pub wished : RestoreRequest
-  pub asks : AsksRestore words wished
+  pub request : RestoreRequest
+  pub asks : AsksRestore words request
   pub first : Netlist
   pub second : Net
-  pub first_held : HasNetlist (before wished.first) first
-  pub second_held : HasGraph (before wished.second) second
+  pub first_held : HasNetlist (before request.first) first
+  pub second_held : HasGraph (before request.second) second
   pub gates : ℕ
   pub bytes : List ℕ
   pub restored : IsRestored first second gates bytes
   pub count : ℕ
-  pub part : after wished.restored ≡ Some (take count bytes)
+  pub part : after request.restored ≡ Some (take count bytes)
 
 -- the words ask for a netlist to be restored in a file of this name
 abbrev pub NamesRestored : List (List ℕ) → List ℕ → Type 0
-NamesRestored words name = (wished : RestoreRequest) × AsksRestore words wished × (name ≡ wished.restored)
+NamesRestored words name = (request : RestoreRequest) × AsksRestore words request × (name ≡ request.restored)

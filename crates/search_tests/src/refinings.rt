@@ -329,7 +329,7 @@ static FATES: [(Pair, Fate); 6] = [
 ];
 
 #[test]
-fn tells_why_pairs_are_deleted(rt: HostRuntime) -> Result<(), Fail> {
+fn gives_the_reasons_of_deleted_pairs(rt: HostRuntime) -> Result<(), Fail> {
     for (asked, fate) in FATES.iter() {
         let (_, found) = refined(rt.alloc(), AND, AND, &[OUTPUT], *asked)?;
         assert_eq!(rt; (*asked, found), (*asked, *fate));

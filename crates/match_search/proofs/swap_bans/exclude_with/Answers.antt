@@ -14,7 +14,7 @@ exclude_three-requires g c =
     let known = All-contains (IsKnown c.args.graphs.now) c.args.assigned.now in
     record {
       may = may_ask_on c.requires.may c.loop-third.invariant;
-      one_known = known c.args.newest c.requires.known c.requires.newest;
+      one_known = known c.args.latest c.requires.known c.requires.latest;
       other_known = known c.args.other c.requires.known c.requires.other;
       third_known = c.requires.known c.loop-third.third-index _ c.loop-third-test.true;
     }
@@ -31,7 +31,7 @@ returns-in_err-ban g c = record {
 pub returns-in-Some : goal.returns-in-Some
 returns-in-Some g c = record {
   goes_on = goes_ok (gone_more c.loop-third.invariant c.in_ok-ban.ensures.goes_on);
-  covers = rw c.in-Some.is at (c.in_ok-ban.ensures.covers c.args.assigned.now c.requires.newest c.requires.other (Contains-get_or c.args.assigned.now c.loop-third.third-index _ c.loop-third-test.true));
+  covers = rw c.in-Some.is at (c.in_ok-ban.ensures.covers c.args.assigned.now c.requires.latest c.requires.other (Contains-get_or c.args.assigned.now c.loop-third.third-index _ c.loop-third-test.true));
 }
 
 pub returns : goal.returns

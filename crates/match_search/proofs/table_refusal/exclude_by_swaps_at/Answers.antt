@@ -16,7 +16,7 @@ exclude_by_swaps-requires g c =
     record {
       may = c.requires.may.may;
       known = (subst (AreAssignable c.args.graphs.now) (sym c.pairs.ensures.value) (assigned_known c.args.graphs.now d.inputs d.outputs d.entries c.requires.may.trail.trail.fit c.entries-lawful.ensures.lawful)).known;
-      newest = subst (λ (assigned : List Pair). Contains assigned c.in-Some.newest) (sym c.pairs.ensures.value) (rw c.in-Some.is at c.next_assigned.ensures);
+      latest = subst (λ (assigned : List Pair). Contains assigned c.in-Some.latest) (sym c.pairs.ensures.value) (rw c.in-Some.is at c.next_assigned.ensures);
     }
 
 pub returns : goal.returns
