@@ -21,7 +21,8 @@ use Rattle.account_file.specs.declared.names.StepName.{StepName}
 use Rattle.account_file.specs.declared.names.StepName.TheVariants as step_name
 use Rattle.account_file.specs.declared.names.NoneName.{NoneName}
 use Rattle.account_file.specs.declared.names.NoneName.TheVariants as none_name
-use Rattle.account_file.specs.Spelling.{pair_word, reference_word, tallied_word, kind_word, shape_words, claim_words, step_words, ShapeHasPorts, ClaimHasPorts, StepHasNumbers}
+use Rattle.account_bytes.specs.Bodies.{ShapeHasPorts, ClaimHasPorts}
+use Rattle.account_file.specs.Spelling.{pair_word, reference_word, tallied_word, kind_word, shape_words, claim_words, step_words, StepHasNumbers}
 use Rattle.account_file.specs.Forms.{Parsed, followed, next_by, list_by, last_part, named, is_separator, number_of, port_of, literal_of, reference_of, pair_of, bits_of, tris_of, two_bits_of, side_of, kind_of, tallied_of, shape_name_of, shape_word, step_name_of, step_word, none_name_of, none_word, record_name_of, record_word, shape_by, shape_of, claim_of, step_by, step_of, none_by, record_by, record_in}
 use Rattle.account_file.proofs.ReadLemmas.{Words, Rest, CanEnd, IsRead, IsWord, next_read, list_read, end_named, end_last, last_read, nested_read, nested_end}
 use Rattle.account_file.proofs.ValueLemmas.{port_is_word, number_is_word, literal_word, literal_is_word, reference_is_word, pair_is_word}

@@ -16,7 +16,8 @@ use Rattle.account_file.specs.declared.record.Record.TheVariants as record_of
 use Rattle.account_file.specs.declared.fault.RecordFault.{RecordFault}
 use Rattle.account_file.specs.Forms.{Parsed, followed, with_words, next_by, with_item, list_by, last_part, bits_of, shape_of, claim_of, step_of, record_in_front, record_in}
 use Rattle.account_file.specs.Words.{words_of}
-use Rattle.account_file.specs.Spelling.{bits_word, tris_word, reference_word, shape_words, claim_words, step_words, first_word, other_words, line_text, record_line, ShapeHasPorts, ClaimHasPorts, StepHasNumbers, IsWritable}
+use Rattle.account_bytes.specs.Bodies.{ShapeHasPorts, ClaimHasPorts}
+use Rattle.account_file.specs.Spelling.{bits_word, tris_word, reference_word, shape_words, claim_words, step_words, first_word, other_words, line_text, record_line, StepHasNumbers, IsWritable}
 use Rattle.account_file.proofs.GrammarLemmas.{line_is_read}
 use Rattle.account_file.proofs.NameLemmas.{side_is_word, side_back, kind_is_word, kind_back, tallied_is_word, tallied_back, bits_is_word, tris_is_word, two_bits_word, two_bits_is_word}
 use Rattle.account_file.proofs.ReadLemmas.{IsWord, record_words, stops, list_stops}

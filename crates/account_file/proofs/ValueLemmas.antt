@@ -16,7 +16,8 @@ use Rattle.account_file.specs.declared.fault.RecordFault.{RecordFault}
 use Rattle.account_file.specs.declared.fault.RecordFault.TheVariants.{Word, Number}
 use Rattle.circuits.specs.Ports.{kind_of_letter, letter_of}
 use Rattle.account_file.specs.Forms.{number_below, bad_number, or_fault, number_of, port_of, mapped, literal_with, literal_of, numbered, reference_of, flip_of_sign, pair_by, pair_after, pair_in, pair_of, is_separator}
-use Rattle.account_file.specs.Spelling.{sign_of, pair_word, reference_word, IsPort, IsNumber, HasPorts, IsReference}
+use Rattle.account_bytes.specs.Bodies.{IsPort, IsNumber, HasPorts, IsReference}
+use Rattle.account_file.specs.Spelling.{sign_of, pair_word, reference_word}
 use Rattle.account_file.proofs.NumberLemmas.{decimal_digits, decimal_numeral, number_read, number_written}
 use Rattle.account_file.proofs.ReadLemmas.{IsWord, IsWordOrNumber, Wrote, digits_no_separator}
 use Rattle.account_file.proofs.SpellingLemmas.{IsVisible, shown, digits_visible, digits_front}

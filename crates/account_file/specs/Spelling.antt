@@ -1,5 +1,5 @@
 -- An account as text: the one line of each record (this project's format).
-use Rattle.std.specs.Prelude.{ℕ, ◌<◌, ◌^◌, All, Bool, List, [], ◌∷◌, ◌++◌, codes, map, Option, None, Some, if◌then◌else◌}
+use Rattle.std.specs.Prelude.{ℕ, All, Bool, List, [], ◌∷◌, ◌++◌, codes, map, Option, None, Some, if◌then◌else◌}
 use Rattle.std.specs.Fmt.{decimal}
 use Rattle.std.proofs.Props.{props}
 use Rattle.std.specs.List.{flat_map}
@@ -22,6 +22,7 @@ use Rattle.account_core.specs.declared.step.Step.{Step}
 use Rattle.account_core.specs.declared.step.Step.TheVariants.{Vector, Mismatch, Tally, Cover}
 use Rattle.account_core.specs.declared.step.Tallied.{Tallied}
 use Rattle.account_core.specs.declared.step.Tallied.TheVariants.{Support, Binate}
+use Rattle.account_bytes.specs.Bodies.{IsPort, IsNumber, HasPorts, ClaimHasPorts, IsReference}
 use Rattle.account_file.specs.declared.record.Record.{Record}
 use Rattle.account_file.specs.declared.record.Record.TheVariants as record_of
 
@@ -128,33 +129,9 @@ line_text entry = first_word entry ++ spaced (other_words entry)
 abbrev pub record_line : Record → List ℕ
 record_line entry = line_text entry ++ 10 ∷ []
 
--- Ports and outputs have 32 bits, all other numbers 64.
-abbrev pub IsPort : ℕ → Type 0
-IsPort number = number < 2 ^ 32
-
-abbrev pub IsNumber : ℕ → Type 0
-IsNumber number = number < 2 ^ 64
-
-pub record HasPorts (pair : Pair) : Type 0 where
-  pub from : IsPort pair.from
-  pub to : IsPort pair.to
-
-abbrev pub ShapeHasPorts : Shape → Type 0
-ShapeHasPorts (Up i) = IsPort i
-ShapeHasPorts (Down i) = IsPort i
-ShapeHasPorts (Swap i j a b) = IsPort i × IsPort j
-
-pub record ClaimHasPorts (claim : Claim) : Type 0 where
-  pub output : IsPort claim.output
-  pub shape : ShapeHasPorts claim.shape
-
 pub record HasNumbers (line : LogLine) : Type 0 where
   pub literals : All (λ literal. IsNumber literal.0) line.clause
   pub hints : All IsNumber line.hints
-
-abbrev pub IsReference : Option ℕ → Type 0
-IsReference (Some ban) = IsNumber ban
-IsReference None = Unit {0}
 
 abbrev pub StepHasNumbers : Step → Type 0
 StepHasNumbers (Vector output tris) = IsPort output

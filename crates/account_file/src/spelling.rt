@@ -3,9 +3,9 @@
 ghost use Rattle.std.specs.Prelude.{◌≡◌, ℕ, List, [], ◌∷◌, ◌++◌, codes, All, OnOk, OnErr, map};
 ghost use Rattle.std.specs.Fmt.{decimal as digits_of_number};
 ghost use Rattle.circuits.specs.Ports.{letter_of};
-ghost use Rattle.account_file.specs.Spelling.{BanHasNumbers, ClaimHasPorts, HasLine, HasNumbers, HasPorts};
-ghost use Rattle.account_file.specs.Spelling.{IsNumber, IsPort};
-ghost use Rattle.account_file.specs.Spelling.{IsReference, IsWritable, ShapeHasPorts, StepHasNumbers};
+ghost use Rattle.account_bytes.specs.Bodies.{ClaimHasPorts, HasPorts, IsNumber, IsPort, IsReference, ShapeHasPorts};
+ghost use Rattle.account_file.specs.Spelling.{BanHasNumbers, HasLine, HasNumbers};
+ghost use Rattle.account_file.specs.Spelling.{IsWritable, StepHasNumbers};
 ghost use Rattle.account_file.specs.Spelling.{bit_digit, bits_word, claim_words, kind_word, line_text};
 ghost use Rattle.account_file.specs.Spelling.{pair_word, record_line, reference_word, shape_words, side_word, sign_of};
 ghost use Rattle.account_file.specs.Spelling.{spaced, step_words, tallied_word, tri_digit, tris_word};
