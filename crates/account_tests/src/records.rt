@@ -14,6 +14,7 @@ use std::alloc::{AllocError, Global};
 use std::test::Fail;
 use word_sim::Tri;
 
+/// A pair of inputs that is inverted, and one of outputs.
 const PAIRS: [Pair; 2] = [
     Pair {
         kind: PortKind::Input,
@@ -235,6 +236,7 @@ l : 7 8 4 5 3
 end
 ";
 
+/// A refusal by the numbers of ports, which has no other line.
 const OTHER_PORT_COUNTS: &str = "npnp 1\nnone ports\nend\n";
 
 /// Whether an account of n lines is read whole, and written out again as it stands, where it is cut there.

@@ -288,20 +288,27 @@ fn port_of(best: Option<(Port, u64)>) -> Option<Port> {
     Some(port)
 }
 
+// Whether no column excludes a way. Each assigned pair of outputs has a column with entries of its own, so all are
+// asked; a refusal as foreseen has one.
 fn is_open(columns: &[Column<'_>], pair: Pair) -> bool {
     !columns.iter().any(|column| column.excludes(pair))
 }
 
+// Whether an input of the first circuit is in an assigned pair. The list is scanned, since it is short: a refusal as
+// foreseen has an output's pair, and those of the inputs that it reaches, `MOST_INPUTS` at most. Another output's pair
+// comes only where all of these inputs have partners.
 fn is_taken(assigned: &[Pair], from: u32) -> bool {
     assigned.iter().any(|pair| (pair.kind == PortKind::Input) & (pair.from == from))
 }
 
+// Whether a port of the second circuit is in an assigned pair. The same short list is scanned.
 fn is_paired(assigned: &[Pair], port: Port) -> bool {
     assigned
         .iter()
         .any(|pair| (pair.kind == port.kind) & (pair.to == port.number))
 }
 
+// Whether the second output reads an input that isn't paired. It reads `MOST_INPUTS` inputs at most.
 fn has_free_input(tabled: &TabledPair<'_>, assigned: &[Pair]) -> bool {
     tabled
         .second

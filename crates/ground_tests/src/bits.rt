@@ -4,6 +4,7 @@ use bit_list::Bits;
 use std::alloc::{AllocError, Global};
 use std::test::Fail;
 
+/// How many bits the lists have.
 static LENGTHS: [usize; 6] = [0, 1, 63, 64, 65, 130];
 
 fn every_third(alloc: Global, count: usize) -> Result<Vec<bool>, AllocError> {

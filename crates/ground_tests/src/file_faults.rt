@@ -88,6 +88,7 @@ fn keeps_it(
     Ok((refused == ShelfStop::Failed) & (kept.as_str() == "m"))
 }
 
+/// Why a name is refused to a writer.
 const USED: &str = "this run has read or made it already, by this name or another";
 
 /// Whether a file that was made or read is refused to a writer by its name, a path and a link, and that is reported.

@@ -35,7 +35,7 @@ impl Patience {
 
     /// Counts choice points that were left, all of whose guesses failed.
     pub(crate) fn leave(&mut self, points: usize) {
-        let shares = (points % (1 << 32)) as u32;
+        let shares = (points as u64).min(u64::from(u32::MAX)) as u32;
         self.left = self
             .left
             .saturating_sub(shares.saturating_mul(self.of_point));

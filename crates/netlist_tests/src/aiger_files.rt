@@ -20,6 +20,7 @@ type File = (
     &'static [u8],
 );
 
+// Netlists in both forms of AIGER.
 static NETLISTS: [File; 10] = [
     // an AND gate in both forms
     (
@@ -122,6 +123,7 @@ fn reads_netlists(rt: HostRuntime) -> Result<(), Fail> {
 // A file, and the names of its inputs and of its outputs.
 type Names = (&'static [u8], &'static [u8], &'static [u8]);
 
+// Names of ports in the symbols of either form, and beside comments.
 static NAMES: [Names; 7] = [
     // a name with a blank, and a comment
     (
@@ -162,6 +164,7 @@ fn reads_names(rt: HostRuntime) -> Result<(), Fail> {
     Ok(())
 }
 
+// Files that are refused, by what is wrong with them first.
 static FAULTS: [FaultRow; 65] = [
     // no header of either form
     (b"", NetKind::Header, 0),

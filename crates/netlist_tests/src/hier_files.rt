@@ -92,6 +92,7 @@ fn reads_models_of_instances(rt: HostRuntime) -> Result<(), Fail> {
     Ok(())
 }
 
+// Files, and their models.
 static MODELS: [(&'static [u8], &'static [u8]); 6] = [
     // without a `.model` line there is one model, which has no name
     (b"", b"@0;"),
@@ -120,6 +121,7 @@ fn reads_models_of_all_forms(rt: HostRuntime) -> Result<(), Fail> {
     Ok(())
 }
 
+// Files of which a line is refused: the kind of its fault, and where it stands.
 static FAULTS: [(&'static [u8], HierKind, u64); 20] = [
     (b".model\n", HierKind::ModelName, 0),
     (b".model a\n.model a\n", HierKind::ModelName, 9),
@@ -171,6 +173,7 @@ fn check_file(alloc: Global, file: &[u8]) -> Result<(), HierStop> {
     check_names(alloc, &models)
 }
 
+// Files whose names have no fault.
 static NAMED: [&'static [u8]; 4] = [
     b".inputs\n.outputs\n",
     b".model top\n.inputs a b\n.outputs y\n.subckt nd p=a q=b r=t\n.subckt nd p=t q=t r=y\n.end\n\
@@ -190,6 +193,7 @@ fn takes_names_without_a_fault(rt: HostRuntime) -> Result<(), Fail> {
     Ok(())
 }
 
+// Files whose lines are taken and whose names have a fault: its kind, and where it stands.
 static NAME_FAULTS: [(&'static [u8], HierKind, u64); 16] = [
     (b"", HierKind::NoPortLine, 0),
     // a model without a port line comes before what repeats in an earlier one
@@ -288,6 +292,7 @@ fn check_hierarchy(alloc: Global, file: &[u8]) -> Result<(), HierStop> {
     check_models(alloc, &models, file.len() as u64)
 }
 
+// Files whose instances have no end, or whose names are refused before: the kind of the fault, and where it stands.
 static FAULTS_OF_HIERARCHIES: [(&'static [u8], HierKind, u64); 4] = [
     (
         b".model t\n.inputs a\n.outputs y\n.subckt t a=a y=y\n",

@@ -20,6 +20,7 @@ const REVERSED: &[u8] = b"aag 4 2 0 1 2\n2\n4\n8\n8 6 2\n6 2 4\n";
 /// One input and one output, with symbols and a comment.
 const NAMED: &[u8] = b"aag 1 1 0 1 0\n2\n2\ni0 in put\no0 q\nc\nx";
 
+/// Accounts of netlists in AIGER that are accepted or rejected, or of which a file is refused.
 static OF_AIGER: [Row; 9] = [
     Row {
         files: [A, B, TABLE],
@@ -139,15 +140,17 @@ const C17_ACCOUNT: &[u8] =
       l 22 35 : 34 35 40 41 18\nl : 37 38 42\nl 15 24 : 4 5 21\nl 16 29 : 25 26 39 9\nl 18 31 : 28 29 39 12\n\
       l 23 34 : 16 17 40 41 36\nl : 37 38 42\nend\n";
 
-/// The NAND of two inputs, and an account that pairs the ports of two such circuits in their order.
+/// The NAND of two inputs.
 const NAND: &[u8] = b".inputs a b\n.outputs y\n.names a b y\n11 0\n";
 
+/// Pairs the ports of two NANDs in their order.
 const TWO_TO_ONE: &[u8] = b"npnp 1\nmatch i0+0 i1+1 o0+0\nl : 7 8 4 5 3\nl : 7 8 1 2 6\nend\n";
 
 /// Covers in front of the ports, a continued line, and both constants.
 const MIXED: &[u8] =
     b".names a b y\n11 0\n.names one\n1\n.names zero\n.inputs a \\ # more\nb\n.outputs y one zero\n";
 
+/// Accounts of netlists of which one at least is in BLIF.
 static OF_BOTH_FORMATS: [Row; 5] = [
     Row {
         files: [C17, C17_MOVED, C17_ACCOUNT],

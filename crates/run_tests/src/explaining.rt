@@ -187,7 +187,7 @@ fn says_which_line_is_wrong(rt: HostRuntime) -> Result<(), Fail> {
     Ok(())
 }
 
-/// Accounts that are only read for what their last exclusions say.
+/// An account that is only read for what its last exclusions say: a cover of inputs, whose ways a mismatch excludes.
 const BY_MISMATCH: &[u8] = b"npnp 1\n\
       fails b 0 up 1 =10\n\
       holds a 0 up 0\n\
@@ -197,6 +197,7 @@ const BY_MISMATCH: &[u8] = b"npnp 1\n\
       none ban 1\n\
       end\n";
 
+/// Another such account: its last exclusion is a cover of an output, whose way a vector excludes.
 const BY_VECTOR: &[u8] =
     b"npnp 1\nban o0-0 : vector 0 =11\nban : cover out 0 / 0 / 0 0\nnone ban 1\nend\n";
 

@@ -41,9 +41,10 @@ pub(crate) const C17_MOVED: &[u8] =
 /// The exclusive or of two inputs.
 pub(crate) const XOR: &[u8] = b"aag 5 2 0 1 3\n2\n4\n10\n6 2 4\n8 3 5\n10 7 9\n";
 
-/// Three inputs and nothing else, and two.
+/// Three inputs and nothing else.
 pub(crate) const THREE: &[u8] = b"aag 3 3 0 0 0\n2\n4\n6\n";
 
+/// Two inputs and nothing else.
 pub(crate) const TWO: &[u8] = b"aag 2 2 0 0 0\n2\n4\n";
 
 /// The exclusive or falls and rises with either input, and the AND never falls where its first input rises.

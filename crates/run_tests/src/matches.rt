@@ -37,22 +37,25 @@ fn seek(rt: &impl Abort, alloc: Global, row: &Sought) -> Result<(), Fail> {
 /// Nothing may be learned.
 const WITHOUT_BUDGET: &[&str] = &["match", "A", "B", "t", "0"];
 
-/// Whether exactly two of four inputs are 1, and whether an odd number of them are.
+/// Whether exactly two of four inputs are 1.
 const TWO_OF_FOUR: &[u8] =
     b".inputs a b c d\n.outputs y\n.names a b c d y\n1100 1\n1010 1\n1001 1\n0110 1\n0101 1\n0011 1\n";
 
+/// Whether an odd number of four inputs are 1.
 const ODD_OF_FOUR: &[u8] =
     b".inputs a b c d\n.outputs y\n.names a b c d y\n1000 1\n0100 1\n0010 1\n0001 1\n1110 1\n1101 1\n1011 1\n0111 1\n";
 
-/// An AND of four inputs, and the same names, the inputs in another order.
+/// An AND of four inputs with names.
 const FOUR_NAMES: &[u8] = b".inputs a b c d\n.outputs y\n.names a b c d y\n1111 1\n";
 
+/// The same AND and the same names, the inputs in another order.
 const FOUR_NAMES_REVERSED: &[u8] = b".inputs d c b a\n.outputs y\n.names d c b a y\n1111 1\n";
 
-/// Two outputs, and two that are the same ones where each name stands for another input.
+/// Two outputs over three inputs with names.
 const THREE_NAMES: &[u8] =
     b".inputs a b c\n.outputs y z\n.names a b c y\n11- 1\n1-1 1\n.names b c z\n10 1\n";
 
+/// The same two outputs, where each name stands for another input.
 const THREE_NAMES_LIE: &[u8] =
     b".inputs a b c\n.outputs y z\n.names c a b y\n11- 1\n1-1 1\n.names a b z\n10 1\n";
 
@@ -60,6 +63,7 @@ const THREE_NAMES_LIE: &[u8] =
 const THREE_NAMES_MISS: &[u8] =
     b".inputs a b c\n.outputs y z\n.names a b c y\n11- 1\n1-1 1\n.names b z\n1 1\n";
 
+/// Netlists with a match, by names and against them, and netlists without, by small budgets as well.
 static SOUGHT: [Sought; 12] = [
     // by names, though places and the order of the gates say otherwise
     Sought {
@@ -174,6 +178,7 @@ type Written = (
     Option<&'static [u8]>,
 );
 
+/// A search's ends, a match, a refusal and a spent budget, with all that is written.
 static WRITTEN: [Written; 8] = [
     (
         MATCH,
@@ -286,16 +291,17 @@ fn accepts_the_most_inputs(rt: HostRuntime) -> Result<(), Fail> {
     Ok(())
 }
 
-/// The inputs of a netlist of 30 inputs in two orders, and what is the same: a chain of covers, each of which reads
-/// three inputs more.
+/// The inputs of a netlist of 30 inputs.
 const THIRTY: &[u8] =
     b".inputs x0 x1 x2 x3 x4 x5 x6 x7 x8 x9 x10 x11 x12 x13 x14 x15 x16 x17 x18 x19 x20 x21 x22 x23 x24 x25 x26 x27 \
       x28 x29";
 
+/// The same inputs in another order.
 const THIRTY_SHUFFLED: &[u8] =
     b".inputs x4 x26 x13 x2 x10 x9 x29 x24 x12 x17 x28 x6 x15 x18 x21 x3 x5 x1 x7 x14 x0 x16 x20 x27 x22 x25 x11 \
       x23 x8 x19";
 
+/// What both netlists have beside inputs: a chain of covers, each of which reads three inputs more.
 const CHAIN: &[u8] =
     b"\n.outputs y\n.names x5 x24 x25 s0\n1-1 1\n-10 1\n.names s0 x2 x4 x19 s1\n11-- 1\n0-01 1\n\
       .names s1 x28 x14 x27 s2\n11-- 1\n0-01 1\n.names s2 x21 x0 x23 s3\n11-- 1\n0-01 1\n.names s3 x6 x17 x29 s4\n\

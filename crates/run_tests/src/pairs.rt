@@ -7,9 +7,10 @@ use std::alloc::Global;
 use std::process::Abort;
 use std::test::Fail;
 
-/// The first file of the pair of 7 is called `t`, or the second one.
+/// Makes the pair of 7, whose first file is called `t`.
 const FIRST: &[&str] = &["make", "7", "t", "B"];
 
+/// Makes the pair of 7, whose second file is called `t`.
 const SECOND: &[&str] = &["make", "7", "A", "t"];
 
 /// Makes the pair of 7, and gives the file of it that is called `t`.

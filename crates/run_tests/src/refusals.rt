@@ -5,6 +5,7 @@ use crate::files::{A, AND, AND_OR, AND_XOR, B, EMPTY, OR, TABLE, THREE, TWO, WIR
 use crate::runs::{CHECK, expect};
 use std::test::Fail;
 
+/// That the netlists have other numbers of ports.
 const NO_PORTS: &[u8] = b"npnp 1\nnone ports\nend\n";
 
 /// The wire rises with its input, and constant 0 doesn't: each way to pair the inputs and the outputs is excluded.
@@ -27,6 +28,7 @@ const BY_SUPPORT: &[u8] = b"npnp 1\n\
       none ban 2\n\
       end\n";
 
+/// Netlists that have no match, and an account of that.
 static REFUSALS: [[&[u8]; 3]; 4] = [
     [THREE, TWO, NO_PORTS],
     [AND, XOR, AND_XOR],
@@ -176,6 +178,7 @@ static NOT_EXCLUDED: [Altered; 3] = [
     (1, b"none ban 0\n", b"2 id"),
 ];
 
+/// A mismatch by facts that agree for the pairs, and a vector that leaves the input open.
 static ALTERED_ZERO_WIRE: [Altered; 2] = [
     (6, b"ban i0+0 o0-0 : mismatch 0 1\n", b"7 rule"),
     (5, b"ban i0-0 o0+0 : vector 0 =x\n", b"6 vector"),
@@ -184,11 +187,13 @@ static ALTERED_ZERO_WIRE: [Altered; 2] = [
 /// The OR stays 1 where one of two inputs that are 1 falls.
 static OF_OR: [Altered; 1] = [(1, b"fails b 0 down 0 =11\n", b"2 vector")];
 
+/// Where there is no port, a cover of no port excludes nothing.
 static OF_NOTHING: [Altered; 1] = [(1, b"ban : cover in / /\n", b"2 rule")];
 
-/// The numbers of ports agree, or differ.
+/// Netlists with as many ports aren't refused by their numbers.
 static AGREE: [Altered; 1] = [(1, b"none ports\nend\n", b"2 conclusion")];
 
+/// Netlists of other numbers of ports have no facts, no bans, and no conclusion but that one.
 static DIFFER: [Altered; 4] = [
     (1, b"fails a 0 up 0 =000\n", b"2 conclusion"),
     (1, b"holds a 0 up 0\n", b"2 conclusion"),

@@ -47,11 +47,13 @@ fn run_new(
     )
 }
 
-/// The AND as BLIF, with names, and the OR as BLIF and as binary AIGER.
+/// The AND as BLIF, with names.
 const NAMED_AND: &[u8] = b".inputs a b\n.outputs y\n.names a b y\n11 1\n";
 
+/// The OR as BLIF, with other names.
 const NAMED_OR: &[u8] = b".inputs p q\n.outputs z\n.names p q z\n00 0\n";
 
+/// The OR as binary AIGER, without names.
 const BINARY_OR: &[u8] = b"aig 3 2 0 1 1\n7\n\x01\x02";
 
 /// The AND with names that end in a carriage return, or have one within.
@@ -66,6 +68,7 @@ type Restored = (
     &'static [u8],
 );
 
+/// Circuits that are written by a match, and accounts and files from which none is.
 static RESTORED: [Restored; 18] = [
     // input 0 of the first is input 1 of the second, inverted, and so is output 0 output 1
     (

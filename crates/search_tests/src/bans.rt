@@ -7,12 +7,16 @@ use circuits::{Pair, PortKind};
 use items::Few;
 use std::alloc::{AllocError, Global};
 
+/// Input 0 to input 1, inverted: with `BACK` the two inputs are exchanged.
 const CROSSED: Pair = port_pair!(Input, 0, 1, true);
 
+/// Input 1 to input 0.
 const BACK: Pair = port_pair!(Input, 1, 0, false);
 
+/// An input to the one of its own number, which is in a ban alone.
 const OWN: Pair = port_pair!(Input, 2, 2, false);
 
+/// The same two inputs, inverted, which no ban names.
 const INVERTED: Pair = port_pair!(Input, 2, 2, true);
 
 fn ban(alloc: Global, pairs: &[Pair]) -> Result<Ban, AllocError> {

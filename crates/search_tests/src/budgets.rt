@@ -18,18 +18,20 @@ const INPUTS: Sample = Sample {
     outputs: &[],
 };
 
-/// A constant without gates, and with 19 and 20 of them.
+/// A constant without gates.
 const CONSTANT: Sample = Sample {
     inputs: 0,
     gates: &[],
     outputs: &[0],
 };
 
+/// The constant beside as many gates as fit: with them the number of lines is below 2^64.
 const OF_19_GATES: Sample = Sample {
     gates: &[(0, 0); 19],
     ..CONSTANT
 };
 
+/// The constant beside one gate more: the number of lines isn't one of 64 bits.
 const OF_20_GATES: Sample = Sample {
     gates: &[(0, 0); 20],
     ..CONSTANT

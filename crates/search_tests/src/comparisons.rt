@@ -94,13 +94,14 @@ fn compares_an_and_with_an_or(rt: HostRuntime) -> Result<(), Fail> {
     Ok(())
 }
 
-/// The exclusive or and the AND of two inputs, and the same by other gates.
+/// The exclusive or and the AND of two inputs.
 const HALF_ADDER: Sample = Sample {
     inputs: 2,
     gates: &[(4, 2), (5, 3), (9, 7)],
     outputs: &[10, 6],
 };
 
+/// The same two functions, the exclusive or by the OR of two other products, and the AND by a gate of its own.
 const OTHER_HALF_ADDER: Sample = Sample {
     inputs: 2,
     gates: &[(5, 2), (4, 3), (9, 7), (4, 2)],

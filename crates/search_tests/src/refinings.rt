@@ -242,20 +242,28 @@ fn refined(
     Ok(refined_of(alloc, &graphs, assigned, asked)?)
 }
 
+/// The only outputs of two circuits, as they are.
 const OUTPUT: Pair = port_pair!(Output, 0, 0, false);
 
+/// The only outputs, inverted.
 const OUTPUT_NEGATED: Pair = port_pair!(Output, 0, 0, true);
 
+/// The first inputs, as they are.
 const ONE_TO_ONE: Pair = port_pair!(Input, 0, 0, false);
 
+/// The first inputs, inverted.
 const ONE_TO_ONE_NEGATED: Pair = port_pair!(Input, 0, 0, true);
 
+/// The second inputs, as they are.
 const OTHER_TO_OTHER: Pair = port_pair!(Input, 1, 1, false);
 
+/// The first circuit's first input and the second one's second.
 const ONE_TO_OTHER: Pair = port_pair!(Input, 0, 1, false);
 
+/// The first circuit's second input and the second one's first.
 const OTHER_TO_ONE: Pair = port_pair!(Input, 1, 0, false);
 
+/// A third input, which circuits of two inputs don't have.
 const NO_INPUT: Pair = port_pair!(Input, 2, 0, false);
 
 /// Two circuits by name, the pairs that are assigned, and what refining comes to.

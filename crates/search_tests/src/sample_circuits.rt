@@ -16,18 +16,21 @@ pub(crate) struct Sample {
     pub(crate) outputs: &'static [u32],
 }
 
+/// The AND of two inputs.
 pub(crate) const AND: Sample = Sample {
     inputs: 2,
     gates: &[(4, 2)],
     outputs: &[6],
 };
 
+/// The OR of two inputs.
 pub(crate) const OR: Sample = Sample {
     inputs: 2,
     gates: &[(5, 3)],
     outputs: &[7],
 };
 
+/// The exclusive or of two inputs.
 pub(crate) const XOR: Sample = Sample {
     inputs: 2,
     gates: &[(4, 2), (5, 3), (9, 7)],
@@ -48,13 +51,14 @@ pub(crate) const AND_OF_THREE: Sample = Sample {
     outputs: &[8],
 };
 
-/// One input, and an output that is always 0, or the input.
+/// One input, and an output that is always 0.
 pub(crate) const ZERO_OF_ONE: Sample = Sample {
     inputs: 1,
     gates: &[],
     outputs: &[0],
 };
 
+/// One input, and an output that is the input.
 pub(crate) const WIRE_OF_ONE: Sample = Sample {
     inputs: 1,
     gates: &[],

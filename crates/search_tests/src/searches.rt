@@ -18,32 +18,35 @@ use std::alloc::{AllocError, Global};
 use std::test::Fail;
 use table_oracle::TableOracle;
 
-/// The AND of two inputs, and one of them; and the same with the outputs crossed and inverted, and an input inverted.
+/// The AND of two inputs, and one of them.
 const AND_AND_INPUT: Sample = Sample {
     inputs: 2,
     gates: &[(4, 2)],
     outputs: &[6, 2],
 };
 
+/// `AND_AND_INPUT` with its outputs crossed and inverted, and an input inverted.
 const CROSSED: Sample = Sample {
     inputs: 2,
     gates: &[(5, 2)],
     outputs: &[5, 7],
 };
 
+/// An output that is always 0, without inputs.
 const ZERO: Sample = Sample {
     inputs: 0,
     gates: &[],
     outputs: &[0],
 };
 
+/// An output that is always 1, without inputs.
 const ONE: Sample = Sample {
     inputs: 0,
     gates: &[],
     outputs: &[1],
 };
 
-/// Whether exactly two of four inputs are 1, and whether an odd number of them are.
+/// Whether exactly two of four inputs are 1.
 const TWO_OF_FOUR: Sample = Sample {
     inputs: 4,
     gates: &[
@@ -62,6 +65,7 @@ const TWO_OF_FOUR: Sample = Sample {
     outputs: &[31],
 };
 
+/// Whether an odd number of four inputs are 1.
 const ODD_OF_FOUR: Sample = Sample {
     inputs: 4,
     gates: &[
@@ -78,8 +82,7 @@ const ODD_OF_FOUR: Sample = Sample {
     outputs: &[26],
 };
 
-/// The eight products of three inputs, plain or negated; and the same with one of them twice, in place of another. No
-/// two outputs of the first are equal.
+/// The eight products of three inputs, plain or negated: no two outputs are equal.
 const DECODER: Sample = Sample {
     inputs: 3,
     gates: &[
@@ -99,6 +102,7 @@ const DECODER: Sample = Sample {
     outputs: &[16, 18, 20, 22, 24, 26, 28, 30],
 };
 
+/// The decoder with one product twice, in place of another.
 const DECODER_ONE_TWICE: Sample = Sample {
     outputs: &[16, 18, 20, 22, 24, 26, 28, 28],
     ..DECODER

@@ -196,8 +196,10 @@ fn outcome_of_row(alloc: Global, row: &Row<'_>) -> Result<Outcome, Fail> {
     Ok(asked(alloc, &both.graphs(), &query, row.budget)?)
 }
 
+/// The AND of two inputs: its gate, and its output.
 const AND: (&[(u32, u32)], u32) = (&[(2, 4)], 6);
 
+/// Questions that are refuted, have a vector, or take more than the budget.
 static ROWS: [Row<'static>; 6] = [
     // the AND doesn't fall where input 0 rises
     Row {

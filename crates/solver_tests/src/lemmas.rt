@@ -49,6 +49,7 @@ struct Row<'a> {
     lemmas: &'a [[u64; 2]],
 }
 
+/// That the only gates of two circuits are equal: a clause for each direction.
 const BOTH_WAYS: &[[u64; 2]] = &[[7, 8], [6, 9]];
 
 /// Variables 1 and 2 are the inputs, those of the first circuit's gates and then of the second one's follow.
@@ -218,6 +219,7 @@ struct Compared<'a> {
     lemmas: Option<usize>,
 }
 
+/// Comparisons that need no lemmas, that need one, and that lemmas don't settle.
 static COMPARED: [Compared<'static>; 4] = [
     // propagation goes through one pair of gates
     Compared {

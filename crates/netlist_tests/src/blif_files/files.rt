@@ -17,6 +17,7 @@ type FileRow = (
     &'static [u8],
 );
 
+/// Netlists in BLIF, in all forms of lines and covers.
 static FILES: [FileRow; 16] = [
     // NAND by the off-set and by the on-set
     (
@@ -115,6 +116,7 @@ static FILES: [FileRow; 16] = [
     ),
 ];
 
+/// Files that are refused, by what is wrong with them first.
 static FAULTS: [FaultRow; 42] = [
     (b"", NetKind::NoPortLine, 0),
     (b".inputs a\n", NetKind::NoPortLine, 10),

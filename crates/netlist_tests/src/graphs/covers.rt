@@ -26,6 +26,7 @@ type CoverRow = (
     u32,
 );
 
+// Covers of two inputs: of one row, of several, and of none, by the on-set and by the off-set.
 static COVERS: [CoverRow; 9] = [
     (&[1, 2], &["11"], true, &[(2, 4)], 6),
     (&[1, 2], &["11"], false, &[(2, 4)], 7),
