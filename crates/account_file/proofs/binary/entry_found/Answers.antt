@@ -8,7 +8,7 @@ use Rattle.account_file.proofs.binary.entry_found.Goals as goal
 pub returns-in_err-entry : goal.returns-in_err-entry
 returns-in_err-entry c =
     let reads = subst (λ (l : List ℕ). ReadsEntry l c.read_entry.result c.read_entry.new.text) c.new-text.ensures c.read_entry.ensures in
-    stop_passed c.args.left.now c.read_entry.new.text c.read_entry.result c.from_residual.result c.in_err-entry.was c.from_residual.ensures.1 reads
+    stop_passed c.args.left.now c.read_entry.new.text c.read_entry.result c.from_residual.result _ c.in_err-entry.was c.from_residual.ensures.1 reads
 
 pub returns : goal.returns
 returns c =
