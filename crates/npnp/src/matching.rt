@@ -16,7 +16,6 @@ ghost use Rattle.run_steps.specs.Commands.{asked_match};
 
 use crate::naming::paired_by_names;
 use account_core::{Ban, Fact, PairableGraphs};
-use account_trim::{Core, trim};
 use account_write::Account;
 use ban_book::BanBook;
 use check_steps::{Ending, Match, Outcome, Which, read_netlist, report_named};
@@ -27,6 +26,7 @@ use match_search::{Found, SearchStart, decide};
 use net_core::{Graphs, Matching};
 use net_file::Named;
 use query_core::Ledger;
+use refusal_core::{Core, trim};
 use run_steps::conclude;
 use shelf_core::Shelf;
 use std::alloc::{AllocError, Global};

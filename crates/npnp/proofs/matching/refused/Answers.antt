@@ -2,8 +2,8 @@
 use Rattle.std.proofs.Common.{subst}
 use Rattle.std.proofs.lemmas.List.{length-map}
 use Rattle.account_core.specs.Given.{decided_by}
-use Rattle.account_trim.specs.Names.{ReferBack}
-use Rattle.account_trim.proofs.ValidLemmas.{bans_kept, conclusion_kept, facts_kept, refer_back}
+use Rattle.refusal_core.specs.Names.{ReferBack}
+use Rattle.refusal_core.proofs.ValidLemmas.{bans_kept, conclusion_kept, facts_kept, refer_back}
 use Rattle.run_steps.proofs.AnswerLemmas.{answer_refused}
 use Rattle.npnp.proofs.matching.refused.Goals as goal
 

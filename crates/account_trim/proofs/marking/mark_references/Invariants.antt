@@ -1,8 +1,0 @@
-use Rattle.std.proofs.Common.{take}
-use Rattle.std.specs.Prelude.{option_to_list}
-use Rattle.std.specs.List.{flat_map}
-use Rattle.account_trim.specs.Marks.{Adds}
-use Rattle.account_trim.proofs.marking.mark_references.Given as goal
-
-abbrev pub invariant-loop-reference : goal.invariant-loop-reference
-invariant-loop-reference l = Adds (flat_map option_to_list (take l.reference-index l.references)) l.fn.marks.items l.marks.items

@@ -1,6 +1,0 @@
-use Rattle.std.proofs.Common.{◌≡◌, ◌++◌, drop, map, take}
-use Rattle.account_trim.specs.Numbered.{at}
-use Rattle.account_trim.proofs.renumbering.put_numbers.Given as goal
-
-abbrev pub invariant-loop-place : goal.invariant-loop-place
-invariant-loop-place l = l.list ≡ map (at l.numbers) (take l.place l.fn.list) ++ drop l.place l.fn.list

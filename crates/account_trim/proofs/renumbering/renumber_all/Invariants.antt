@@ -1,6 +1,0 @@
-use Rattle.std.proofs.Common.{◌≡◌, ◌++◌, drop, map, take}
-use Rattle.account_trim.specs.Numbered.{numbered_ban}
-use Rattle.account_trim.proofs.renumbering.renumber_all.Given as goal
-
-abbrev pub invariant-loop-place : goal.invariant-loop-place
-invariant-loop-place l = l.bans.items ≡ map (numbered_ban l.numbers.facts l.numbers.bans) (take l.place l.fn.bans.items) ++ drop l.place l.fn.bans.items
