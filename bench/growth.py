@@ -12,8 +12,9 @@ import netlists
 from account_of import in_order
 
 RESYNTHESIZE = "balance; rewrite; refactor; balance; rewrite; rewrite -z; balance; refactor -z; rewrite -z; balance"
-COPIES = (1, 2, 4, 8, 16, 32, 50)
-GROUPS = 16  # of 64 inputs: as many as a netlist may have
+COPIES = (1, 2, 4, 8, 16, 32, 64, 125, 250, 500)
+GROUPS = 64  # of 64 inputs: as many as a netlist may have
+SETS = 250  # of 16 outputs, for the same reason
 WIDTHS = (2, 4, 8, 16, 32, 64, 128)
 FACTORS = (2, 3, 4, 5, 6, 7)
 
@@ -37,13 +38,17 @@ def measured(limit, *command):
 
 
 def joined(nets, groups):
-    """Netlists of 64 inputs and 32 outputs side by side: netlist b reads group b modulo `groups`, and its outputs k and 16 + k
-    are joined by an exclusive or, so that fifty of them have fewer than 1,024 outputs."""
+    """Netlists of 64 inputs and 32 outputs side by side: netlist b reads group b modulo `groups`, its outputs k and 16 + k are
+    joined by an exclusive or, and those of the netlists that have the same b modulo `SETS` too: so there are fewer than
+    4,096 outputs."""
     inputs, gates, outputs = 64 * min(len(nets), groups), [], []
 
     def gate(a, b):
         gates.append((a, b))
         return 2 * (inputs + len(gates))
+
+    def exclusive_or(x, y):
+        return gate(gate(x, y) ^ 1, gate(x ^ 1, y ^ 1) ^ 1)
 
     for b, (_, own, ends) in enumerate(nets):
         first = 64 * (b % groups)
@@ -56,8 +61,12 @@ def joined(nets, groups):
         gates.extend((move(x), move(y)) for x, y in own)
         ends = [move(it) for it in ends]
         for k in range(16):
-            x, y = ends[k], ends[16 + k]
-            outputs.append(gate(gate(x, y) ^ 1, gate(x ^ 1, y ^ 1) ^ 1))
+            joined = exclusive_or(ends[k], ends[16 + k])
+            if b < SETS:
+                outputs.append(joined)
+            else:
+                at = 16 * (b % SETS) + k
+                outputs[at] = exclusive_or(outputs[at], joined)
     return inputs, gates, outputs
 
 

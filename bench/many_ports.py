@@ -10,13 +10,13 @@ import tempfile
 import netlists
 from measured_run import matching_in, timed
 
-READ = 11  # inputs of an output: one more than a place below 1,024 has bits
+READ = 11  # inputs of an output: draws show an output of more on too few vectors
 
 
 def mixed(count, draws):
-    """A circuit of `count` inputs and as many outputs. Output k joins inputs that are drawn, one for each bit of k and one more: by
-    AND where the bit is 1, by OR where it is 0. So no two outputs are true on as many vectors, and inputs are at other places of
-    other outputs."""
+    """A circuit of `count` inputs and as many outputs. Output k joins inputs that are drawn, one for each of the ten lowest bits of
+    k and one more: by AND where the bit is 1, by OR where it is 0. So of 1,024 outputs no two are true on as many vectors, of
+    4,096 four are, which read other inputs, and inputs are at other places of other outputs."""
     gates, outputs = [], []
 
     def gate(one, other):
@@ -54,7 +54,7 @@ def row(program, count, draws, limit, folder):
 def main():
     words = argparse.ArgumentParser(prog="bench/many_ports.sh", description="matches circuits with many ports, no two of which are alike")
     words.add_argument("program")
-    words.add_argument("--ports", type=lambda it: [int(word) for word in it.split(",")], default=[128, 256, 512, 1024], help="how many inputs, and as many outputs (128,256,512,1024)")
+    words.add_argument("--ports", type=lambda it: [int(word) for word in it.split(",")], default=[256, 512, 1024, 2048, 4096], help="how many inputs, and as many outputs (256,512,1024,2048,4096)")
     words.add_argument("--seed", type=int, default=1, help="of the circuit and of where its ports go (1)")
     words.add_argument("--limit", type=int, default=60, help="processor seconds of a pair (60)")
     choices = words.parse_args()
