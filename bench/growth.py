@@ -10,6 +10,7 @@ import sys
 import tempfile
 import netlists
 from account_of import in_order
+from measured_run import measured
 
 RESYNTHESIZE = "balance; rewrite; refactor; balance; rewrite; rewrite -z; balance; refactor -z; rewrite -z; balance"
 COPIES = (1, 2, 4, 8, 16, 32, 64, 125, 250, 500)
@@ -24,17 +25,6 @@ def tool(*command):
     if ran.returncode != 0:
         sys.exit(f"{command}: {ran.stdout} {ran.stderr}")
     return ran.stdout
-
-
-def measured(limit, *command):
-    """What a command printed, its status (None past the limit), its processor seconds and its memory at most in MiB. GNU
-    time starts it: a child that Python starts is charged with Python's own memory."""
-    with tempfile.NamedTemporaryFile("r") as told:
-        timed = ("/usr/bin/time", "-q", "-f", "%U %S %M", "-o", told.name, "--", "timeout", "-s", "KILL", str(limit), *command)
-        ran = subprocess.run(timed, stdout=subprocess.PIPE, stderr=subprocess.DEVNULL, text=True)
-        user, system, memory = told.read().split()[-3:]
-    status = None if ran.returncode in (124, 137) else ran.returncode
-    return ran.stdout, status, float(user) + float(system), int(memory) / 1024
 
 
 def joined(nets, groups):

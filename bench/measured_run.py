@@ -1,4 +1,4 @@
-"""Runs a program for a limit of processor seconds, and reads the port table that it prints."""
+"""Runs a program for a limit of seconds, and reads the port table that it prints."""
 import os
 import resource
 import signal
@@ -26,6 +26,17 @@ def timed(seconds, folder, *command):
     took = used.ru_utime + used.ru_stime
     late = os.WIFSIGNALED(status) and os.WTERMSIG(status) in (signal.SIGXCPU, signal.SIGKILL)
     return printed, None if late else os.waitstatus_to_exitcode(status), took, used.ru_maxrss
+
+
+def measured(limit, *command):
+    """What a command printed, its status (None past the limit), its processor seconds and its memory at most in MiB. GNU
+    time starts it: a child that Python starts is charged with Python's own memory."""
+    with tempfile.NamedTemporaryFile("r") as told:
+        timed = ("/usr/bin/time", "-q", "-f", "%U %S %M", "-o", told.name, "--", "timeout", "-s", "KILL", str(limit), *command)
+        ran = subprocess.run(timed, stdout=subprocess.PIPE, stderr=subprocess.DEVNULL, text=True)
+        user, system, memory = told.read().split()[-3:]
+    status = None if ran.returncode in (124, 137) else ran.returncode
+    return ran.stdout, status, float(user) + float(system), int(memory) / 1024
 
 
 def matching_in(printed, net):
