@@ -1,0 +1,11 @@
+pub mod TableLemmas
+pub mod DueLemmas
+pub mod WrittenLemmas
+pub mod ReadLemmas
+pub mod MentionLemmas
+pub mod PutDropLemmas
+pub mod TextLemmas
+pub mod ConvertLemmas
+pub mod SpelledLemmas
+pub mod PlaceLemmas
+pub mod DropLemmas
