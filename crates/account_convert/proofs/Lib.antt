@@ -9,3 +9,8 @@ pub mod ConvertLemmas
 pub mod SpelledLemmas
 pub mod PlaceLemmas
 pub mod DropLemmas
+pub mod MoveLemmas
+pub mod StripLemmas
+pub mod PutLemmas
+pub mod PutAllLemmas
+pub mod LawLemmas

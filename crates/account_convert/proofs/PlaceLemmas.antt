@@ -23,7 +23,7 @@ IsOpen FactLog = Unit {0}
 IsOpen (Logs logs) = ⊥
 IsOpen Ended = ⊥
 
-abbrev place_from : Option Place → List Record → Option Place
+abbrev pub place_from : Option Place → List Record → Option Place
 place_from place records = fold place_after_one place records
 
 drops_stay : (facts bans : List ℕ) → place_from (Some Headed) (map record_of.DropFact facts ++ map record_of.DropBan bans) ≡ Some Headed

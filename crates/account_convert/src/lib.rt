@@ -5,10 +5,12 @@
 mod binary_writer;
 mod conversion;
 mod dues;
+mod laws;
 mod mentions;
 mod reading;
 mod stop;
 mod text_writer;
 
 pub use conversion::{Converted, convert};
+pub use laws::{converted_back, records_stay, verdict_stays, verdict_was};
 pub use stop::ConvertStop;
