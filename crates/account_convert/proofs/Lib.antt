@@ -1,0 +1,16 @@
+pub mod TableLemmas
+pub mod DueLemmas
+pub mod WrittenLemmas
+pub mod ReadLemmas
+pub mod MentionLemmas
+pub mod PutDropLemmas
+pub mod TextLemmas
+pub mod ConvertLemmas
+pub mod SpelledLemmas
+pub mod PlaceLemmas
+pub mod DropLemmas
+pub mod MoveLemmas
+pub mod StripLemmas
+pub mod PutLemmas
+pub mod PutAllLemmas
+pub mod LawLemmas
