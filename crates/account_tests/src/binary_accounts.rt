@@ -9,7 +9,7 @@ use std::alloc::{AllocError, Global};
 use std::test::Fail;
 
 /// That the port counts differ, and the end.
-const NONE_PORTS: [u8; 26] = [
+pub const NONE_PORTS: [u8; 26] = [
     78, 80, 78, 80, 65, 67, 67, 50, 5, 0, 0, 0, 0, 0, 0, 0, 0, 8, 0, 0, 0, 0, 0, 0, 0, 0,
 ];
 
@@ -20,10 +20,10 @@ const DROPS: [u8; 43] = [
 ];
 
 /// How an account ends: its fault, and the number of the last record.
-type Ending = (Option<RecordFault>, u64);
+pub type Ending = (Option<RecordFault>, u64);
 
 /// A drop that is put after a record, which is named by its number: of a fact, or else of a ban, and of which.
-type Placed = (u64, bool, u64);
+pub type Placed = (u64, bool, u64);
 
 /// Writes the drops that are put after a record.
 fn put_drops(drops: &[Placed], record: u64, out: &mut Vec<u8>) -> Result<(), AllocError> {
@@ -44,7 +44,7 @@ fn drop_of(is_of_fact: bool, number: u64) -> Record {
 }
 
 /// Reads a short account, and writes its records as they are read, with drops between them.
-fn rewrite(
+pub fn rewrite(
     alloc: Global,
     account: &[u8],
     drops: &[Placed],

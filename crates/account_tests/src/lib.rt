@@ -6,6 +6,8 @@ mod accounts;
 #[cfg(test)]
 mod binary_accounts;
 #[cfg(test)]
+mod conversions;
+#[cfg(test)]
 mod entries;
 #[cfg(test)]
 mod graphs;
