@@ -174,7 +174,7 @@ fn checks_binary_accounts(rt: HostRuntime) -> Result<(), Fail> {
 }
 
 /// Drops of all facts and bans of the refusal, each after the last record that names it.
-static GOOD_DROPS: [Placed; 8] = [
+pub static GOOD_DROPS: [Placed; 8] = [
     (8, true, 0),
     (8, true, 1),
     (9, false, 0),
@@ -199,7 +199,7 @@ static BAD_DROPS: [(&[Placed], u64, &str); 7] = [
 ];
 
 /// Writes the refusal in bytes, with drops between its records.
-fn put_refusal(alloc: Global, drops: &[Placed], out: &mut Vec<u8>) -> Result<(), AllocError> {
+pub fn put_refusal(alloc: Global, drops: &[Placed], out: &mut Vec<u8>) -> Result<(), AllocError> {
     let mut text = String::new(alloc);
     put_refusal_with(0, "", &mut text)?;
     rewrite(alloc, text.as_bytes(), drops, out)?;

@@ -16,4 +16,6 @@ mod records;
 #[cfg(test)]
 mod steps;
 #[cfg(test)]
+mod trimmed_accounts;
+#[cfg(test)]
 mod written_accounts;
