@@ -10,7 +10,7 @@ use claim_core::{Claim, Shape};
 use net_core::Graphs;
 use std::alloc::{AllocError, Global};
 
-/// What is wrong with the line of a claim that fails: what would be wrong with it where it holds; or that its vector
+/// What is wrong with the record of a claim that fails: what would be wrong with it where it holds; or that its vector
 /// doesn't break it.
 pub(crate) fn test_fails(
     alloc: Global,
@@ -30,8 +30,8 @@ pub(crate) fn test_fails(
     Ok(None)
 }
 
-/// What is wrong with the line of a claim that holds: the circuits differ in their numbers of ports; the claim names an
-/// output or an input that doesn't exist, or a swap's greater input first.
+/// What is wrong with the record of a claim that holds: the circuits differ in their numbers of ports; the claim names
+/// an output or an input that doesn't exist, or a swap's greater input first.
 pub(crate) fn test_holds(graphs: &Graphs<'_>, claim: &Claim) -> Option<Reject>
     ensures { PortsTest graphs.now (FactTests graphs.now (head.Holds claim.now)) result }
 {

@@ -21,7 +21,7 @@ pub fn one_fault_of_a_record()
         → HasFault account entry first → HasFault account entry second → first ≡ second }
 {}
 
-/// An account has one verdict at most: one first bad line, with one reason; or one that it proves; never both.
+/// An account has one verdict at most: one first bad record, with one reason; or one that it proves; never both.
 pub fn one_verdict()
     ensures rejected { (graphs : TwoGraphs) (bytes : List ℕ) (line other : ℕ) (first second : Reason)
         → IsRejected graphs bytes line first → IsRejected graphs bytes other second

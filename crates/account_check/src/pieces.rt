@@ -80,7 +80,7 @@ impl<'a> AccountCheck<'a> {
     }
 }
 
-// Takes the next bytes, and the records of the lines that are whole then.
+// Takes the next bytes, and the records that are whole then.
 fn feed(
     alloc: Global,
     reader: &mut Reader,
@@ -157,7 +157,7 @@ fn take(alloc: Global, checker: &mut Checker<'_>, entry: Record) -> Result<(), R
     checker.take(alloc, &entry)
 }
 
-// Why an account is given up at a line that isn't read.
+// Why an account is given up at a record that isn't read.
 fn unread(line: u64, stop: FileStop) -> CheckStop
     ensures { result ≡ unread line stop }
 {
@@ -170,7 +170,7 @@ fn unread(line: u64, stop: FileStop) -> CheckStop
     }
 }
 
-// Why an account is given up at a line whose record isn't taken.
+// Why an account is given up at a record that isn't taken.
 fn refused(line: u64, stop: RecordStop) -> CheckStop
     ensures { result ≡ refused line stop }
 {

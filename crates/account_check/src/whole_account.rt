@@ -15,7 +15,7 @@ use net_core::Graphs;
 use std::alloc::Global;
 
 /// The verdict of an account: that a matching is a match of the two circuits, or that there is no match; or its first
-/// bad line and what is wrong with it. Each comes exactly where it is so unless out of memory, and what is proved is
+/// bad record and what is wrong with it. Each comes exactly where it is so unless out of memory, and what is proved is
 /// so, whoever wrote the account.
 pub fn check(alloc: Global, graphs: &Graphs<'_>, account: &[u8]) -> Result<Verdict, CheckStop>
     ensures accepted { (verdict : AnyVerdict) → result ≢ Err stop.Memory

@@ -20,7 +20,7 @@ pub(crate) struct BinaryWriter<'a> {
     pub(crate) bytes: Vec<u8>,
 }
 
-/// What has numbers that records name it by.
+/// What records name by a number.
 #[derive(Clone, Copy, Drop)]
 pub(crate) enum Numbered {
     Fact,

@@ -27,7 +27,7 @@ pub struct Converted {
     pub to: u8,
     /// How many records it had.
     pub records: u64,
-    /// It, in the version that it has.
+    /// The account's bytes in that version.
     pub bytes: Items<u8>,
 }
 

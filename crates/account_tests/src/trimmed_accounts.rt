@@ -84,14 +84,17 @@ fn leaves_out_bans_and_lines(rt: HostRuntime) -> Result<(), Fail> {
     Ok(())
 }
 
+/// A match, by the two logs of its output.
 static MATCH: &str = "npnp 1|match i0-0 i1-1 o0-0|l : 7 8 1 2 6|l : 7 8 4 5 3|end|";
 
+/// The same with a line in the first log that none names.
 static LONG_MATCH: &str = "npnp 1|match i0-0 i1-1 o0-0|l 7 2 : 1|l : 7 8 1 2 6|l : 7 8 4 5 3|end|";
 
 /// Its second log line is named by the third one.
 static TWO_LINES: &str =
     "npnp 1|match i0-0 i1-1 o0-0|l 7 2 : 1|l 2 : 7 1|l : 7 8 10 2 6|l : 7 8 4 5 3|end|";
 
+/// What is left of it.
 static ONE_LINE: &str = "npnp 1|match i0-0 i1-1 o0-0|l 2 : 7 1|l : 7 8 9 2 6|l : 7 8 4 5 3|end|";
 
 #[test]

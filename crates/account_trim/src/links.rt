@@ -18,7 +18,7 @@ use std::alloc::{AllocError, Global};
 /// What a record rests on.
 #[derive(Drop)]
 pub struct Links {
-    /// It is reached whatever the others are.
+    /// Whether the record is reached whatever the others are.
     pub(crate) is_root: bool,
     /// The places of the records that it names.
     pub(crate) names: Items<u64>,

@@ -14,8 +14,8 @@ use circuits::PortKind;
 use net_core::MAX_PORTS;
 use text_core::Span;
 
-/// Checks that a model with these lines has no more inputs than [`MAX_PORTS`], and no more outputs: what is read here is
-/// flattened to a netlist like those that `blif_reader` reads. The fault is at the first port beyond.
+/// Checks that a model with these lines has no more inputs than [`MAX_PORTS`], and no more outputs: what is read here
+/// is flattened to a netlist like those that `blif_reader` reads. The fault is at the first port beyond.
 pub(crate) fn check_limits(lines: &[ModelLine<'_>]) -> Result<(), HierStop>
     ensures few { IfOk result (λ _. HasFewPorts lines.now) }
     ensures fault { IfErr result (IsStopBy (HasManyPorts lines.now)) }

@@ -97,7 +97,7 @@ impl<'a> SharedLemmas<'a> {
     }
 }
 
-// Answers a query, by the lines of a stock that hold under its feeds, and adds to these.
+// Answers a query, by the lines of a stock that are derived under its feeds, and adds to these.
 fn ask_sharing<W: Watch>(
     alloc: Global,
     graphs: &Graphs<'_>,
@@ -143,7 +143,7 @@ fn are_small(cones: &ConeClauses<'_>) -> bool {
     (count >= LARGE_FORMULA) & (cones.ids().len() as u64 <= count / SMALL_PART)
 }
 
-// Answers a query by itself, by structure, or by a stock that holds under its feeds, and adds to it.
+// Answers a query by itself, by structure, or by a stock whose lines are derived under its feeds, and adds to it.
 fn ask_cones<W: Watch>(
     alloc: Global,
     question: &Question<'_>,
@@ -208,7 +208,7 @@ fn ask_by<G: QuestionGuide>(
     Ok(finish(alloc, question.cones, answer, &lemmas.numbers, stock)?)
 }
 
-// What is answered. Lines of a refutation that hold for other outputs too are kept.
+// What is answered. Lines of a refutation that serve other outputs too are kept.
 fn finish(
     alloc: Global,
     cones: &ConeClauses<'_>,
@@ -235,7 +235,7 @@ fn finish(
     }
 }
 
-// Lets the lines go where they hold under other feeds than a query's.
+// Lets the lines go where they are derived under other feeds than a query's.
 fn keep_lines_under(
     alloc: Global,
     graphs: &Graphs<'_>,

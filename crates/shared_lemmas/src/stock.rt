@@ -46,11 +46,11 @@ impl Twins {
     }
 }
 
-/// Lines that hold under the feeds of a query, whatever is asked of the outputs. It has lists and maps alone, and no
-/// enum: whoever owns a stock drops each of these in one step.
+/// Lines that are derived under the feeds of a query, whatever is asked of the outputs. It has lists and maps alone,
+/// and no enum: whoever owns a stock drops each of these in one step.
 #[derive(Drop)]
 pub(crate) struct Stock {
-    /// The query that was asked last, if one was: under its feeds the lines hold.
+    /// The query that was asked last, if one was: under its feeds the lines are derived.
     pub(crate) last_query: Vec<Query>,
     pub(crate) lines: Vec<LogLine>,
     pub(crate) twins: Twins,
