@@ -11,7 +11,7 @@ import tempfile
 from circuits import CIRCUITS
 from measured_run import timed
 
-PARTS = ("first_phase", "likeness", "gate_pairs", "sums", "exchanges", "settling", "tables", "vectors", "learned_bans", "weights", "covers", "xor_covers")
+PARTS = ("first_phase", "similarity", "gate_pairs", "sums", "exchanges", "settling", "tables", "vectors", "learned_bans", "weights", "covers", "xor_covers")
 WHOLE = "nothing"
 MATCHES = ("permuted", "negated", "other")
 SEED = "1"  # of `npnp match`, where none is given

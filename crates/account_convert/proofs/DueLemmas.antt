@@ -14,95 +14,95 @@ use Rattle.account_convert.specs.Writing.{after_at, first_at}
 
 -- what is due, in the order of the records, and none before this one
 abbrev pub Ascend : ℕ → List Due → Type 0
-Ascend line [] = Unit {0}
-Ascend line (due ∷ dues) = (line ≤ due.line) × Ascend due.line dues
+Ascend record_number [] = Unit {0}
+Ascend record_number (due ∷ dues) = (record_number ≤ due.record_number) × Ascend due.record_number dues
 
-ascend_from : (line : ℕ) (dues : List Due) → ((k : ℕ) (d : Due) → k < length dues → line ≤ (get_or dues k d).line) → IsNonDecreasingBy (λ (due : Due). due.line) dues → Ascend line dues
-ascend_from line [] above ascend = tt
-ascend_from line (due ∷ dues) above ascend = (
+ascend_from : (record_number : ℕ) (dues : List Due) → ((k : ℕ) (d : Due) → k < length dues → record_number ≤ (get_or dues k d).record_number) → IsNonDecreasingBy (λ (due : Due). due.record_number) dues → Ascend record_number dues
+ascend_from record_number [] above ascend = tt
+ascend_from record_number (due ∷ dues) above ascend = (
   above 0 due (omega arith),
-  ascend_from due.line dues (λ k d below. ascend 0 (suc k) d (omega arith) (omega (arith, below))) (λ i j d low below. ascend (suc i) (suc j) d (omega (arith, low)) (omega (arith, below))),
+  ascend_from due.record_number dues (λ k d below. ascend 0 (suc k) d (omega arith) (omega (arith, below))) (λ i j d low below. ascend (suc i) (suc j) d (omega (arith, low)) (omega (arith, below))),
 )
 
 -- later ones may begin later
-ascend_less : (line more : ℕ) (dues : List Due) → line ≤ more → Ascend more dues → Ascend line dues
-ascend_less line more [] less ascend = tt
-ascend_less line more (due ∷ dues) less ascend = (omega (arith, less, ascend.0), ascend.1)
+ascend_less : (record_number more : ℕ) (dues : List Due) → record_number ≤ more → Ascend more dues → Ascend record_number dues
+ascend_less record_number more [] less ascend = tt
+ascend_less record_number more (due ∷ dues) less ascend = (omega (arith, less, ascend.0), ascend.1)
 
-none_at : (line more : ℕ) (dues : List Due) → line < more → Ascend more dues → filter (is_at line) dues ≡ []
-none_at line more [] less ascend = refl
-none_at line more (due ∷ dues) less ascend = elim (eqb_tells due.line line) [
+none_at : (record_number more : ℕ) (dues : List Due) → record_number < more → Ascend more dues → filter (is_at record_number) dues ≡ []
+none_at record_number more [] less ascend = refl
+none_at record_number more (due ∷ dues) less ascend = elim (eqb_tells due.record_number record_number) [
   | inl (test, e) ↦ absurd (omega (arith, e, less, ascend.0))
-  | inr (test, other) ↦ ap (λ b. cond b (due ∷ filter (is_at line) dues) (filter (is_at line) dues)) test ∙ none_at line more dues less (ascend_less more due.line dues ascend.0 ascend.1)
+  | inr (test, other) ↦ ap (λ b. cond b (due ∷ filter (is_at record_number) dues) (filter (is_at record_number) dues)) test ∙ none_at record_number more dues less (ascend_less more due.record_number dues ascend.0 ascend.1)
 ]
 
 -- the first of what is left are those that are due after this record
-pub first_is : (line : ℕ) (dues : List Due) → Ascend line dues → first_at line dues ≡ map (λ (due : Due). due.number) (filter (is_at line) dues)
-first_is line [] ascend = refl
-first_is line (due ∷ dues) ascend = elim (eqb_tells due.line line) [
+pub first_is : (record_number : ℕ) (dues : List Due) → Ascend record_number dues → first_at record_number dues ≡ map (λ (due : Due). due.number) (filter (is_at record_number) dues)
+first_is record_number [] ascend = refl
+first_is record_number (due ∷ dues) ascend = elim (eqb_tells due.record_number record_number) [
   | inl (test, e) ↦
-      let rest = first_is line dues (ascend_less line due.line dues ascend.0 ascend.1) in
-      ap (λ b. cond b (due.number ∷ first_at line dues) []) test
+      let rest = first_is record_number dues (ascend_less record_number due.record_number dues ascend.0 ascend.1) in
+      ap (λ b. cond b (due.number ∷ first_at record_number dues) []) test
       ∙ (ap (λ l. due.number ∷ l) rest
-      ∙ ap (λ b. map (λ (d : Due). d.number) (cond b (due ∷ filter (is_at line) dues) (filter (is_at line) dues))) (sym test))
+      ∙ ap (λ b. map (λ (d : Due). d.number) (cond b (due ∷ filter (is_at record_number) dues) (filter (is_at record_number) dues))) (sym test))
   | inr (test, other) ↦
-      let none = none_at line due.line dues (omega (arith, ascend.0, other)) ascend.1 in
-      ap (λ b. cond b (due.number ∷ first_at line dues) []) test
+      let none = none_at record_number due.record_number dues (omega (arith, ascend.0, other)) ascend.1 in
+      ap (λ b. cond b (due.number ∷ first_at record_number dues) []) test
       ∙ (ap (map (λ (d : Due). d.number)) (sym none)
-      ∙ ap (λ b. map (λ (d : Due). d.number) (cond b (due ∷ filter (is_at line) dues) (filter (is_at line) dues))) (sym test))
+      ∙ ap (λ b. map (λ (d : Due). d.number) (cond b (due ∷ filter (is_at record_number) dues) (filter (is_at record_number) dues))) (sym test))
 ]
 
 -- and the others are due later
-after_ascend : (line : ℕ) (dues : List Due) → Ascend line dues → Ascend (line + 1) (after_at line dues)
-after_ascend line [] ascend = tt
-after_ascend line (due ∷ dues) ascend = elim (eqb_tells due.line line) [
-  | inl (test, e) ↦ subst (λ b. Ascend (line + 1) (cond b (after_at line dues) (due ∷ dues))) (sym test) (after_ascend line dues (ascend_less line due.line dues ascend.0 ascend.1))
-  | inr (test, other) ↦ subst (λ b. Ascend (line + 1) (cond b (after_at line dues) (due ∷ dues))) (sym test) (omega (arith, ascend.0, other), ascend.1)
+after_ascend : (record_number : ℕ) (dues : List Due) → Ascend record_number dues → Ascend (record_number + 1) (after_at record_number dues)
+after_ascend record_number [] ascend = tt
+after_ascend record_number (due ∷ dues) ascend = elim (eqb_tells due.record_number record_number) [
+  | inl (test, e) ↦ subst (λ b. Ascend (record_number + 1) (cond b (after_at record_number dues) (due ∷ dues))) (sym test) (after_ascend record_number dues (ascend_less record_number due.record_number dues ascend.0 ascend.1))
+  | inr (test, other) ↦ subst (λ b. Ascend (record_number + 1) (cond b (after_at record_number dues) (due ∷ dues))) (sym test) (omega (arith, ascend.0, other), ascend.1)
 ]
 
-after_same : (line more : ℕ) (dues : List Due) → line < more → filter (is_at more) (after_at line dues) ≡ filter (is_at more) dues
-after_same line more [] less = refl
-after_same line more (due ∷ dues) less = elim (eqb_tells due.line line) [
+after_same : (record_number more : ℕ) (dues : List Due) → record_number < more → filter (is_at more) (after_at record_number dues) ≡ filter (is_at more) dues
+after_same record_number more [] less = refl
+after_same record_number more (due ∷ dues) less = elim (eqb_tells due.record_number record_number) [
   | inl (test, e) ↦
-      let later : eqb due.line more ≡ false = elim (eqb_tells due.line more) [ inl (t, same) ↦ absurd (omega (arith, e, same, less)) | inr (t, apart) ↦ t ] in
-      ap (λ b. filter (is_at more) (cond b (after_at line dues) (due ∷ dues))) test
-      ∙ (after_same line more dues less
+      let later : eqb due.record_number more ≡ false = elim (eqb_tells due.record_number more) [ inl (t, same) ↦ absurd (omega (arith, e, same, less)) | inr (t, apart) ↦ t ] in
+      ap (λ b. filter (is_at more) (cond b (after_at record_number dues) (due ∷ dues))) test
+      ∙ (after_same record_number more dues less
       ∙ ap (λ b. cond b (due ∷ filter (is_at more) dues) (filter (is_at more) dues)) (sym later))
-  | inr (test, other) ↦ ap (λ b. filter (is_at more) (cond b (after_at line dues) (due ∷ dues))) test
+  | inr (test, other) ↦ ap (λ b. filter (is_at more) (cond b (after_at record_number dues) (due ∷ dues))) test
 ]
 
 -- What is left of all that is due, from a record on.
-pub record IsLeft (table : List ℕ) (line : ℕ) (dues : List Due) : Type 0 where
-  pub ascend : Ascend line dues
-  pub as_listed : (later : ℕ) → line ≤ later → filter (is_at later) dues ≡ filter (is_at later) (listed table)
+pub record IsLeft (table : List ℕ) (record_number : ℕ) (dues : List Due) : Type 0 where
+  pub ascend : Ascend record_number dues
+  pub as_listed : (later : ℕ) → record_number ≤ later → filter (is_at later) dues ≡ filter (is_at later) (listed table)
 
-listed_at : (table : List ℕ) (line : ℕ) (numbers : List ℕ) → map (λ (due : Due). due.number) (filter (is_at line) (map (due_of table) numbers)) ≡ filter (λ number. eqb (get_or table number 0) line) numbers
-listed_at table line [] = refl
-listed_at table line (number ∷ numbers) = by (eqb (get_or table number 0) line) (listed_at table line numbers)
+listed_at : (table : List ℕ) (record_number : ℕ) (numbers : List ℕ) → map (λ (due : Due). due.number) (filter (is_at record_number) (map (due_of table) numbers)) ≡ filter (λ number. eqb (get_or table number 0) record_number) numbers
+listed_at table record_number [] = refl
+listed_at table record_number (number ∷ numbers) = by (eqb (get_or table number 0) record_number) (listed_at table record_number numbers)
   where
-    by : (b : Bool) → map (λ (due : Due). due.number) (filter (is_at line) (map (due_of table) numbers)) ≡ filter (λ n. eqb (get_or table n 0) line) numbers
-        → map (λ (due : Due). due.number) (cond b (due_of table number ∷ filter (is_at line) (map (due_of table) numbers)) (filter (is_at line) (map (due_of table) numbers))) ≡ cond b (number ∷ filter (λ n. eqb (get_or table n 0) line) numbers) (filter (λ n. eqb (get_or table n 0) line) numbers)
+    by : (b : Bool) → map (λ (due : Due). due.number) (filter (is_at record_number) (map (due_of table) numbers)) ≡ filter (λ n. eqb (get_or table n 0) record_number) numbers
+        → map (λ (due : Due). due.number) (cond b (due_of table number ∷ filter (is_at record_number) (map (due_of table) numbers)) (filter (is_at record_number) (map (due_of table) numbers))) ≡ cond b (number ∷ filter (λ n. eqb (get_or table n 0) record_number) numbers) (filter (λ n. eqb (get_or table n 0) record_number) numbers)
     by true rest = ap (λ l. number ∷ l) rest
     by false rest = rest
 
-pub left_first : (table : List ℕ) (line : ℕ) (dues : List Due) → IsLeft table line dues → first_at line dues ≡ numbers_at line table
-left_first table line dues left =
-    first_is line dues left.ascend
-    ∙ (ap (map (λ (due : Due). due.number)) (left.as_listed line (omega arith))
-    ∙ listed_at table line (range_with_len 0 (length table)))
+pub left_first : (table : List ℕ) (record_number : ℕ) (dues : List Due) → IsLeft table record_number dues → first_at record_number dues ≡ numbers_at record_number table
+left_first table record_number dues left =
+    first_is record_number dues left.ascend
+    ∙ (ap (map (λ (due : Due). due.number)) (left.as_listed record_number (omega arith))
+    ∙ listed_at table record_number (range_with_len 0 (length table)))
 
-pub left_after : (table : List ℕ) (line : ℕ) (dues : List Due) → IsLeft table line dues → IsLeft table (line + 1) (after_at line dues)
-left_after table line dues left = record {
-  ascend = after_ascend line dues left.ascend;
-  as_listed = λ later low. after_same line later dues (omega (arith, low)) ∙ left.as_listed later (omega (arith, low));
+pub left_after : (table : List ℕ) (record_number : ℕ) (dues : List Due) → IsLeft table record_number dues → IsLeft table (record_number + 1) (after_at record_number dues)
+left_after table record_number dues left = record {
+  ascend = after_ascend record_number dues left.ascend;
+  as_listed = λ later low. after_same record_number later dues (omega (arith, low)) ∙ left.as_listed later (omega (arith, low));
 }
 
 -- where none is due after a record, all are due later
-ascend_past : (line : ℕ) (dues : List Due) → Ascend line dues → filter (is_at line) dues ≡ [] → Ascend (line + 1) dues
-ascend_past line [] ascend none = tt
-ascend_past line (due ∷ dues) ascend none = elim (eqb_tells due.line line) [
+ascend_past : (record_number : ℕ) (dues : List Due) → Ascend record_number dues → filter (is_at record_number) dues ≡ [] → Ascend (record_number + 1) dues
+ascend_past record_number [] ascend none = tt
+ascend_past record_number (due ∷ dues) ascend none = elim (eqb_tells due.record_number record_number) [
   | inl (test, e) ↦
-      let some : due ∷ filter (is_at line) dues ≡ [] = ap (λ b. cond b (due ∷ filter (is_at line) dues) (filter (is_at line) dues)) (sym test) ∙ none in
+      let some : due ∷ filter (is_at record_number) dues ≡ [] = ap (λ b. cond b (due ∷ filter (is_at record_number) dues) (filter (is_at record_number) dues)) (sym test) ∙ none in
       absurd (let no : ⊥ = cc in no)
   | inr (test, other) ↦ (omega (arith, ascend.0, other), ascend.1)
 ]
@@ -159,14 +159,14 @@ filter_as p q (due ∷ dues) same = ap (λ l. cond (p due) (due ∷ l) l) (filte
 
 -- a stable sort by the records keeps the order of what is due after one record
 pub sorted_dues : (table : List ℕ) (before dues : List Due) → before ≡ listed table
-    → IsNonDecreasingBy (λ (due : Due). due.line) dues
-    → IsStableByKey (λ (due : Due). due.line) nat_cmp before dues
+    → IsNonDecreasingBy (λ (due : Due). due.record_number) dues
+    → IsStableByKey (λ (due : Due). due.record_number) nat_cmp before dues
     → AreDues table dues
 sorted_dues table before dues is ascend stable = record {
   ascend = ascend;
-  as_listed = λ line.
-      let some : Due = record { line = line; number = 0 } in
-      let same = filter_as (is_at line) (λ due. not (is_lt (nat_cmp line due.line)) && not (is_lt (nat_cmp due.line line))) dues (λ due. sym (tie_is line due.line)) in
-      let back = filter_as (λ due. not (is_lt (nat_cmp line due.line)) && not (is_lt (nat_cmp due.line line))) (is_at line) before (λ due. tie_is line due.line) in
-      same ∙ (stable some ∙ (back ∙ ap (filter (is_at line)) is));
+  as_listed = λ record_number.
+      let some : Due = record { record_number = record_number; number = 0 } in
+      let same = filter_as (is_at record_number) (λ due. not (is_lt (nat_cmp record_number due.record_number)) && not (is_lt (nat_cmp due.record_number record_number))) dues (λ due. sym (tie_is record_number due.record_number)) in
+      let back = filter_as (λ due. not (is_lt (nat_cmp record_number due.record_number)) && not (is_lt (nat_cmp due.record_number record_number))) (is_at record_number) before (λ due. tie_is record_number due.record_number) in
+      same ∙ (stable some ∙ (back ∙ ap (filter (is_at record_number)) is));
 }

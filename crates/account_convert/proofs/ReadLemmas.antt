@@ -74,18 +74,18 @@ goes_out {State} leads account first old new state so_far says read none =
     }
 
 -- a fault
-pub goes_wrong : {State : Type 0} (leads : Leading State) (account : List ℕ) (first : State) (old new : Reading) (state : State) (fault : RecordFault) (line : ℕ)
+pub goes_wrong : {State : Type 0} (leads : Leading State) (account : List ℕ) (first : State) (old new : Reading) (state : State) (fault : RecordFault) (record_number : ℕ)
     → (so_far : IsReading leads account first old state)
     → SaysNext account old.finished so_far.records (Err fault)
     → HasRead new account (so_far.records ++ [])
     → new.fault ≡ Some fault
-    → line ≡ new.line
-    → IsFaultAt account line fault
-goes_wrong {State} leads account first old new state fault line so_far says read is line_is =
+    → record_number ≡ new.line
+    → IsFaultAt account record_number fault
+goes_wrong {State} leads account first old new state fault record_number so_far says read is number_is =
     let records = so_far.records in
     record {
       before = records;
-      line_is = line_is ∙ line_refused records account new fault is (subst (HasRead new account) (append-nil records) read);
+      number_is = number_is ∙ line_refused records account new fault is (subst (HasRead new account) (append-nil records) read);
       has = fault_said account old.finished records fault says;
     }
 
@@ -95,18 +95,18 @@ handed {X} P stop (Err other) says is = subst (λ (s : ConvertStop). P (Err s)) 
 handed {X} P stop (Ok x) says is = absurd is
 
 -- A fault is answered exactly where the account has it.
-pub fault_answered : (account : List ℕ) (result : Result Converted ConvertStop) (line : ℕ) (fault : RecordFault)
+pub fault_answered : (account : List ℕ) (result : Result Converted ConvertStop) (record_number : ℕ) (fault : RecordFault)
     → IfOk result (IsConverted account)
     → IfErr result (IsStop account)
     → result ≢ Err Memory
-    → IsFaultAt account line fault
-    → result ≡ Err (Fault line fault)
-fault_answered account (Ok converted) line fault is stop no_memory has = absurd (account_or_fault account is.records has.before fault is.account has.has)
-fault_answered account (Err Memory) line fault is stop no_memory has = absurd (no_memory refl)
-fault_answered account (Err (Fault at other)) line fault is stop no_memory has =
+    → IsFaultAt account record_number fault
+    → result ≡ Err (Fault record_number fault)
+fault_answered account (Ok converted) record_number fault is stop no_memory has = absurd (account_or_fault account is.records has.before fault is.account has.has)
+fault_answered account (Err Memory) record_number fault is stop no_memory has = absurd (no_memory refl)
+fault_answered account (Err (Fault at other)) record_number fault is stop no_memory has =
     let one = one_fault account stop.before has.before other fault stop.has has.has in
-    let same : at ≡ line = stop.line_is ∙ (ap (λ (before : List Record). length before + 1) one.0 ∙ sym has.line_is) in
-    ap (λ n. Err (Fault n other)) same ∙ ap (λ (f : RecordFault). Err (Fault line f)) one.1
+    let same : at ≡ record_number = stop.number_is ∙ (ap (λ (before : List Record). length before + 1) one.0 ∙ sym has.number_is) in
+    ap (λ n. Err (Fault n other)) same ∙ ap (λ (f : RecordFault). Err (Fault record_number f)) one.1
 
-pub fault_had : (account : List ℕ) (result : Result Converted ConvertStop) (line : ℕ) (fault : RecordFault) → IfErr result (IsStop account) → result ≡ Err (Fault line fault) → IsFaultAt account line fault
-fault_had account result line fault stop is = subst (λ (r : Result Converted ConvertStop). IfErr r (IsStop account)) is stop
+pub fault_had : (account : List ℕ) (result : Result Converted ConvertStop) (record_number : ℕ) (fault : RecordFault) → IfErr result (IsStop account) → result ≡ Err (Fault record_number fault) → IsFaultAt account record_number fault
+fault_had account result record_number fault stop is = subst (λ (r : Result Converted ConvertStop). IfErr r (IsStop account)) is stop

@@ -110,8 +110,8 @@ pub record IsConverted (old : List ℕ) (new : Converted) : Type 0 where
   pub version : is_binary new.bytes ≡ not (is_binary old)
   pub becomes : IsAccountOf new.bytes (in_other_version (is_binary old) records)
 
--- the first fault of form of an account is at this line
-pub record IsFaultAt (account : List ℕ) (line : ℕ) (fault : RecordFault) : Type 0 where
+-- the first fault of form of an account is at the record of this number
+pub record IsFaultAt (account : List ℕ) (record_number : ℕ) (fault : RecordFault) : Type 0 where
   pub before : List Record
-  pub line_is : line ≡ length before + 1
+  pub number_is : record_number ≡ length before + 1
   pub has : HasFormFault account before fault

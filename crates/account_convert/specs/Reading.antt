@@ -28,7 +28,7 @@ pub record HasLed {State : Type 0} (leads : Leading State) (account : List ℕ) 
 
 -- why an account isn't read on: its first fault of form
 abbrev pub IsStop : List ℕ → ConvertStop → Type 0
-IsStop account (stop.Fault line fault) = IsFaultAt account line fault
+IsStop account (stop.Fault record_number fault) = IsFaultAt account record_number fault
 IsStop account stop.Memory = Unit {0}
 
 -- what a step says: one record more was read, or all were, or there is a fault
@@ -39,5 +39,5 @@ Goes {State} leads account first reading state (Err stop) = IsStop account stop
 
 -- what all steps say
 abbrev pub GoesThrough : {State : Type 0} → Leading State → List ℕ → State → ℕ → State → Result (Unit {0}) ConvertStop → Type 0
-GoesThrough {State} leads account first line state (Ok done) = HasLed leads account first state line
-GoesThrough {State} leads account first line state (Err stop) = IsStop account stop
+GoesThrough {State} leads account first count state (Ok done) = HasLed leads account first state count
+GoesThrough {State} leads account first count state (Err stop) = IsStop account stop

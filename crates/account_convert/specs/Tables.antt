@@ -10,46 +10,49 @@ use Rattle.account_convert.specs.Conversions.{bans_in, facts_in, gives_ban, give
 
 -- a record of this number names a fact; one that wasn't given yet has no place in the table
 abbrev pub mentioned : ℕ → List ℕ → ℕ → List ℕ
-mentioned line table number = if nat_lt number (length table) then slice_set table number line else table
+mentioned record_number table number =
+    if nat_lt number (length table) then slice_set table number record_number else table
 
 -- a record of this number names all of these
 abbrev pub all_mentioned : ℕ → List ℕ → List ℕ → List ℕ
-all_mentioned line table numbers = fold (mentioned line) table numbers
+all_mentioned record_number table numbers = fold (mentioned record_number) table numbers
 
 -- a record of this number gives one more
 abbrev pub with_given : ℕ → Bool → List ℕ → List ℕ
-with_given line true table = table ++ line ∷ []
-with_given line false table = table
+with_given record_number true table = table ++ record_number ∷ []
+with_given record_number false table = table
 
 -- the table after a record of this number, by what it names and whether it gives one more
 abbrev pub table_after : {X : Type 0} → (X → List ℕ) → (X → Bool) → ℕ → List ℕ → X → List ℕ
-table_after {X} names gives line table entry = with_given line (gives entry) (all_mentioned line table (names entry))
+table_after {X} names gives record_number table entry =
+    with_given record_number (gives entry) (all_mentioned record_number table (names entry))
 
 -- the table after records, of which the first has this number
 abbrev pub table_from : {X : Type 0} → (X → List ℕ) → (X → Bool) → ℕ → List ℕ → List X → List ℕ
-table_from {X} names gives line table [] = table
-table_from {X} names gives line table (entry ∷ later) =
-    table_from names gives (line + 1) (table_after names gives line table entry) later
+table_from {X} names gives record_number table [] = table
+table_from {X} names gives record_number table (entry ∷ later) =
+    table_from names gives (record_number + 1) (table_after names gives record_number table entry) later
 
 -- the table of facts after a record of this number
 abbrev pub facts_after : ℕ → List ℕ → Record → List ℕ
-facts_after line table entry = table_after facts_in gives_fact line table entry
+facts_after record_number table entry = table_after facts_in gives_fact record_number table entry
 
 -- the table of bans after a record of this number
 abbrev pub bans_after : ℕ → List ℕ → Record → List ℕ
-bans_after line table entry = table_after bans_in gives_ban line table entry
+bans_after record_number table entry = table_after bans_in gives_ban record_number table entry
 
 -- the table of facts after records, of which the first has this number
 abbrev pub facts_from : ℕ → List ℕ → List Record → List ℕ
-facts_from line table records = table_from facts_in gives_fact line table records
+facts_from record_number table records = table_from facts_in gives_fact record_number table records
 
 -- the table of bans after records, of which the first has this number
 abbrev pub bans_from : ℕ → List ℕ → List Record → List ℕ
-bans_from line table records = table_from bans_in gives_ban line table records
+bans_from record_number table records = table_from bans_in gives_ban record_number table records
 
 -- the numbers that a table has at a record, ascending
 abbrev pub numbers_at : ℕ → List ℕ → List ℕ
-numbers_at line table = filter (λ number. slice_index_or table number 0 == line) (range_with_len 0 (length table))
+numbers_at record_number table =
+    filter (λ number. slice_index_or table number 0 == record_number) (range_with_len 0 (length table))
 
 -- both tables after an account's first records
 pub record LeadMentions (old : Mentions) (records : List Record) (new : Mentions) : Type 0 where
@@ -58,7 +61,7 @@ pub record LeadMentions (old : Mentions) (records : List Record) (new : Mentions
 
 -- each number with what the table says of it
 abbrev pub due_of : List ℕ → ℕ → Due
-due_of table number = record { line = slice_index_or table number 0; number = number }
+due_of table number = record { record_number = slice_index_or table number 0; number = number }
 
 -- all facts, or all bans, each with the record after which it is dropped
 abbrev pub listed : List ℕ → List Due
@@ -66,9 +69,9 @@ listed table = map (due_of table) (range_with_len 0 (length table))
 
 -- what is due is dropped after the record of this number
 abbrev pub is_at : ℕ → Due → Bool
-is_at line due = due.line == line
+is_at record_number due = due.record_number == record_number
 
 -- The numbers of a table by the records that are the last to give or to name them, and those of one record ascending.
 pub record AreDues (table : List ℕ) (dues : List Due) : Type 0 where
-  pub ascend : IsNonDecreasingBy (λ (due : Due). due.line) dues
-  pub as_listed : (line : ℕ) → filter (is_at line) dues ≡ filter (is_at line) (listed table)
+  pub ascend : IsNonDecreasingBy (λ (due : Due). due.record_number) dues
+  pub as_listed : (record_number : ℕ) → filter (is_at record_number) dues ≡ filter (is_at record_number) (listed table)

@@ -19,12 +19,14 @@ drop_of Ban number = record_of.DropBan number
 
 -- of what is due in turn the first, as far as it is due after this record; and what is left
 abbrev pub first_at : ℕ → List Due → List ℕ
-first_at line [] = []
-first_at line (due ∷ dues) = if due.line == line then due.number ∷ first_at line dues else []
+first_at record_number [] = []
+first_at record_number (due ∷ dues) =
+    if due.record_number == record_number then due.number ∷ first_at record_number dues else []
 
 abbrev pub after_at : ℕ → List Due → List Due
-after_at line [] = []
-after_at line (due ∷ dues) = if due.line == line then after_at line dues else due ∷ dues
+after_at record_number [] = []
+after_at record_number (due ∷ dues) =
+    if due.record_number == record_number then after_at record_number dues else due ∷ dues
 
 -- What is due in turn: facts, and bans, up to the conclusion.
 pub record Queue : Type 0 where
@@ -34,24 +36,31 @@ pub record Queue : Type 0 where
 
 -- what is due after a record of this number, and what is left
 abbrev pub drops_due : Queue → ℕ → Record → List Record
-drops_due queue line entry =
+drops_due queue record_number entry =
     if queue.concluded || is_conclusion entry then []
-    else map record_of.DropFact (first_at line queue.facts) ++ map record_of.DropBan (first_at line queue.bans)
+    else (map record_of.DropFact (first_at record_number queue.facts)
+    ++ map record_of.DropBan (first_at record_number queue.bans))
 
 abbrev pub queue_after : Queue → ℕ → Record → Queue
-queue_after queue line entry =
+queue_after queue record_number entry =
     if queue.concluded || is_conclusion entry then record { concluded = true; facts = queue.facts; bans = queue.bans }
-    else record { concluded = queue.concluded; facts = after_at line queue.facts; bans = after_at line queue.bans }
+    else record {
+      concluded = queue.concluded;
+      facts = after_at record_number queue.facts;
+      bans = after_at record_number queue.bans;
+    }
 
 -- the same of records, of which the first has this number
 abbrev pub written_from : Queue → ℕ → List Record → List Record
-written_from queue line [] = []
-written_from queue line (entry ∷ later) =
-    entry ∷ drops_due queue line entry ++ written_from (queue_after queue line entry) (line + 1) later
+written_from queue record_number [] = []
+written_from queue record_number (entry ∷ later) =
+    entry ∷ drops_due queue record_number entry
+    ++ written_from (queue_after queue record_number entry) (record_number + 1) later
 
 abbrev pub queue_from : Queue → ℕ → List Record → Queue
-queue_from queue line [] = queue
-queue_from queue line (entry ∷ later) = queue_from (queue_after queue line entry) (line + 1) later
+queue_from queue record_number [] = queue
+queue_from queue record_number (entry ∷ later) =
+    queue_from (queue_after queue record_number entry) (record_number + 1) later
 
 -- which drops a writer has still before it
 abbrev pub queue_of : BinaryWriter → Queue

@@ -32,14 +32,24 @@ impl<'a> TakeRecords for BinaryWriter<'a> {
 
     ghost leads = { LeadToBytes };
 
-    fn take(&mut self, line: u64, entry: &Record) -> Result<(), AllocError> {
+    fn take(&mut self, record_number: u64, entry: &Record) -> Result<(), AllocError> {
         put_record2(entry, &mut self.bytes)?;
         self.concluded = self.concluded | is_conclusion(entry);
         if self.concluded {
             return Ok(());
         }
-        put_drops(Numbered::Fact, line, &mut self.facts, &mut self.bytes)?;
-        put_drops(Numbered::Ban, line, &mut self.bans, &mut self.bytes)
+        put_drops(
+            Numbered::Fact,
+            record_number,
+            &mut self.facts,
+            &mut self.bytes,
+        )?;
+        put_drops(
+            Numbered::Ban,
+            record_number,
+            &mut self.bans,
+            &mut self.bytes,
+        )
     }
 }
 
@@ -55,16 +65,16 @@ fn is_conclusion(entry: &Record) -> bool
 // Writes the drops that are due after a record.
 fn put_drops(
     of: Numbered,
-    line: u64,
+    record_number: u64,
     due: &mut DueLeft<'_>,
     out: &mut Vec<u8>,
 ) -> Result<(), AllocError>
     ensures bytes { OnOk result (out.new.items
-        ≡ out.old.items ++ flat_map record_bytes (map (drop_of of) (first_at line due.old))) }
-    ensures fit { OnOk result (All HasBytes (map (drop_of of) (first_at line due.old))) }
-    ensures left { OnOk result (due.new ≡ after_at line due.old) }
+        ≡ out.old.items ++ flat_map record_bytes (map (drop_of of) (first_at record_number due.old))) }
+    ensures fit { OnOk result (All HasBytes (map (drop_of of) (first_at record_number due.old))) }
+    ensures left { OnOk result (due.new ≡ after_at record_number due.old) }
 {
-    while let Some(number) = due.next_at(line) {
+    while let Some(number) = due.next_at(record_number) {
         put_drop(of, number, out)?;
     }
     Ok(())

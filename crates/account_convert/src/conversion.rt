@@ -41,8 +41,8 @@ pub struct Converted {
 /// The account's first fault of form, exactly where it has one, unless out of memory.
 pub fn convert(alloc: Global, account: &[u8]) -> Result<Converted, ConvertStop>
     ensures converted { IfOk result (IsConverted account.now) }
-    ensures fault { (line : ℕ) (fault : AnyFault) → result ≢ Err stop.Memory
-        → ((result ≡ Err (stop.Fault line fault)) ↔ IsFaultAt account.now line fault) }
+    ensures fault { (record_number : ℕ) (fault : AnyFault) → result ≢ Err stop.Memory
+        → ((result ≡ Err (stop.Fault record_number fault)) ↔ IsFaultAt account.now record_number fault) }
 {
     convert_by(alloc, account)
 }

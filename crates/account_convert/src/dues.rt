@@ -12,7 +12,7 @@ use std::marker::Model;
 /// be dropped.
 #[derive(Drop)]
 pub(crate) struct Due {
-    pub(crate) line: u64,
+    pub(crate) record_number: u64,
     pub(crate) number: u64,
 }
 
@@ -40,18 +40,18 @@ fn dues_in(alloc: Global, table: &[u64]) -> Result<Vec<Due>, AllocError>
     ensures { IfOk result (λ dues. AreDues table.now dues.items) }
 {
     let mut dues = list(alloc, table)?;
-    dues.sort_by_key(|due| due.line)?;
+    dues.sort_by_key(|due| due.record_number)?;
     Ok(dues)
 }
 
-// What a table says of each number.
+// For each number, the record after which it is due.
 fn list(alloc: Global, table: &[u64]) -> Result<Vec<Due>, AllocError>
     ensures { IfOk result (λ dues. dues.items ≡ listed table.now) }
 {
     let mut dues = Vec::new(alloc);
     for place in 0..table.len() {
         dues.push(Due {
-            line: table[place],
+            record_number: table[place],
             number: place as u64,
         })?;
     }
@@ -82,17 +82,18 @@ impl<'a> DueLeft<'a> {
     }
 
     /// Takes the next number, if it is due after this record.
-    pub(crate) fn next_at(&mut self, line: u64) -> Option<u64>
-        ensures first { IfSome result (λ number. first_at line self.old ≡ number ∷ first_at line self.new) }
-        ensures after { IfSome result (λ number. after_at line self.old ≡ after_at line self.new) }
+    pub(crate) fn next_at(&mut self, record_number: u64) -> Option<u64>
+        ensures first { IfSome result (λ number. first_at record_number self.old
+            ≡ number ∷ first_at record_number self.new) }
+        ensures after { IfSome result (λ number. after_at record_number self.old ≡ after_at record_number self.new) }
         ensures fewer { IfSome result (λ number. length self.new < length self.old) }
-        ensures none { IfNone result (first_at line self.old ≡ []) }
-        ensures left { IfNone result (after_at line self.old ≡ self.new) }
+        ensures none { IfNone result (first_at record_number self.old ≡ []) }
+        ensures left { IfNone result (after_at record_number self.old ≡ self.new) }
     {
         let [due, rest @ ..] = self.dues else {
             return None;
         };
-        if due.line != line {
+        if due.record_number != record_number {
             return None;
         }
         self.dues = rest;

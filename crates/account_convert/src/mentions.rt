@@ -23,27 +23,31 @@ impl TakeRecords for Mentions {
 
     ghost leads = { LeadMentions };
 
-    fn take(&mut self, line: u64, entry: &Record) -> Result<(), AllocError> {
-        mention_in_facts(&mut self.facts, line, entry)?;
-        mention_in_bans(&mut self.bans, line, entry)
+    fn take(&mut self, record_number: u64, entry: &Record) -> Result<(), AllocError> {
+        mention_in_facts(&mut self.facts, record_number, entry)?;
+        mention_in_bans(&mut self.bans, record_number, entry)
     }
 }
 
 // Puts a record in the table of facts. After the conclusion a line that ends a log gives none: nothing is dropped then,
 // so that what stands in the table of it is never looked for.
-fn mention_in_facts(table: &mut Items<u64>, line: u64, entry: &Record) -> Result<(), AllocError>
-    ensures { OnOk result (table.new ≡ facts_after line table.old entry.now) }
+fn mention_in_facts(
+    table: &mut Items<u64>,
+    record_number: u64,
+    entry: &Record,
+) -> Result<(), AllocError>
+    ensures { OnOk result (table.new ≡ facts_after record_number table.old entry.now) }
 {
     match entry {
-        Record::Fact(FactHead::Fails { .. }) => push(table, line),
+        Record::Fact(FactHead::Fails { .. }) => push(table, record_number),
         Record::Line(log_line) => {
             if log_line.clause.is_empty() {
-                return push(table, line);
+                return push(table, record_number);
             }
             Ok(())
         }
         Record::Ban(ban) => {
-            mention_facts(table, line, &ban.step);
+            mention_facts(table, record_number, &ban.step);
             Ok(())
         }
         _ => Ok(()),
@@ -51,83 +55,87 @@ fn mention_in_facts(table: &mut Items<u64>, line: u64, entry: &Record) -> Result
 }
 
 // Puts a record in the table of bans.
-fn mention_in_bans(table: &mut Items<u64>, line: u64, entry: &Record) -> Result<(), AllocError>
-    ensures { OnOk result (table.new ≡ bans_after line table.old entry.now) }
+fn mention_in_bans(
+    table: &mut Items<u64>,
+    record_number: u64,
+    entry: &Record,
+) -> Result<(), AllocError>
+    ensures { OnOk result (table.new ≡ bans_after record_number table.old entry.now) }
 {
     match entry {
         Record::Ban(ban) => {
-            mention_bans(table, line, &ban.step);
-            push(table, line)
+            mention_bans(table, record_number, &ban.step);
+            push(table, record_number)
         }
         Record::Conclusion(Conclusion::NoneBan(ban)) => {
-            mention(table, line, *ban);
+            mention(table, record_number, *ban);
             Ok(())
         }
         _ => Ok(()),
     }
 }
 
-fn push(table: &mut Items<u64>, line: u64) -> Result<(), AllocError>
-    ensures { OnOk result (table.new ≡ table.old ++ line ∷ []) }
+fn push(table: &mut Items<u64>, record_number: u64) -> Result<(), AllocError>
+    ensures { OnOk result (table.new ≡ table.old ++ record_number ∷ []) }
 {
-    table.push(line)?;
+    table.push(record_number)?;
     Ok(())
 }
 
 // Puts a record beside the facts that a step names.
-fn mention_facts(table: &mut Items<u64>, line: u64, step: &Step)
-    ensures { table.new ≡ all_mentioned line table.old (facts_named step.now) }
+fn mention_facts(table: &mut Items<u64>, record_number: u64, step: &Step)
+    ensures { table.new ≡ all_mentioned record_number table.old (facts_named step.now) }
 {
     match step {
         Step::Vector { .. } | Step::Cover { .. } => {}
-        Step::Mismatch { fails, holds } => mention_all(table, line, &[*fails, *holds]),
+        Step::Mismatch { fails, holds } => mention_all(table, record_number, &[*fails, *holds]),
         Step::Tally { have, lack, .. } => {
-            mention_all(table, line, have);
-            mention_all(table, line, lack);
+            mention_all(table, record_number, have);
+            mention_all(table, record_number, lack);
         }
     }
 }
 
 // Puts a record beside the bans that a step names.
-fn mention_bans(table: &mut Items<u64>, line: u64, step: &Step)
-    ensures { table.new ≡ all_mentioned line table.old (bans_named step.now) }
+fn mention_bans(table: &mut Items<u64>, record_number: u64, step: &Step)
+    ensures { table.new ≡ all_mentioned record_number table.old (bans_named step.now) }
 {
     match step {
         Step::Vector { .. } | Step::Mismatch { .. } | Step::Tally { .. } => {}
-        Step::Cover { refs, .. } => mention_referred(table, line, refs),
+        Step::Cover { refs, .. } => mention_referred(table, record_number, refs),
     }
 }
 
-fn mention_all(table: &mut Items<u64>, line: u64, numbers: &[u64])
-    ensures { table.new ≡ all_mentioned line table.old numbers.now }
+fn mention_all(table: &mut Items<u64>, record_number: u64, numbers: &[u64])
+    ensures { table.new ≡ all_mentioned record_number table.old numbers.now }
 {
     for number in numbers.iter() {
-        mention(table, line, *number);
+        mention(table, record_number, *number);
     }
 }
 
-fn mention_referred(table: &mut Items<u64>, line: u64, refs: &[Option<u64>])
-    ensures { table.new ≡ all_mentioned line table.old (flat_map option_to_list refs.now) }
+fn mention_referred(table: &mut Items<u64>, record_number: u64, refs: &[Option<u64>])
+    ensures { table.new ≡ all_mentioned record_number table.old (flat_map option_to_list refs.now) }
 {
     for reference in refs.iter() {
-        mention_reference(table, line, *reference);
+        mention_reference(table, record_number, *reference);
     }
 }
 
-fn mention_reference(table: &mut Items<u64>, line: u64, reference: Option<u64>)
-    ensures { table.new ≡ all_mentioned line table.old (option_to_list reference) }
+fn mention_reference(table: &mut Items<u64>, record_number: u64, reference: Option<u64>)
+    ensures { table.new ≡ all_mentioned record_number table.old (option_to_list reference) }
 {
     match reference {
-        Some(number) => mention(table, line, number),
+        Some(number) => mention(table, record_number, number),
         None => {}
     }
 }
 
 // Puts a record beside what it names, where that was given.
-fn mention(table: &mut Items<u64>, line: u64, number: u64)
-    ensures { table.new ≡ mentioned line table.old number }
+fn mention(table: &mut Items<u64>, record_number: u64, number: u64)
+    ensures { table.new ≡ mentioned record_number table.old number }
 {
     if number < table.len() as u64 {
-        table.set(number as usize, line);
+        table.set(number as usize, record_number);
     }
 }

@@ -14,8 +14,8 @@ pub(crate) trait TakeRecords {
     ghost leads: { Self → List Entry → Self → Type 0 };
 
     /// Takes the next record, which has this number, from 1.
-    fn take(&mut self, line: u64, entry: &Record) -> Result<(), AllocError>
-        ensures { (first : Self) (before : List Entry) → leads first before self.old → line ≡ length before + 1
+    fn take(&mut self, record_number: u64, entry: &Record) -> Result<(), AllocError>
+        ensures { (first : Self) (before : List Entry) → leads first before self.old → record_number ≡ length before + 1
             → OnOk result (leads first (before ++ entry.now ∷ []) self.new) };
 }
 
@@ -65,8 +65,11 @@ fn take_next<T: TakeRecords>(
         Ok(None) => return Ok(false),
         Err(FileStop::Memory) => return Err(ConvertStop::Memory),
         Err(FileStop::Fault(fault)) => {
-            let line = reader.line();
-            return Err(ConvertStop::Fault { line, fault });
+            let record_number = reader.line();
+            return Err(ConvertStop::Fault {
+                record_number,
+                fault,
+            });
         }
     };
     match taker.take(reader.line(), &entry) {

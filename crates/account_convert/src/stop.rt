@@ -10,8 +10,11 @@ use thiserror::Error;
 #[derive(Clone, Copy, Debug, Drop, PartialEq, Eq, Error)]
 pub enum ConvertStop {
     /// A record has a fault of form, the first one of the account: its number, from 1, and the fault.
-    #[error("record {line}: {fault}")]
-    Fault { line: u64, fault: RecordFault },
+    #[error("record {record_number}: {fault}")]
+    Fault {
+        record_number: u64,
+        fault: RecordFault,
+    },
     /// Out of memory.
     #[error("out of memory")]
     Memory,

@@ -15,7 +15,7 @@ impl TakeRecords for TextWriter {
 
     ghost leads = { LeadToText };
 
-    fn take(&mut self, _line: u64, entry: &Record) -> Result<(), AllocError> {
+    fn take(&mut self, _record_number: u64, entry: &Record) -> Result<(), AllocError> {
         match entry {
             Record::DropFact(_) | Record::DropBan(_) => Ok(()),
             _ => put_record(entry, &mut self.bytes),

@@ -1,4 +1,4 @@
--- Answers that may want memory.
+-- Answers that may be out of memory.
 use Rattle.std.specs.Prelude.{◌≡◌, ℕ, ◌<◌, List, [], ◌++◌, length, Option, None, Some, Result, Ok, Err}
 use Rattle.std.specs.Borrow.{Bor}
 use Rattle.account_file.specs.declared.fault.RecordFault.{RecordFault}

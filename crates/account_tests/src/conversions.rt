@@ -115,9 +115,9 @@ fn stop_of(alloc: Global, account: &[u8]) -> Option<ConvertStop> {
 
 #[test]
 fn says_the_first_fault(rt: HostRuntime) -> Result<(), Fail> {
-    for (account, line, fault) in FAULTS.iter() {
+    for (account, record_number, fault) in FAULTS.iter() {
         let stop = ConvertStop::Fault {
-            line: *line,
+            record_number: *record_number,
             fault: *fault,
         };
         assert_eq!(rt; stop_of(rt.alloc(), account), Some(stop), "{account:?}");

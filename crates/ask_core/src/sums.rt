@@ -208,7 +208,8 @@ fn cost_of(width: usize, salt: u64, left: usize, right: usize) -> u64 {
     (width as u64).saturating_mul(SPREAD).saturating_add(drawn)
 }
 
-// How many numbers two lists share.
+// How many numbers two lists share. Each is looked for by a scan: they are the variables of an equation, at most seven
+// of a gate's and at most `WIDEST` of a sum.
 fn count_shared(one: &[u64], other: &[u64]) -> usize {
     let mut count: usize = 0;
     for number in one.iter() {

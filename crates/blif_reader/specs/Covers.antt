@@ -14,11 +14,11 @@ use Rattle.blif_reader.specs.Directives.{directive_of, is_names}
 use Rattle.blif_reader.specs.Rows.{literal_bytes, output_byte, rows_of}
 use Rattle.blif_reader.specs.Names.{input_words, output_words, defined_words, operands}
 
--- what a byte of a row wants of its operand
+-- what a byte of a row requires of its operand
 abbrev pub trit_of : ℕ → Trit
 trit_of byte = if byte == 48 then Zero else if byte == 49 then One else Dash
 
--- what a row wants of each operand
+-- what a row requires of each operand
 abbrev pub trits_of : List Piece → List Trit
 trits_of row = map trit_of (literal_bytes row)
 

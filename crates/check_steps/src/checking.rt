@@ -19,7 +19,7 @@ use watch_core::Watch;
 pub struct Judgement {
     pub first: Named,
     pub second: Named,
-    /// What the account proves, or the first line of it that is wrong, or that it isn't there.
+    /// What the account proves, or the first record of it that is wrong, or that it isn't there.
     pub outcome: Outcome,
 }
 

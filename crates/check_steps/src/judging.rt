@@ -22,7 +22,7 @@ use watch_core::{Stage, Watch};
 pub enum Halt {
     /// The shelf failed, or there was no memory.
     Stop(ReadStop),
-    /// A line is bad, and why.
+    /// A record is bad, and why.
     Bad { line: u64, why: Why },
 }
 
@@ -50,7 +50,8 @@ impl From<CheckStop> for Halt {
     }
 }
 
-/// What the account under a name says of two netlists. It is read piece by piece, up to the first bad line, and closed.
+/// What the account under a name says of two netlists. It is read piece by piece, up to the first bad record, and
+/// closed.
 pub fn judge<S: Shelf, W: Watch>(
     alloc: Global,
     first: &Named,
@@ -134,7 +135,7 @@ fn judge_unread<S: Shelf, W: Watch>(
     }
 }
 
-/// Checks the unread bytes of the open account piece by piece, up to the first bad line.
+/// Checks the unread bytes of the open account piece by piece, up to the first bad record.
 fn feed_rest<S: Shelf, W: Watch>(
     alloc: Global,
     shelf: &mut S,

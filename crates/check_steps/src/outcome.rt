@@ -29,7 +29,7 @@ pub enum Outcome {
     AcceptedMatch(Matching),
     /// The account proves that no matching is a match of the circuits.
     AcceptedRefusal,
-    /// The first line of the account that is wrong, counted from 1, and why. Where a line is missing it is the one
+    /// The first record of the account that is wrong, counted from 1, and why. Where a record is missing it is the one
     /// after the last.
     Rejected {
         line: u64,

@@ -84,8 +84,8 @@ fn by_kind(
     let needed = inputs.saturating_add(1).saturating_sub(never);
     let asked = needed.max(common).min(all);
     let have = Asked::Failing.values(alloc, having, kind, asked)?;
-    let wanted = inputs.saturating_add(1).saturating_sub(asked);
-    let lack = Asked::Unbroken.values(alloc, lacking, kind, wanted)?;
+    let still_needed = inputs.saturating_add(1).saturating_sub(asked);
+    let lack = Asked::Unbroken.values(alloc, lacking, kind, still_needed)?;
     match kind {
         Tallied::Support => Ok(TallyPlan {
             side,
@@ -154,10 +154,10 @@ impl Asked {
         alloc: Global,
         row: &[Flips],
         kind: Tallied,
-        wanted: u32,
+        needed: u32,
     ) -> Result<Vec<Option<bool>>, AllocError> {
         let mut values = vec![in alloc; None; row.len()]?;
-        let mut left = wanted;
+        let mut left = needed;
         for is_first in [true, false] {
             left = self.set_values(&mut values, row, kind, is_first, left);
         }
@@ -165,16 +165,16 @@ impl Asked {
     }
 
     // Sets the values of that many inputs at most, of those that come first or of the others. Answers how many values
-    // are still wanted.
+    // are still needed.
     fn set_values(
         self,
         values: &mut [Option<bool>],
         row: &[Flips],
         kind: Tallied,
         is_first: bool,
-        wanted: u32,
+        needed: u32,
     ) -> u32 {
-        let mut left = wanted;
+        let mut left = needed;
         for (flips, value) in row.iter().zip(values.iter_mut()) {
             if (left > 0) & (self.is_first(*flips, kind) == is_first) & self.may_ask(*flips, kind) {
                 *value = Some(self.value(*flips));

@@ -1,7 +1,7 @@
 //! Which literal is tried next.
 
 use crate::choice_point::ChoicePoint;
-use cell_splits::{Likeness, State};
+use cell_splits::{Similarity, State};
 use net_core::Side;
 use port_cells::{Cells, Counts, Draws};
 use std::alloc::{AllocError, Global};
@@ -18,7 +18,7 @@ struct Rank {
     size: usize,
 }
 
-/// A literal by its likeness.
+/// A literal by its similarity.
 type RankedLiteral = ((u64, Reverse<usize>), usize);
 
 /// What is to be done with a state.
@@ -102,7 +102,7 @@ fn better(best: Option<(Rank, usize)>, rank: Option<Rank>, cell: usize) -> Optio
 }
 
 /// The next choice point: a literal of the first circuit, and those that it may correspond to, if one isn't alone. By
-/// likeness, where that is known, those that are most alike come first. Else, in later rounds, the literal and the
+/// similarity, where that is known, those that are most alike come first. Else, in later rounds, the literal and the
 /// order of the others are drawn, so that rounds differ. Small cells come first in every other round, since a small
 /// cell has few wrong candidates and a large one splits more, and which of these pays depends on the circuits. Neither
 /// alone loses one of 29 pairs.
@@ -110,19 +110,19 @@ pub(crate) fn next_point(
     alloc: Global,
     state: State,
     counts: &Counts,
-    likeness: Option<&Likeness>,
+    similarity: Option<&Similarity>,
     round: u32,
     draws: &mut Draws,
 ) -> Result<Next, AllocError> {
     let Some(cell) = best_cell(alloc, &state, counts, round)? else {
         return Ok(Next::Paired(state));
     };
-    match likeness {
-        Some(likeness) => {
+    match similarity {
+        Some(similarity) => {
             // while signs are open a guess in the best cell decides most
             let goes_by_cell = goes_by_cell(round) || state.inputs.has_open();
             let only = if goes_by_cell { Some(cell) } else { None };
-            likest_point(alloc, state, only, likeness)
+            most_similar_point(alloc, state, only, similarity)
         }
         None => point_of(alloc, state, cell, round, draws),
     }
@@ -154,25 +154,25 @@ fn point_of(
     }))
 }
 
-// Whether a round that goes by likeness looks for the likest literal in the best cell alone, the largest once no sign
-// is open. The likest of all may be in a small cell that splits nothing else: the AND and the exclusive or of the
-// points on each line of a plane of 57 aren't guessed by it. With the largest cell in all such rounds few gates of a
-// SEC-DED code get partners of equal functions, so it is two of the four, the second and the last.
+// Whether a round that goes by similarity looks for the most similar literal in the best cell alone, the largest once
+// no sign is open. The most similar of all may be in a small cell that splits nothing else: the AND and the exclusive
+// or of the points on each line of a plane of 57 aren't guessed by it. With the largest cell in all such rounds few
+// gates of a SEC-DED code get partners of equal functions, so it is two of the four, the second and the last.
 fn goes_by_cell(round: u32) -> bool {
     round % 4 == 2
 }
 
 // The literal that is most like one that it may correspond to, of one cell or of all.
-fn likest_point(
+fn most_similar_point(
     alloc: Global,
     state: State,
     only: Option<usize>,
-    likeness: &Likeness,
+    similarity: &Similarity,
 ) -> Result<Next, AllocError> {
-    let Some(literal) = likest(alloc, &state.inputs, only, likeness)? else {
+    let Some(literal) = most_similar(alloc, &state.inputs, only, similarity)? else {
         return Ok(Next::Paired(state));
     };
-    let candidates = candidates_of(alloc, &state.inputs, literal, likeness)?;
+    let candidates = candidates_of(alloc, &state.inputs, literal, similarity)?;
     Ok(Next::Guess(ChoicePoint {
         state,
         literal,
@@ -181,21 +181,21 @@ fn likest_point(
 }
 
 // Among the literals that aren't alone in their cells, or those of one cell, the first of those that are most like one
-// of the second circuit. All pairs are gone over: guesses change what is alike, and `Likeness::responses` counts the
+// of the second circuit. All pairs are gone over: guesses change what is alike, and `Similarity::responses` counts the
 // pairs too.
-fn likest(
+fn most_similar(
     alloc: Global,
     inputs: &Cells,
     only: Option<usize>,
-    likeness: &Likeness,
+    similarity: &Similarity,
 ) -> Result<Option<usize>, AllocError> {
     let sizes = inputs.sizes(alloc)?;
     let mut best = None;
     for (literal, cell) in inputs.of(Side::First).iter().enumerate() {
         let is_alone = sizes.get(*cell) == Some(&1);
         if !is_alone & (only.unwrap_or(*cell) == *cell) {
-            let most = most_alike(inputs.of(Side::Second), *cell, literal, likeness);
-            best = likelier(best, most, literal);
+            let most = most_alike(inputs.of(Side::Second), *cell, literal, similarity);
+            best = more_similar(best, most, literal);
         }
     }
     let Some((_, literal)) = best else {
@@ -209,37 +209,37 @@ fn most_alike(
     others: &[usize],
     cell: usize,
     literal: usize,
-    likeness: &Likeness,
+    similarity: &Similarity,
 ) -> (u64, Reverse<usize>) {
     let mut most = (0u64, Reverse(usize::MAX));
     for (other, its) in others.iter().enumerate() {
         if *its == cell {
-            most = most.max(likeness.of(literal / 2, other / 2));
+            most = most.max(similarity.of(literal / 2, other / 2));
         }
     }
     most
 }
 
-fn likelier(
+fn more_similar(
     best: Option<RankedLiteral>,
     most: (u64, Reverse<usize>),
     literal: usize,
 ) -> Option<RankedLiteral> {
     match best {
-        Some((likeness, _)) if likeness >= most => best,
+        Some((similarity, _)) if similarity >= most => best,
         _ => Some((most, literal)),
     }
 }
 
-// The literals that one may correspond to, the likest last.
+// The literals that one may correspond to, the most similar last.
 fn candidates_of(
     alloc: Global,
     inputs: &Cells,
     literal: usize,
-    likeness: &Likeness,
+    similarity: &Similarity,
 ) -> Result<Vec<usize>, AllocError> {
     let mut ranked = Vec::new(alloc);
-    add_ranked(inputs, literal, likeness, &mut ranked)?;
+    add_ranked(inputs, literal, similarity, &mut ranked)?;
     ranked.sort_unstable();
     literals_of(alloc, &ranked)
 }
@@ -248,13 +248,13 @@ fn candidates_of(
 fn add_ranked(
     inputs: &Cells,
     literal: usize,
-    likeness: &Likeness,
+    similarity: &Similarity,
     ranked: &mut Vec<RankedLiteral>,
 ) -> Result<(), AllocError> {
     let cell = inputs.of(Side::First).get(literal);
     for (other, its) in inputs.of(Side::Second).iter().enumerate() {
         if Some(its) == cell {
-            ranked.push((likeness.of(literal / 2, other / 2), other))?;
+            ranked.push((similarity.of(literal / 2, other / 2), other))?;
         }
     }
     Ok(())

@@ -11,7 +11,7 @@ use crate::refiner::Refiner;
 use crate::signs::{has_one_open_cell, with_plain_signs};
 use account_core::PairableGraphs;
 use bit_list::Bits;
-use cell_splits::{Likeness, State, open_in};
+use cell_splits::{Similarity, State, open_in};
 use net_core::Matching;
 use std::alloc::{AllocError, Global};
 
@@ -39,9 +39,9 @@ const ANCHOR_FAILURES: u32 = 3;
 /// The most states that one search goes through: a bound that isn't met, since each search has few failures.
 const MOST_STATES: u32 = 100_000;
 
-/// How many responses of gates to inputs may be compared so that inputs are paired by likeness. With an eighth of them
-/// matchings of the count of 128 inputs, and of the parity of 128 beside an AND, were found by which few gates have
-/// partners of equal functions, which isn't proved in ten seconds.
+/// How many responses of gates to inputs may be compared so that inputs are paired by similarity. With an eighth of
+/// them matchings of the count of 128 inputs, and of the parity of 128 beside an AND, were found by which few gates
+/// have partners of equal functions, which isn't proved in ten seconds.
 const MOST_RESPONSES: u64 = 1 << 24;
 
 /// Up to how many words of gates are computed for it at once. Together with the next number that bounds the memory to
@@ -309,23 +309,27 @@ impl<'a> Guesser<'a> {
 
     // Chooses what is guessed next.
     fn next_point(&mut self, alloc: Global, state: State) -> Result<Next, AllocError> {
-        let likeness = self.likeness(alloc, &state)?;
-        self.refiner.next_point(alloc, state, likeness.as_ref())
+        let similarity = self.similarity(alloc, &state)?;
+        self.refiner.next_point(alloc, state, similarity.as_ref())
     }
 
     // How alike inputs are, where guesses go by that.
-    fn likeness(&mut self, alloc: Global, state: &State) -> Result<Option<Likeness>, AllocError> {
-        if !self.goes_by_likeness(state) {
+    fn similarity(
+        &mut self,
+        alloc: Global,
+        state: &State,
+    ) -> Result<Option<Similarity>, AllocError> {
+        if !self.goes_by_similarity(state) {
             return Ok(None);
         }
-        let likeness = self.refiner.likeness(alloc, state)?;
-        self.responses = self.responses.saturating_sub(likeness.responses());
-        Ok(Some(likeness))
+        let similarity = self.refiner.similarity(alloc, state)?;
+        self.responses = self.responses.saturating_sub(similarity.responses());
+        Ok(Some(similarity))
     }
 
-    // Every other round goes by draws, as likeness may mislead. While signs are open it says little, and a guess
+    // Every other round goes by draws, as similarity may mislead. While signs are open it says little, and a guess
     // serves to split cells, unless one guess decides all signs.
-    fn goes_by_likeness(&self, state: &State) -> bool {
+    fn goes_by_similarity(&self, state: &State) -> bool {
         (self.refiner.round % 2 == 0)
             & (self.responses > 0)
             & (self.refiner.words_of_flips() <= MOST_COMPARED)

@@ -7,7 +7,7 @@ use crate::leaf::with_paired_outputs;
 use crate::signs::has_known_sign;
 use account_core::PairableGraphs;
 use cell_splits::{
-    BEST, CellAssignment, Keys, Likeness, Link, Patterns, Starts, State, anchored, climbed,
+    BEST, CellAssignment, Keys, Link, Patterns, Similarity, Starts, State, anchored, climbed,
 };
 use items::Items;
 use net_core::Side;
@@ -124,12 +124,12 @@ impl<'a> Refiner<'a> {
     }
 
     /// How alike inputs are by the gates that they reach.
-    pub(crate) fn likeness(
+    pub(crate) fn similarity(
         &mut self,
         alloc: Global,
         state: &State,
-    ) -> Result<Likeness, AllocError> {
-        Likeness::new(
+    ) -> Result<Similarity, AllocError> {
+        Similarity::new(
             alloc,
             state,
             &mut self.first.simulator,
@@ -143,13 +143,13 @@ impl<'a> Refiner<'a> {
         &mut self,
         alloc: Global,
         state: State,
-        likeness: Option<&Likeness>,
+        similarity: Option<&Similarity>,
     ) -> Result<Next, AllocError> {
         next_point(
             alloc,
             state,
             &self.first.counts,
-            likeness,
+            similarity,
             self.round,
             &mut self.draws,
         )

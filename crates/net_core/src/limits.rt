@@ -5,7 +5,7 @@
 /// inputs, and as many outputs, there are 67,108,864.
 pub const MAX_PORTS: u32 = 4_096;
 
-/// The most gates of a graph in order, a hundred times as many as the largest circuits that are matched have: numbers
+/// The most gates of a graph in order, about forty times as many as the largest circuits that are matched have: numbers
 /// for each are kept here and there, so that this bounds the memory that a file can ask for.
 pub const MAX_GATES: u32 = 4_000_000;
 

@@ -26,7 +26,7 @@ signal_name inputs signal =
     else if nat_lt inputs signal then gate_name (signal - 1 - inputs)
     else input_name (signal - 1)
 
--- what a row wants of a literal's signal: `0` where the literal is negated, else `1`
+-- what a row requires of a literal's signal: `0` where the literal is negated, else `1`
 abbrev pub row_byte : Lit → ℕ
 row_byte literal = if is_negated literal then 48 else 49
 

@@ -6,8 +6,8 @@ ghost use Rattle.text_core.specs.Extends.{Extends};
 use std::alloc::AllocError;
 use text_core::{put_last_word, put_number, put_text};
 
-/// Writes at the end of `out` that an account is rejected: the number of its first line that is wrong, counted from 1,
-/// and the word for what is wrong there. When out of memory, a first part of the text may stand after what stood in
+/// Writes at the end of `out` that an account is rejected: the number of its first record that is wrong, counted from
+/// 1, and the word for what is wrong there. When out of memory, a first part of the text may stand after what stood in
 /// `out`.
 pub fn put_rejected(line: u64, word: &str, out: &mut Vec<u8>) -> Result<(), AllocError>
     ensures ok { OnOk result (out.new.items ≡ out.old.items ++ rejected_text line word.now) }

@@ -17,7 +17,7 @@ use Rattle.circuits.specs.Levels.{IsWithin, IsAcyclic}
 use Rattle.circuits.proofs.Valuations.{valuation_of-fits}
 use Rattle.circuits.proofs.LevelLaws.{least_level}
 use Rattle.circuits.proofs.Expansions.{literal_bit-plain}
-use Rattle.print_laws.specs.PrintedCircuits.{printed_signal, wanted_of, gate_cover, output_cover, printed_circuit}
+use Rattle.print_laws.specs.PrintedCircuits.{printed_signal, required_of, gate_cover, output_cover, printed_circuit}
 
 pub constant_signal : (inputs : ℕ) → printed_signal inputs 0 ≡ 1 + inputs
 constant_signal inputs = refl
@@ -47,17 +47,17 @@ one_literal false = refl
 
 gate_meaning : (inputs : ℕ) (v w : List Bool) (gate : Gate) → bit v (printed_signal inputs (signal_of gate.a)) ≡ bit w (signal_of gate.a) → bit v (printed_signal inputs (signal_of gate.b)) ≡ bit w (signal_of gate.b) → def_bit v (gate_cover inputs gate) ≡ gate_bit w gate
 gate_meaning inputs v w gate a b =
-    let fits : Bool → Bool → Bool = λ x y. trit_fits x (wanted_of gate.a) && (trit_fits y (wanted_of gate.b) && true) || false in
+    let fits : Bool → Bool → Bool = λ x y. trit_fits x (required_of gate.a) && (trit_fits y (required_of gate.b) && true) || false in
     ap (λ x. fits x (bit v (printed_signal inputs (signal_of gate.b)))) a
     ∙ ap (fits (bit w (signal_of gate.a))) b
-    ∙ one_row (trit_fits (bit w (signal_of gate.a)) (wanted_of gate.a)) (trit_fits (bit w (signal_of gate.b)) (wanted_of gate.b))
-    ∙ ap (λ x. x && trit_fits (bit w (signal_of gate.b)) (wanted_of gate.b)) (fits_literal (bit w (signal_of gate.a)) (is_negated gate.a))
+    ∙ one_row (trit_fits (bit w (signal_of gate.a)) (required_of gate.a)) (trit_fits (bit w (signal_of gate.b)) (required_of gate.b))
+    ∙ ap (λ x. x && trit_fits (bit w (signal_of gate.b)) (required_of gate.b)) (fits_literal (bit w (signal_of gate.a)) (is_negated gate.a))
     ∙ ap (λ y. literal_bit w gate.a && y) (fits_literal (bit w (signal_of gate.b)) (is_negated gate.b))
 
 output_meaning : (inputs : ℕ) (v w : List Bool) (output : Lit) → bit v (printed_signal inputs (signal_of output)) ≡ bit w (signal_of output) → def_bit v (output_cover inputs output) ≡ literal_bit w output
 output_meaning inputs v w output same =
-    ap (λ x. trit_fits x (wanted_of output) && true || false) same
-    ∙ one_literal (trit_fits (bit w (signal_of output)) (wanted_of output))
+    ap (λ x. trit_fits x (required_of output) && true || false) same
+    ∙ one_literal (trit_fits (bit w (signal_of output)) (required_of output))
     ∙ fits_literal (bit w (signal_of output)) (is_negated output)
 
 no_gate : Gate

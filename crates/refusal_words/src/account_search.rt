@@ -82,7 +82,7 @@ impl Text {
         Ok(Need::More)
     }
 
-    /// The next record; None where more bytes are needed first, or a line isn't good.
+    /// The next record; None where more bytes are needed first, or a record isn't good.
     fn next(&mut self, alloc: Global) -> Result<Option<Record>, ReadStop> {
         match self.reader.next(alloc) {
             Ok(record) => Ok(record),

@@ -30,7 +30,7 @@ impl fmt::Display for Stage {
             Stage::Guessing { guesses } => write!(f, "guessing a matching, {guesses} tried"),
             Stage::Proving { output, outputs } => write!(f, "proving output {output} of {outputs}"),
             Stage::Deciding { claims } => write!(f, "deciding claims, {claims} decided"),
-            Stage::Banning { bans } => write!(f, "searching pairs, {bans} bans held"),
+            Stage::Banning { bans } => write!(f, "searching pairs, {bans} bans kept"),
             Stage::Learning { learned, budget } => {
                 write!(f, "learning clauses, {learned} of {budget} learned")
             }

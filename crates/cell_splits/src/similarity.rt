@@ -24,7 +24,7 @@ const WEIGHT: u64 = 1 << 16;
 /// 250.
 const PAIRS_OF_RESPONSE: u64 = 16;
 
-/// The likeness of inputs that share each feature.
+/// The similarity of inputs that share each feature.
 const WHOLE: u64 = 1 << 20;
 
 /// A gate that an input reaches, and what it does where that input is inverted.
@@ -188,7 +188,7 @@ fn unsigned_hash(lanes: Lanes) -> u64 {
 }
 
 /// How alike the inputs of two circuits are.
-pub struct Likeness {
+pub struct Similarity {
     /// How many inputs a circuit has.
     inputs: usize,
     /// What the features weigh that an input of the first circuit shares with one of the second, row by row.
@@ -207,9 +207,9 @@ pub struct Likeness {
 }
 
 // By hand, so that each exit of a function has one call for it (docs/IDIOMS.md).
-impl Drop for Likeness {
+impl Drop for Similarity {
     fn drop(self) {
-        let Likeness {
+        let Similarity {
             inputs: _inputs,
             shared: _shared,
             first: _first,
@@ -221,7 +221,7 @@ impl Drop for Likeness {
     }
 }
 
-impl Likeness {
+impl Similarity {
     /// Compares the inputs that aren't alone in their cells, by what gates do on drawn vectors that are constant on
     /// cells.
     pub fn new(
@@ -230,19 +230,19 @@ impl Likeness {
         first: &mut FlipSim<'_>,
         second: &mut FlipSim<'_>,
         draws: &mut Draws,
-    ) -> Result<Likeness, AllocError> {
+    ) -> Result<Similarity, AllocError> {
         let patterns = Patterns::draw(alloc, &state.inputs, draws)?;
         let left = features_of(alloc, state, Side::First, &patterns, first)?;
         let right = features_of(alloc, state, Side::Second, &patterns, second)?;
-        let mut likeness = Likeness::none(alloc, first.graph(), second.graph())?;
-        likeness.compare(&left, &right);
-        Ok(likeness)
+        let mut similarity = Similarity::none(alloc, first.graph(), second.graph())?;
+        similarity.compare(&left, &right);
+        Ok(similarity)
     }
 
     // Inputs without features.
-    fn none(alloc: Global, first: &Graph, second: &Graph) -> Result<Likeness, AllocError> {
+    fn none(alloc: Global, first: &Graph, second: &Graph) -> Result<Similarity, AllocError> {
         let inputs = first.inputs() as usize;
-        Ok(Likeness {
+        Ok(Similarity {
             inputs,
             shared: vec![in alloc; 0u64; inputs.saturating_mul(inputs)]?,
             first: vec![in alloc; 0u64; inputs]?,
