@@ -20,13 +20,16 @@ use Rattle.account_core.specs.declared.step.Tallied.{Tallied}
 use Rattle.account_core.specs.declared.step.Tallied.TheVariants.{Support, Binate}
 use Rattle.byte_form.specs.Codes.{ListFits, list_bytes, number_bytes}
 
+-- true is 1, false is 0
 abbrev pub bit_byte : Bool → ℕ
 bit_byte bit = if bit then 1 else 0
 
+-- 0 says that ports are inputs, 1 that they are outputs
 abbrev pub kind_byte : PortKind → ℕ
 kind_byte Input = 0
 kind_byte Output = 1
 
+-- 0 is the first of the two circuits, 1 the second
 abbrev pub side_byte : Side → ℕ
 side_byte First = 0
 side_byte Second = 1
@@ -37,21 +40,27 @@ tri_byte tri.Zero = 0
 tri_byte tri.One = 1
 tri_byte tri.X = 2
 
+-- one byte for a bit of a vector, or for the sign of a pair
 abbrev pub bit_bytes : Bool → List ℕ
 bit_bytes bit = bit_byte bit ∷ []
 
+-- one byte for inputs or outputs
 abbrev pub kind_bytes : PortKind → List ℕ
 kind_bytes kind = kind_byte kind ∷ []
 
+-- one byte for one of the two circuits
 abbrev pub side_bytes : Side → List ℕ
 side_bytes side = side_byte side ∷ []
 
+-- one byte for the value of an input that is known, or may be either
 abbrev pub tri_bytes : Tri → List ℕ
 tri_bytes tri = tri_byte tri ∷ []
 
+-- four bytes for the position of an input or of an output
 abbrev pub port_bytes : ℕ → List ℕ
 port_bytes port = number_bytes 4 port
 
+-- eight bytes for a literal of a clause, as its number
 abbrev pub literal_bytes : SatLit → List ℕ
 literal_bytes literal = number_bytes 8 literal.0
 
@@ -64,10 +73,12 @@ abbrev pub reference_tag : Option ℕ → ℕ
 reference_tag None = 0
 reference_tag (Some ban) = 1
 
+-- the eight bytes of a ban's number, and nothing where no ban is named
 abbrev pub reference_fields : Option ℕ → List ℕ
 reference_fields None = []
 reference_fields (Some ban) = number_bytes 8 ban
 
+-- what excludes one way of a cover: an earlier ban, or the ban's own pairs
 abbrev pub reference_bytes : Option ℕ → List ℕ
 reference_bytes reference = reference_tag reference ∷ reference_fields reference
 
@@ -77,11 +88,13 @@ shape_tag (Up i) = 0
 shape_tag (Down i) = 1
 shape_tag (Swap i j a b) = 2
 
+-- the inputs that a claim changes, and of a swap also their values before
 abbrev pub shape_fields : Shape → List ℕ
 shape_fields (Up i) = port_bytes i
 shape_fields (Down i) = port_bytes i
 shape_fields (Swap i j a b) = port_bytes i ++ (port_bytes j ++ (bit_bytes a ++ bit_bytes b))
 
+-- how a claim's inputs change: one rises, one falls, or two change at once
 abbrev pub shape_bytes : Shape → List ℕ
 shape_bytes shape = shape_tag shape ∷ shape_fields shape
 
@@ -97,6 +110,7 @@ line_bytes line = list_bytes literal_bytes line.clause ++ list_bytes (number_byt
 abbrev pub IsPort : ℕ → Type 0
 IsPort number = number < 2 ^ 32
 
+-- a number of a fact, a ban or a clause has 64 bits
 abbrev pub IsNumber : ℕ → Type 0
 IsNumber number = number < 2 ^ 64
 
@@ -104,26 +118,32 @@ IsNumber number = number < 2 ^ 64
 abbrev pub Always : {X : Type 0} → X → Type 0
 Always {X} x = Unit {0}
 
+-- the number of a literal has 64 bits
 abbrev pub IsLiteral : SatLit → Type 0
 IsLiteral literal = IsNumber literal.0
 
+-- The positions of both ports of a pair have 32 bits.
 pub record HasPorts (pair : Pair) : Type 0 where
   pub from : IsPort pair.from
   pub to : IsPort pair.to
 
+-- the number of a ban has 64 bits, where a ban is named
 abbrev pub IsReference : Option ℕ → Type 0
 IsReference None = Unit {0}
 IsReference (Some ban) = IsNumber ban
 
+-- the position of each input that a claim changes has 32 bits
 abbrev pub ShapeHasPorts : Shape → Type 0
 ShapeHasPorts (Up i) = IsPort i
 ShapeHasPorts (Down i) = IsPort i
 ShapeHasPorts (Swap i j a b) = IsPort i × IsPort j
 
+-- The positions of a claim's output and of its inputs have 32 bits.
 pub record ClaimHasPorts (claim : Claim) : Type 0 where
   pub output : IsPort claim.output
   pub shape : ShapeHasPorts claim.shape
 
+-- A line of a log can be written: its literals and its hints have 64 bits each.
 pub record LineFits (line : LogLine) : Type 0 where
   pub clause : ListFits IsLiteral line.clause
   pub hints : ListFits IsNumber line.hints
@@ -133,16 +153,19 @@ abbrev pub tally_tag : Tallied → ℕ
 tally_tag Support = 2
 tally_tag Binate = 3
 
+-- a cover of inputs, or one of outputs
 abbrev pub cover_tag : PortKind → ℕ
 cover_tag Input = 4
 cover_tag Output = 5
 
+-- a vector, a mismatch, or one of the two kinds of tally or of cover
 abbrev pub step_tag : Step → ℕ
 step_tag (Vector output tris) = 0
 step_tag (Mismatch fails holds) = 1
 step_tag (Tally kind have lack) = tally_tag kind
 step_tag (Cover kind from to refs) = cover_tag kind
 
+-- what a step names: an output with values of inputs, facts, or ports with the bans for their ways
 abbrev pub step_fields : Step → List ℕ
 step_fields (Vector output tris) = port_bytes output ++ list_bytes tri_bytes tris
 step_fields (Mismatch fails holds) = number_bytes 8 fails ++ number_bytes 8 holds
@@ -150,6 +173,7 @@ step_fields (Tally kind have lack) = list_bytes (number_bytes 8) have ++ list_by
 step_fields (Cover kind from to refs) =
     list_bytes port_bytes from ++ (list_bytes port_bytes to ++ list_bytes reference_bytes refs)
 
+-- a step: which kind it is, and what it names
 abbrev pub step_bytes : Step → List ℕ
 step_bytes step = step_tag step ∷ step_fields step
 
@@ -157,12 +181,14 @@ step_bytes step = step_tag step ∷ step_fields step
 abbrev pub ban_bytes : Ban → List ℕ
 ban_bytes ban = list_bytes pair_bytes ban.pairs ++ step_bytes ban.step
 
+-- a step can be written: its ports have 32 bits, and its facts' and bans' numbers 64
 abbrev pub StepFits : Step → Type 0
 StepFits (Vector output tris) = IsPort output × ListFits Always tris
 StepFits (Mismatch fails holds) = IsNumber fails × IsNumber holds
 StepFits (Tally kind have lack) = ListFits IsNumber have × ListFits IsNumber lack
 StepFits (Cover kind from to refs) = ListFits IsPort from × (ListFits IsPort to × ListFits IsReference refs)
 
+-- A ban can be written: all ports of its pairs have 32 bits, and its step can be.
 pub record BanFits (ban : Ban) : Type 0 where
   pub pairs : ListFits HasPorts ban.pairs
   pub step : StepFits ban.step

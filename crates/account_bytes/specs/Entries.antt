@@ -13,6 +13,7 @@ use Rattle.account_bytes.specs.declared.reading.EntryStop.TheVariants as stop
 use Rattle.account_bytes.specs.Bodies.{Always, BanFits, ClaimHasPorts, HasPorts, IsNumber, LineFits}
 use Rattle.account_bytes.specs.Bodies.{ban_bytes, bit_bytes, claim_bytes, line_bytes, pair_bytes}
 
+-- the byte that says which kind of record an entry has
 abbrev pub entry_tag : Entry → ℕ
 entry_tag (entry_of.Fact (Fails claim bits)) = 1
 entry_tag (entry_of.Fact (Holds claim)) = 2
@@ -25,6 +26,7 @@ entry_tag entry_of.End = 8
 entry_tag (entry_of.DropFact fact) = 9
 entry_tag (entry_of.DropBan ban) = 10
 
+-- what an entry says: a fact's claim, a line of a log, a ban, a conclusion, or a number that is dropped
 abbrev pub entry_body : Entry → List ℕ
 entry_body (entry_of.Fact (Fails claim bits)) = claim_bytes claim ++ list_bytes bit_bytes bits
 entry_body (entry_of.Fact (Holds claim)) = claim_bytes claim
@@ -41,9 +43,11 @@ entry_body (entry_of.DropBan ban) = number_bytes 8 ban
 abbrev pub frame_bytes : ℕ × List ℕ → List ℕ
 frame_bytes frame = frame.0 ∷ (number_bytes 8 (length frame.1) ++ frame.1)
 
+-- the length of a body has 64 bits
 abbrev pub FrameFits : ℕ × List ℕ → Type 0
 FrameFits frame = length frame.1 < 2 ^ 64
 
+-- an entry, as it stands in an account
 abbrev pub entry_bytes : Entry → List ℕ
 entry_bytes entry = frame_bytes (entry_tag entry, entry_body entry)
 

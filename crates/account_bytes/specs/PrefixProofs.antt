@@ -63,15 +63,19 @@ same_tri tri.One tri.X same = cc
 same_tri tri.X tri.Zero same = cc
 same_tri tri.X tri.One same = cc
 
+-- a bit has one byte, and the two have different ones
 pub bit_code : IsPrefixCode bit_bytes Always
 bit_code = code_of_byte bit_byte same_bit
 
+-- a kind of ports has one byte, and the two have different ones
 pub kind_code : IsPrefixCode kind_bytes Always
 kind_code = code_of_byte kind_byte same_kind
 
+-- a circuit has one byte, and the two have different ones
 pub side_code : IsPrefixCode side_bytes Always
 side_code = code_of_byte side_byte same_side
 
+-- one of three values has one byte, and they have different ones
 pub tri_code : IsPrefixCode tri_bytes Always
 tri_code = code_of_byte tri_byte same_tri
 
@@ -79,6 +83,7 @@ tri_code = code_of_byte tri_byte same_tri
 abbrev literal_with : ℕ → SatLit
 literal_with number = record { 0 = number }
 
+-- a literal has its number's bytes
 pub literal_code : IsPrefixCode literal_bytes IsLiteral
 literal_code =
     code_by literal_bytes IsLiteral (number_bytes 8) IsNumber (λ literal. literal.0) (number_code 8)
@@ -90,9 +95,11 @@ pair_fields_code =
     (both_code port_bytes IsPort (both_bytes port_bytes bit_bytes) (BothFit IsPort Always) (number_code 4)
     (both_code port_bytes IsPort bit_bytes Always (number_code 4) bit_code))
 
+-- a pair that can be written has fields that can
 pub pair_fits : (pair : Pair) → HasPorts pair → PairFieldsFit (pair_fields pair)
 pair_fits pair fits = (tt, (fits.from, (fits.to, tt)))
 
+-- a pair has its fields' bytes
 pub pair_code : IsPrefixCode pair_bytes HasPorts
 pair_code = code_by pair_bytes HasPorts pair_fields_bytes PairFieldsFit pair_fields pair_fields_code (λ pair. refl) pair_fits (λ x y same. ap pair_with same)
 
@@ -111,6 +118,7 @@ same_reference (Some x) (Some y) after other fits fit tags same =
 same_reference None (Some y) after other fits fit tags same = cc
 same_reference (Some x) None after other fits fit tags same = cc
 
+-- a reference says by its first byte whether a ban's number follows
 pub reference_code : IsPrefixCode reference_bytes IsReference
 reference_code = tagged_code reference_tag reference_fields IsReference same_reference
 
@@ -135,6 +143,7 @@ same_shape (Down i) (Swap j k a b) after other fits fit tags same = cc
 same_shape (Swap i j a b) (Up k) after other fits fit tags same = cc
 same_shape (Swap i j a b) (Down k) after other fits fit tags same = cc
 
+-- a change of inputs says by its first byte how many inputs and values follow
 pub shape_code : IsPrefixCode shape_bytes ShapeHasPorts
 shape_code = tagged_code shape_tag shape_fields ShapeHasPorts same_shape
 
@@ -143,9 +152,11 @@ claim_fields_code =
     both_code side_bytes Always (both_bytes port_bytes shape_bytes) (BothFit IsPort ShapeHasPorts) side_code
     (both_code port_bytes IsPort shape_bytes ShapeHasPorts (number_code 4) shape_code)
 
+-- a claim that can be written has fields that can
 pub claim_fits : (claim : Claim) → ClaimHasPorts claim → ClaimFieldsFit (claim_fields claim)
 claim_fits claim fits = (tt, (fits.output, fits.shape))
 
+-- a claim has its fields' bytes
 pub claim_code : IsPrefixCode claim_bytes ClaimHasPorts
 claim_code =
     code_by claim_bytes ClaimHasPorts claim_fields_bytes ClaimFieldsFit claim_fields claim_fields_code
@@ -156,9 +167,11 @@ line_fields_code =
     both_code (list_bytes literal_bytes) (ListFits IsLiteral) (list_bytes (number_bytes 8)) (ListFits IsNumber)
     (list_code literal_bytes IsLiteral literal_code) (list_code (number_bytes 8) IsNumber (number_code 8))
 
+-- a line that can be written has fields that can
 pub line_fits : (line : LogLine) → LineFits line → LineFieldsFit (line_fields line)
 line_fits line fits = (fits.clause, fits.hints)
 
+-- a line has its fields' bytes
 pub line_code : IsPrefixCode line_bytes LineFits
 line_code = code_by line_bytes LineFits line_fields_bytes LineFieldsFit line_fields line_fields_code (λ line. refl) line_fits (λ x y same. ap line_with same)
 
@@ -193,12 +206,14 @@ pub cover_tags : (kind : PortKind) → 4 ≤ cover_tag kind
 cover_tags Input = omega arith
 cover_tags Output = omega arith
 
+-- the two kinds of tally have different tags
 pub same_tallied : (x y : Tallied) → tally_tag x ≡ tally_tag y → x ≡ y
 same_tallied Support Support same = refl
 same_tallied Binate Binate same = refl
 same_tallied Support Binate same = cc
 same_tallied Binate Support same = cc
 
+-- covers of inputs and of outputs have different tags
 pub same_covered : (x y : PortKind) → cover_tag x ≡ cover_tag y → x ≡ y
 same_covered Input Input same = refl
 same_covered Output Output same = refl
@@ -243,14 +258,17 @@ same_step (Cover kind from to refs) (Vector put bits) after other fits fit tags 
 same_step (Cover kind from to refs) (Mismatch fail hold) after other fits fit tags same = absurd (omega (arith, tags, cover_tags kind))
 same_step (Cover kind from to refs) (Tally sort has lacks) after other fits fit tags same = absurd (omega (arith, tags, cover_tags kind, tally_tags sort))
 
+-- a step says by its first byte which kind of step follows
 pub step_code : IsPrefixCode step_bytes StepFits
 step_code = tagged_code step_tag step_fields StepFits same_step
 
 ban_fields_code : IsPrefixCode ban_fields_bytes BanFieldsFit
 ban_fields_code = both_code (list_bytes pair_bytes) (ListFits HasPorts) step_bytes StepFits (list_code pair_bytes HasPorts pair_code) step_code
 
+-- a ban that can be written has fields that can
 pub ban_fits : (ban : Ban) → BanFits ban → BanFieldsFit (ban_fields ban)
 ban_fits ban fits = (fits.pairs, fits.step)
 
+-- a ban has its fields' bytes
 pub ban_code : IsPrefixCode ban_bytes BanFits
 ban_code = code_by ban_bytes BanFits ban_fields_bytes BanFieldsFit ban_fields ban_fields_code (λ ban. refl) ban_fits (λ x y same. ap ban_with same)

@@ -10,6 +10,7 @@ Reads {X} bytes Fits old (Ok x) new = BeginsWith bytes Fits old x new
 Reads {X} bytes Fits old (Err Malformed) new = BeginsNone bytes Fits old
 Reads {X} bytes Fits old (Err Memory) new = Unit {0}
 
+-- a single byte
 abbrev pub one_byte : ℕ → List ℕ
 one_byte byte = byte ∷ []
 

@@ -98,6 +98,7 @@ with_record account (entry.DropBan ban) =
     record account { given = without_pairs account.given ban; dropped = without_ban account.dropped ban }
 with_record account entry.End = account
 
+-- what an account has come to once it has this record too
 abbrev pub after : Account → Record → Account
 after account entry =
     record (with_record account entry) { place = unwrap_or (next_place account.place entry) account.place }
@@ -123,5 +124,6 @@ abbrev pub verdict_at : Place → Option Verdict → Option Verdict
 verdict_at place.Ended concluded = concluded
 verdict_at other concluded = None
 
+-- what an account shows once it has ended: a match, or that there is none
 abbrev pub verdict_of : Account → Option Verdict
 verdict_of account = verdict_at account.place account.concluded

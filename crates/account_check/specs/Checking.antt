@@ -40,6 +40,7 @@ pub record IsDone (graphs : Graphs) (bytes : List ℕ) (account : Account) : Typ
   pub valid : AreValid graphs records
   pub account_is : account ≡ account_after graphs records
 
+-- each whole record was taken, of a text that is at its end, or of one that may go on
 abbrev pub IsThrough : Bool → Graphs → List ℕ → Reading → Account → Type 0
 IsThrough true graphs bytes reading account = IsDone graphs bytes account
 IsThrough false graphs bytes reading account = AreTaken graphs bytes reading account
@@ -87,6 +88,7 @@ abbrev pub unread : ℕ → FileStop → CheckStop
 unread line (file.Fault fault) = Rejected line (why.Form fault)
 unread line file.Memory = Memory
 
+-- why an account is given up at a record that is well written, and wrong
 abbrev pub refused : ℕ → RecordStop → CheckStop
 refused line (stop.Reject reject) = Rejected line (why.Record reject)
 refused line stop.Memory = Memory

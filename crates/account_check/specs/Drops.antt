@@ -9,6 +9,7 @@ pub record Dropped : Type 0 where
   pub facts : List Bool
   pub bans : List Bool
 
+-- the facts and bans before any of them is dropped
 abbrev pub nothing_dropped : Dropped
 nothing_dropped = record { facts = []; bans = [] }
 
@@ -19,6 +20,7 @@ marked [] (suc number) = false ∷ marked [] number
 marked (mark ∷ marks) zero = true ∷ marks
 marked (mark ∷ marks) (suc number) = mark ∷ marked marks number
 
+-- the fact or the ban of this number wasn't dropped
 abbrev pub IsUnmarked : List Bool → ℕ → Type 0
 IsUnmarked marks number = slice_index_or marks number false ≡ false
 
@@ -29,6 +31,7 @@ IsFactKept given dropped fact = IsFactGiven given fact × IsUnmarked dropped.fac
 abbrev pub IsBanKept : Given → Dropped → ℕ → Type 0
 IsBanKept given dropped ban = IsBanGiven given ban × IsUnmarked dropped.bans ban
 
+-- the ban that excludes a way of a cover wasn't dropped, where one is named
 abbrev pub IsReferenceUnmarked : List Bool → Option ℕ → Type 0
 IsReferenceUnmarked marks None = Unit {0}
 IsReferenceUnmarked marks (Some number) = IsUnmarked marks number

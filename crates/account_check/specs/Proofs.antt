@@ -44,6 +44,7 @@ pub record IsLogOf (graphs : Graphs) (side : Side) (log : FactProof) : Type 0 wh
   pub graphs_are : log.graphs ≡ graphs
   pub side_is : log.fact.claim.side ≡ side
 
+-- the log that is kept, if one is, is of a claim about this circuit
 abbrev pub IsLastOf : Graphs → Side → Option FactProof → Type 0
 IsLastOf graphs side None = Unit {0}
 IsLastOf graphs side (Some log) = IsLogOf graphs side log

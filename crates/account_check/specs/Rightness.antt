@@ -16,6 +16,7 @@ pub record IsBeingShown (graphs : Graphs) (fact : OpenFact) : Type 0 where
   pub placed : IsClaim graphs fact.claim
   pub log : IsLogSoFar graphs (claim_query graphs fact.claim) fact.taken
 
+-- the log that is open, if one is, shows its claim so far
 abbrev pub IsOpenFact : Graphs → Option OpenFact → Type 0
 IsOpenFact graphs None = Unit {0}
 IsOpenFact graphs (Some fact) = IsBeingShown graphs fact

@@ -14,11 +14,13 @@ use Rattle.account_file.specs.Accounts.{HasFormFault, IsAccountOf}
 use Rattle.account_file.specs.Binary.{is_binary}
 use Rattle.account_convert.specs.declared.conversion.Converted.{Converted}
 
+-- the record says that no later one names some fact, or some ban
 abbrev pub is_drop : Record → Bool
 is_drop (record_of.DropFact fact) = true
 is_drop (record_of.DropBan ban) = true
 is_drop other = false
 
+-- the record says what an account shows
 abbrev pub is_conclusion : Record → Bool
 is_conclusion (record_of.Conclusion conclusion) = true
 is_conclusion other = false
@@ -32,11 +34,13 @@ abbrev pub facts_in : Record → List ℕ
 facts_in (record_of.Ban ban) = facts_named ban.step
 facts_in other = []
 
+-- the ban without pairs that a conclusion rests on, if it rests on one
 abbrev pub bans_concluded : Conclusion → List ℕ
 bans_concluded NonePorts = []
 bans_concluded (NoneBan ban) = ban ∷ []
 bans_concluded (Match pairs) = []
 
+-- the bans that a record rests on
 abbrev pub bans_in : Record → List ℕ
 bans_in (record_of.Ban ban) = bans_named ban.step
 bans_in (record_of.Conclusion conclusion) = bans_concluded conclusion
@@ -49,13 +53,16 @@ gives_fact (record_of.Fact (Fails claim bits)) = true
 gives_fact (record_of.Line line) = is_empty line.clause
 gives_fact other = false
 
+-- the record is a ban
 abbrev pub gives_ban : Record → Bool
 gives_ban (record_of.Ban ban) = true
 gives_ban other = false
 
+-- a record gives one number more, or none
 abbrev pub one_if : Bool → ℕ
 one_if b = cond b 1 0
 
+-- the number is one of these
 abbrev pub is_among : List ℕ → ℕ → Bool
 is_among numbers number = list_any (λ other. other == number) numbers
 
@@ -80,6 +87,7 @@ with_drops_from facts bans (entry ∷ later) =
     else entry ∷ drops_after facts bans entry later
     ++ with_drops_from (facts + one_if (gives_fact entry)) (bans + one_if (gives_ban entry)) later
 
+-- an account of version 1, with the drops that version 2 has
 abbrev pub with_drops : List Record → List Record
 with_drops records = with_drops_from 0 0 records
 
@@ -88,6 +96,7 @@ abbrev pub in_other_version : Bool → List Record → List Record
 in_other_version false records = with_drops records
 in_other_version true records = without_drops records
 
+-- the version that people are told
 abbrev pub version_number : Bool → ℕ
 version_number binary = if binary then 2 else 1
 

@@ -12,6 +12,7 @@ use Rattle.account_convert.specs.Conversions.{bans_in, facts_in, gives_ban, give
 abbrev pub mentioned : ℕ → List ℕ → ℕ → List ℕ
 mentioned line table number = if nat_lt number (length table) then slice_set table number line else table
 
+-- a record of this number names all of these
 abbrev pub all_mentioned : ℕ → List ℕ → List ℕ → List ℕ
 all_mentioned line table numbers = fold (mentioned line) table numbers
 
@@ -20,6 +21,7 @@ abbrev pub with_given : ℕ → Bool → List ℕ → List ℕ
 with_given line true table = table ++ line ∷ []
 with_given line false table = table
 
+-- the table after a record of this number, by what it names and whether it gives one more
 abbrev pub table_after : {X : Type 0} → (X → List ℕ) → (X → Bool) → ℕ → List ℕ → X → List ℕ
 table_after {X} names gives line table entry = with_given line (gives entry) (all_mentioned line table (names entry))
 
@@ -29,15 +31,19 @@ table_from {X} names gives line table [] = table
 table_from {X} names gives line table (entry ∷ later) =
     table_from names gives (line + 1) (table_after names gives line table entry) later
 
+-- the table of facts after a record of this number
 abbrev pub facts_after : ℕ → List ℕ → Record → List ℕ
 facts_after line table entry = table_after facts_in gives_fact line table entry
 
+-- the table of bans after a record of this number
 abbrev pub bans_after : ℕ → List ℕ → Record → List ℕ
 bans_after line table entry = table_after bans_in gives_ban line table entry
 
+-- the table of facts after records, of which the first has this number
 abbrev pub facts_from : ℕ → List ℕ → List Record → List ℕ
 facts_from line table records = table_from facts_in gives_fact line table records
 
+-- the table of bans after records, of which the first has this number
 abbrev pub bans_from : ℕ → List ℕ → List Record → List ℕ
 bans_from line table records = table_from bans_in gives_ban line table records
 
@@ -54,9 +60,11 @@ pub record LeadMentions (old : Mentions) (records : List Record) (new : Mentions
 abbrev pub due_of : List ℕ → ℕ → Due
 due_of table number = record { line = slice_index_or table number 0; number = number }
 
+-- all facts, or all bans, each with the record after which it is dropped
 abbrev pub listed : List ℕ → List Due
 listed table = map (due_of table) (range_with_len 0 (length table))
 
+-- what is due is dropped after the record of this number
 abbrev pub is_at : ℕ → Due → Bool
 is_at line due = due.line == line
 

@@ -53,6 +53,7 @@ abbrev pub queue_from : Queue → ℕ → List Record → Queue
 queue_from queue line [] = queue
 queue_from queue line (entry ∷ later) = queue_from (queue_after queue line entry) (line + 1) later
 
+-- which drops a writer has still before it
 abbrev pub queue_of : BinaryWriter → Queue
 queue_of writer = record { concluded = writer.concluded; facts = writer.facts; bans = writer.bans }
 

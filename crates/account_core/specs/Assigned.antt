@@ -49,6 +49,7 @@ ArePortsInTurn Input Output one other = ⊤
 ArePortsInTurn Output Input one other = ⊥
 ArePortsInTurn Output Output one other = one < other
 
+-- the port of one pair in the first circuit stands before that of another
 abbrev pub StandsBefore : Pair → Pair → Type 0
 StandsBefore one other = ArePortsInTurn one.kind other.kind one.from other.from
 

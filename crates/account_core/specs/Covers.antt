@@ -9,6 +9,7 @@ use Rattle.account_core.specs.Ports.{ports_in, Clash}
 use Rattle.account_core.specs.Given.{Given, ban_at, IsBanGiven}
 use Rattle.account_core.specs.Tallies.{Ascend}
 
+-- two ports of a kind, paired plain or inverted
 abbrev pub way : PortKind → ℕ → ℕ → Bool → Pair
 way kind from to flip = record { kind = kind; from = from; to = to; flip = flip }
 

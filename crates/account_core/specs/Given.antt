@@ -16,6 +16,7 @@ pub record Decided : Type 0 where
   pub claim : Claim
   pub holds : Bool
 
+-- a claim, as one that holds or as one that fails
 abbrev pub decided : Claim → Bool → Decided
 decided claim holds = record { claim = claim; holds = holds }
 
@@ -24,6 +25,7 @@ abbrev pub shown_by : Claim → Evidence → Decided
 shown_by claim (evidence.Fails bits) = decided claim false
 shown_by claim (evidence.Holds log) = decided claim true
 
+-- what a fact says of its claim: that it holds, by a log, or that it fails, by a vector
 abbrev pub decided_by : Fact → Decided
 decided_by fact = shown_by fact.claim fact.evidence
 
@@ -44,9 +46,11 @@ fact_at given k = slice_index_or given.facts k no_fact
 abbrev pub ban_at : Given → ℕ → List Pair
 ban_at given b = slice_index_or given.bans b []
 
+-- the account has given a fact of this number
 abbrev pub IsFactGiven : Given → ℕ → Type 0
 IsFactGiven given k = k < length given.facts
 
+-- the account has given a ban of this number
 abbrev pub IsBanGiven : Given → ℕ → Type 0
 IsBanGiven given b = b < length given.bans
 

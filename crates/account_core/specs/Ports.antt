@@ -27,6 +27,7 @@ pub record StandInOrder (one other : Pair) : Type 0 where
   pub ascending : one.kind ≡ other.kind → one.from < other.from
   pub apart : one.kind ≡ other.kind → one.to ≢ other.to
 
+-- pairs as an account has to list them: in order, and no two with one port
 abbrev pub AreOrdered : List Pair → Type 0
 AreOrdered pairs = AllPairs StandInOrder pairs
 

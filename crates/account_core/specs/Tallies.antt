@@ -14,6 +14,7 @@ use Rattle.account_core.specs.declared.step.Tallied.{Tallied}
 use Rattle.account_core.specs.declared.step.Tallied.TheVariants.{Support, Binate}
 use Rattle.account_core.specs.Given.{Given, fact_at}
 
+-- the circuit that this one is compared with
 abbrev pub other_side : Side → Side
 other_side First = Second
 other_side Second = First
@@ -51,10 +52,12 @@ abbrev pub HaveShapes : Tallied → List ℕ → List Shape → Type 0
 HaveShapes Support inputs shapes = AreOfEach inputs shapes
 HaveShapes Binate inputs shapes = AreBothOfEach inputs shapes
 
+-- what has to hold of each input that an output lacks, outside its support or not binate
 abbrev pub LackShapes : Tallied → List ℕ → List Shape → Type 0
 LackShapes Support inputs shapes = AreBothOfEach inputs shapes
 LackShapes Binate inputs shapes = AreOfEach inputs shapes
 
+-- each number is greater than those before it
 abbrev pub Ascend : List ℕ → Type 0
 Ascend numbers = AllPairs (λ one other. one < other) numbers
 

@@ -10,6 +10,7 @@ use Rattle.word_sim.specs.declared.tri.Tri.{Tri}
 use Rattle.word_sim.specs.declared.tri.Tri.TheVariants.{X}
 use Rattle.word_sim.specs.ThreeValues.{tri_not, tri_outputs}
 
+-- the value of port k, and X where there is none
 abbrev pub value_at : List Tri → ℕ → Tri
 value_at values k = slice_index_or values k X
 

@@ -11,26 +11,32 @@ use Rattle.account_file.specs.BinaryAccounts.{AreAllEntries, AreFirstEntries, Ha
 
 -- each by whether bytes are of version 2
 
+-- these are the first records of an account, as lines, or as entries in version 2
 abbrev pub AreFirstBy : Bool → List ℕ → List Record → Type 0
 AreFirstBy false bytes records = AreRecords (take (length records) (whole_lines bytes)) records
 AreFirstBy true bytes records = AreFirstEntries bytes records
 
+-- these are all of an account's whole records, as lines, or as entries in version 2
 abbrev pub AreAllBy : Bool → List ℕ → List Record → Type 0
 AreAllBy false bytes records = AreRecords (whole_lines bytes) records
 AreAllBy true bytes records = AreAllEntries bytes records
 
+-- after these records an account has its first fault of form, in a line, or in an entry
 abbrev pub HasFaultBy : Bool → List ℕ → List Record → RecordFault → Type 0
 HasFaultBy false bytes before fault = HasTextFault bytes before fault
 HasFaultBy true bytes before fault = HasBinaryFault bytes before fault
 
+-- an account is these records and nothing else, as lines, or as entries in version 2
 abbrev pub IsAccountBy : Bool → List ℕ → List Record → Type 0
 IsAccountBy false bytes records = IsTextAccount bytes records
 IsAccountBy true bytes records = IsBinaryAccount bytes records
 
+-- after these records stands this one, as a line, or as an entry
 abbrev pub IsNextBy : Bool → List ℕ → List Record → Record → Type 0
 IsNextBy false bytes before entry = IsNextLine bytes before entry
 IsNextBy true bytes before entry = AreFirstEntries bytes (before ++ entry ∷ [])
 
+-- what an account says after these records, by its next line, or by its next entry
 abbrev pub SaysBy : Bool → List ℕ → Bool → List Record → Result (Option Record) RecordFault → Type 0
 SaysBy false bytes finished before says = SaysLine bytes finished before says
 SaysBy true bytes finished before says = SaysEntry bytes finished before says
@@ -69,5 +75,6 @@ version_by true undecided = Some 2
 version_by false true = None
 version_by false false = Some 1
 
+-- the version of an account, as far as the bytes that came tell it
 abbrev pub version_of : List ℕ → Bool → Option ℕ
 version_of bytes finished = version_by (is_binary bytes) (if finished then false else may_be_binary bytes)

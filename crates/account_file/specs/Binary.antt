@@ -42,12 +42,15 @@ abbrev pub bytes_by : Option Entry → List ℕ
 bytes_by None = signature
 bytes_by (Some entry) = entry_bytes entry
 
+-- the header always can be written, and an entry where its numbers have room
 abbrev pub FitsBy : Option Entry → Type 0
 FitsBy None = Unit {0}
 FitsBy (Some entry) = EntryFits entry
 
+-- a record as it stands in an account of version 2
 abbrev pub record_bytes : Record → List ℕ
 record_bytes entry = bytes_by (entry_in entry)
 
+-- a record can be written in version 2
 abbrev pub HasBytes : Record → Type 0
 HasBytes entry = FitsBy (entry_in entry)

@@ -31,10 +31,12 @@ abbrev pub placed : Record → Option Place → Result (Record × Place) RecordF
 placed entry None = Err fault.Order
 placed entry (Some place) = Ok (entry, place)
 
+-- a record that was read, unless it may not stand where the account stands
 abbrev pub in_place : Place → Result Record RecordFault → Result (Record × Place) RecordFault
 in_place place (Ok entry) = placed entry (next_place place entry)
 in_place place (Err fault) = Err fault
 
+-- a line is read: the first one has to be the header's, and each other one a record's
 abbrev pub line_at : Place → List ℕ → Result (Record × Place) RecordFault
 line_at Start line = if bytes_eq line (codes "npnp 1") then Ok (record_of.Header, Headed) else Err fault.Header
 line_at place line = in_place place (record_in (words_of line))
@@ -43,6 +45,7 @@ line_at place line = in_place place (record_in (words_of line))
 abbrev pub has_line : List ℕ → Bool
 has_line left = nat_lt (position_or_len is_line_feed left) (length left)
 
+-- a good line is passed with its record, and any other is refused
 abbrev pub next_from : ℕ → Result (Record × Place) RecordFault → NextRecord
 next_from used (Ok found) = Read found.0 found.1 used
 next_from used (Err fault) = Refuse fault
@@ -52,11 +55,13 @@ abbrev pub next_at_line : Place → List ℕ → NextRecord
 next_at_line Ended line = Refuse fault.Trailing
 next_at_line place line = next_from (length line + 1) (line_at place line)
 
+-- where no line is left, an account has to have ended
 abbrev pub next_at_end : Place → List ℕ → NextRecord
 next_at_end Ended [] = Wait
 next_at_end Ended (byte ∷ left) = Refuse fault.Trailing
 next_at_end place left = Refuse fault.Truncated
 
+-- the next line is read; without a whole one the reader waits, or the bytes are at their end
 abbrev pub next_of : List ℕ → Bool → Place → NextRecord
 next_of left finished place =
     if has_line left then next_at_line place (before_first is_line_feed left)
@@ -79,6 +84,7 @@ pub record BeginsMisplaced (left : List ℕ) (place : Place) : Type 0 where
   pub begins : BeginsWith entry_bytes EntryFits left entry after
   pub no_place : next_place place (record_with entry) ≡ None
 
+-- The account has begun, and hasn't ended.
 pub record IsOpen (place : Place) : Type 0 where
   pub begun : place ≢ Start
   pub not_ended : place ≢ Ended
@@ -97,26 +103,30 @@ abbrev pub Waits : List ℕ → Bool → Place → Type 0
 Waits left finished Ended = left ≡ []
 Waits left finished place = IsOpen place × (finished ≡ false) × BeginsNone frame_bytes FrameFits left
 
+-- the reader waits for more of an entry, reads a record, or refuses what stands there
 abbrev pub IsBinaryNext : List ℕ → Bool → Place → NextRecord → Type 0
 IsBinaryNext left finished place Wait = Waits left finished place
 IsBinaryNext left finished place (Read entry after used) = BeginsRecord left place entry after used
 IsBinaryNext left finished place (Refuse fault) = IsRefused left finished place fault
 
--- the record of the entry that bytes begin with, and how many bytes it has; or why there is none
+-- Bytes begin with this entry, which has so many of them.
 pub record IsFound (left : List ℕ) (entry : Entry) (used : ℕ) : Type 0 where
   pub begins : BeginsWith entry_bytes EntryFits left entry (drop used left)
   pub within : used ≤ length left
 
+-- the record of the entry that bytes begin with, and how many bytes it has; or why there is none
 abbrev pub EntryFound : List ℕ → Result (Record × ℕ) EntryStop → Type 0
 EntryFound left (Ok found) = (entry : Entry) × (found.0 ≡ record_with entry) × IsFound left entry found.1
 EntryFound left (Err stop.Cut) = BeginsNone frame_bytes FrameFits left
 EntryFound left (Err stop.Malformed) = IsMalformed left
 EntryFound left (Err stop.Memory) = Unit {0}
 
+-- a record that was read, unless it may not stand where the account stands
 abbrev pub entry_next : Record → ℕ → Option Place → NextRecord
 entry_next entry used None = Refuse fault.Order
 entry_next entry used (Some place) = Read entry place used
 
+-- an entry that isn't whole is waited for, while more bytes may come
 abbrev pub cut_off : Bool → NextRecord
 cut_off finished = if finished then Refuse fault.Truncated else Wait
 
@@ -145,6 +155,7 @@ abbrev pub known_version : Bool → Option ℕ
 known_version true = Some 2
 known_version false = Some 1
 
+-- whether an account goes on in version 2
 abbrev pub form_of : Reading → Bool
 form_of reading = form_at reading.place reading.left reading.binary
 
@@ -154,6 +165,7 @@ answer_by Wait = Ok None
 answer_by (Read entry place used) = Ok (Some entry)
 answer_by (Refuse fault) = Err fault
 
+-- how far an account is read after a step
 abbrev pub reading_after : Reading → Bool → NextRecord → Reading
 reading_after reading binary Wait = reading
 reading_after reading binary (Read entry place used) =

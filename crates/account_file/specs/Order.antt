@@ -13,10 +13,12 @@ use Rattle.account_file.specs.declared.record.Record.TheVariants as record_of
 use Rattle.account_file.specs.declared.place.Place.{Place}
 use Rattle.account_file.specs.declared.place.Place.TheVariants.{Start, Headed, FactLog, Logs, Ended}
 
+-- ports of this kind are outputs
 abbrev pub is_output_kind : PortKind → Bool
 is_output_kind Input = false
 is_output_kind Output = true
 
+-- a pair is of two outputs
 abbrev pub is_output : Pair → Bool
 is_output pair = is_output_kind pair.kind
 

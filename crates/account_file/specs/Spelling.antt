@@ -39,9 +39,11 @@ abbrev pub side_word : Side → List ℕ
 side_word First = codes "a"
 side_word Second = codes "b"
 
+-- `0` or `1`
 abbrev pub bit_digit : Bool → ℕ
 bit_digit bit = if bit then 49 else 48
 
+-- `0` or `1`, and `x` where it may be either
 abbrev pub tri_digit : Tri → ℕ
 tri_digit tri.Zero = 48
 tri_digit tri.One = 49
@@ -64,10 +66,12 @@ shape_words (Swap i j a b) = codes "swap" ∷ decimal i ∷ decimal j ∷ (bit_d
 abbrev pub claim_words : Claim → List (List ℕ)
 claim_words claim = side_word claim.side ∷ decimal claim.output ∷ shape_words claim.shape
 
+-- what a tally counts: inputs that an output depends on, or those in which it isn't unate
 abbrev pub tallied_word : Tallied → List ℕ
 tallied_word Support = codes "support"
 tallied_word Binate = codes "binate"
 
+-- `in` for inputs, `out` for outputs
 abbrev pub kind_word : PortKind → List ℕ
 kind_word Input = codes "in"
 kind_word Output = codes "out"
@@ -129,20 +133,24 @@ line_text entry = first_word entry ++ spaced (other_words entry)
 abbrev pub record_line : Record → List ℕ
 record_line entry = line_text entry ++ 10 ∷ []
 
+-- The literals and hints of a line have 64 bits.
 pub record HasNumbers (line : LogLine) : Type 0 where
   pub literals : All (λ literal. IsNumber literal.0) line.clause
   pub hints : All IsNumber line.hints
 
+-- the ports of a step have 32 bits, and the numbers of facts and bans 64
 abbrev pub StepHasNumbers : Step → Type 0
 StepHasNumbers (Vector output tris) = IsPort output
 StepHasNumbers (Mismatch fails holds) = IsNumber fails × IsNumber holds
 StepHasNumbers (Tally kind have lack) = All IsNumber have × All IsNumber lack
 StepHasNumbers (Cover kind from to refs) = All IsPort from × (All IsPort to × All IsReference refs)
 
+-- The ports of a ban's pairs have 32 bits, and the numbers of its step have room.
 pub record BanHasNumbers (ban : Ban) : Type 0 where
   pub pairs : All HasPorts ban.pairs
   pub step : StepHasNumbers ban.step
 
+-- a record can be written as a line: it is no drop, and its numbers have room
 abbrev pub IsWritable : Record → Type 0
 IsWritable record_of.Header = Unit {0}
 IsWritable (record_of.Fact (Fails claim bits)) = ClaimHasPorts claim
@@ -173,4 +181,5 @@ HasLine-prop record_of.End = Prim.hlevel props
 HasLine-prop (record_of.DropFact fact) = Prim.hlevel props
 HasLine-prop (record_of.DropBan ban) = Prim.hlevel props
 
+-- so the prover takes any two showings of it as the same
 pub ruleset line_props = (props, HasLine-prop)

@@ -3,6 +3,7 @@ use Rattle.std.specs.Prelude.{ℕ, ◌==◌, Bool, List, [], Option, None, Some}
 use Rattle.std.specs.Borrow.{Bor}
 use Rattle.std.specs.List.{slice_split}
 
+-- the byte between two words of a line
 abbrev pub is_space : ℕ → Bool
 is_space byte = byte == 32
 

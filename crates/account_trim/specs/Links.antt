@@ -33,10 +33,12 @@ hinted places k hint =
 abbrev pub line_names : Places → ℕ → LogLine → List ℕ
 line_names places k line = flat_map (hinted places k) line.hints ++ option_to_list places.owner
 
+-- where the facts and bans stand that a ban's step names
 abbrev pub step_names : Places → ℕ → Step → List ℕ
 step_names places k step =
     flat_map (listed k places.facts) (facts_named step) ++ flat_map (listed k places.bans) (bans_named step)
 
+-- where the ban without pairs stands by which an account concludes that there is no match
 abbrev pub conclusion_names : Places → ℕ → Conclusion → List ℕ
 conclusion_names places k (NoneBan ban) = listed k places.bans ban
 conclusion_names places k NonePorts = []
@@ -64,6 +66,7 @@ is_root owner (record_of.DropFact fact) = false
 is_root owner (record_of.DropBan ban) = false
 is_root owner record_of.End = true
 
+-- whether a record is kept in any case, and which records it rests on
 abbrev pub link : Places → ℕ → Record → Links
 link places k entry = record {
   is_root = is_root places.owner entry;
@@ -78,5 +81,6 @@ links_from graphs places k [] = []
 links_from graphs places k (entry ∷ records) =
     link places k entry ∷ links_from graphs (with_one graphs places k entry) (k + 1) records
 
+-- on which records each record of an account rests
 abbrev pub links_of : Graphs → List Record → List Links
 links_of graphs records = links_from graphs no_places 0 records

@@ -53,6 +53,7 @@ lowered_hint counts link hint =
     hint - (slice_index_or counts (link.start + (hint - link.base)) 0 - slice_index_or counts link.start 0)
     else hint
 
+-- a conclusion that names its ban by the number that the ban has now
 abbrev pub lowered_conclusion : Lower → Conclusion → Conclusion
 lowered_conclusion lower (NoneBan ban) = NoneBan (lowered lower.bans ban)
 lowered_conclusion lower NonePorts = NonePorts

@@ -21,6 +21,7 @@ abbrev pub claim_base : Graphs → Claim → ℕ
 claim_base graphs claim =
     3 + 3 * (length (graph_of graphs claim.side).gates + length (graph_of graphs claim.side).gates)
 
+-- how many clauses a query has that asks whether an output and its partner can differ
 abbrev pub match_base : Graphs → ℕ
 match_base graphs = 3 + 3 * (length graphs.first.gates + length graphs.second.gates)
 
@@ -42,6 +43,7 @@ with_line places k line =
     then record places { facts = places.facts ++ given_at places.owner k; owner = None; start = k + 1 }
     else places
 
+-- the logs of a match follow its conclusion
 abbrev pub with_conclusion : Graphs → Places → ℕ → Conclusion → Places
 with_conclusion graphs places k (Match pairs) = record places { start = k + 1; base = match_base graphs }
 with_conclusion graphs places k NonePorts = places
@@ -63,5 +65,6 @@ abbrev pub with_all : Graphs → Places → ℕ → List Record → Places
 with_all graphs places k [] = places
 with_all graphs places k (entry ∷ records) = with_all graphs (with_one graphs places k entry) (k + 1) records
 
+-- where facts, bans and lines of logs stand, after all records of an account
 abbrev pub places_of : Graphs → List Record → Places
 places_of graphs records = with_all graphs no_places 0 records

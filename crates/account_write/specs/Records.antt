@@ -45,6 +45,7 @@ abbrev pub shown_records : Claim → Evidence → List Record
 shown_records claim (evidence.Fails bits) = entry.Fact (head.Fails claim bits) ∷ []
 shown_records claim (evidence.Holds log) = entry.Fact (head.Holds claim) ∷ log_records log
 
+-- a fact as an account has it, with its log if it holds
 abbrev pub fact_records : Fact → List Record
 fact_records fact = shown_records fact.claim fact.evidence
 

@@ -26,6 +26,7 @@ pub record IsBinary (bytes : List ℕ) (h : AigerHeader) (rows : List (List ℕ)
   pub read : AreGates bytes h gates rest
   pub same : circuit ≡ binary_circuit h rows gates
 
+-- what stands after the header gives this netlist, in the ASCII form or (true) in the binary one
 abbrev pub IsOfForm : Bool → List ℕ → AigerHeader → List (List ℕ) → Circuit → List ℕ → Type 0
 IsOfForm false bytes h rows circuit rest = IsText bytes h rows circuit rest
 IsOfForm true bytes h rows circuit rest = IsBinary bytes h rows circuit rest
@@ -61,6 +62,7 @@ pub record IsLinesFault (bytes : List ℕ) (fault : NetKind) (at : ℕ) : Type 0
   pub begins : Begins bytes h
   pub why : IsBodyFault bytes h fault at
 
+-- A delta of the binary form's gates is bad.
 pub record IsGatesFault (bytes : List ℕ) (fault : NetKind) (at : ℕ) : Type 0 where
   pub h : AigerHeader
   pub begins : Begins bytes h
@@ -70,6 +72,7 @@ pub record IsGatesFault (bytes : List ℕ) (fault : NetKind) (at : ℕ) : Type 0
   pub is_delta : fault ≡ kind.Delta
   pub why : IsDeltaFault bytes h at
 
+-- A line of the ASCII form reads a variable that no line defines.
 pub record IsUndefinedFault (bytes : List ℕ) (fault : NetKind) (at : ℕ) : Type 0 where
   pub h : AigerHeader
   pub begins : Begins bytes h
@@ -79,6 +82,7 @@ pub record IsUndefinedFault (bytes : List ℕ) (fault : NetKind) (at : ℕ) : Ty
   pub is_undefined : fault ≡ kind.Undefined
   pub why : IsUndefined bytes h rows at
 
+-- A gate's operands lead back to it, or to a gate of which that is so; the first such gate's line is told.
 pub record IsCycleFault (bytes : List ℕ) (fault : NetKind) (at : ℕ) : Type 0 where
   pub h : AigerHeader
   pub circuit : Circuit
@@ -89,6 +93,7 @@ pub record IsCycleFault (bytes : List ℕ) (fault : NetKind) (at : ℕ) : Type 0
   pub why : IsFirstLooped circuit definition
   pub offset : at ≡ line_offset bytes (1 + h.inputs + h.outputs + definition)
 
+-- A symbol names no port, or one that has a name, or gives no name.
 pub record IsNamesFault (bytes : List ℕ) (fault : NetKind) (at : ℕ) : Type 0 where
   pub h : AigerHeader
   pub circuit : Circuit
@@ -100,6 +105,7 @@ pub record IsNamesFault (bytes : List ℕ) (fault : NetKind) (at : ℕ) : Type 0
   pub after : base + length rest ≡ length bytes
   pub why : IsSymbolFault h.inputs h.outputs base rest at
 
+-- the fault for which the file is refused: the first one, of the header or of any other part
 abbrev pub IsAigerFault : List ℕ → NetKind → ℕ → Type 0
 IsAigerFault bytes fault at =
     (IsHeaderFault bytes fault × (at ≡ 0))

@@ -26,6 +26,7 @@ roles_of h =
     ++ replicate h.outputs Output
     ++ (if h.binary then [] else replicate h.gates Gate)
 
+-- whether line k of the body is of an input, an output or a gate
 abbrev pub role_at : AigerHeader → ℕ → Role
 role_at h k = slice_index_or (roles_of h) k Output
 
@@ -53,6 +54,7 @@ pub record Writes (line : List ℕ) (role : Role) (row : List ℕ) : Type 0 wher
   pub numbers : numbers_on line ≡ map Some row
   pub width : length row ≡ wanted role
 
+-- the first number of a line: the literal that is defined, where the line defines one
 abbrev pub first_of : List ℕ → ℕ
 first_of row = slice_index_or row 0 0
 
@@ -80,12 +82,14 @@ pub record IsBadLine (h : AigerHeader) (body rows : List (List ℕ)) : Type 0 wh
   pub there : length rows < length body
   pub unwritten : (row : List ℕ) → Writes (slice_index_or body (length rows) []) (role_at h (length rows)) row → ⊥
 
+-- a literal is out of range, or what is defined is negated or the constant
 pub record IsBadLiteral (h : AigerHeader) (body rows : List (List ℕ)) : Type 0 where
   pub row : List ℕ
   pub there : length rows < length body
   pub written : Writes (slice_index_or body (length rows) []) (role_at h (length rows)) row
   pub bad : IsGoodRow h (role_at h (length rows)) row → ⊥
 
+-- the line defines a variable that one of the good lines defines already
 pub record IsRedefined (h : AigerHeader) (body rows : List (List ℕ)) : Type 0 where
   pub row : List ℕ
   pub there : length rows < length body

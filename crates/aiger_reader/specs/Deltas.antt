@@ -29,6 +29,7 @@ pub record BeginsGroups (most : ℕ) (bytes : List ℕ) (n : ℕ) (rest : List �
 abbrev pub BeginsDelta : List ℕ → ℕ → List ℕ → Type 0
 BeginsDelta bytes delta rest = BeginsGroups 5 bytes delta rest
 
+-- the bytes end within a delta, or go on for more than five groups
 abbrev pub BeginsNoDelta : List ℕ → Type 0
 BeginsNoDelta bytes = (delta : ℕ) (rest : List ℕ) → BeginsDelta bytes delta rest → ⊥
 

@@ -8,6 +8,7 @@ use Rattle.net_file.specs.declared.fault.NetKind.{NetKind}
 use Rattle.net_file.specs.declared.fault.NetKind.TheVariants as kind
 use Rattle.aiger_reader.specs.Words.{numbers_on, AreSmall}
 
+-- What the first line of a file says.
 pub record AigerHeader : Type 0 where
   -- whether the file is in the binary form
   pub binary : Bool
@@ -20,6 +21,7 @@ pub record AigerHeader : Type 0 where
   -- B, C, J and F, as far as they are given
   pub properties : List ℕ
 
+-- M, I, L, O and A, and then B, C, J and F, in the order in which the line has them
 abbrev pub header_numbers : AigerHeader → List ℕ
 header_numbers h = h.variables ∷ h.inputs ∷ h.latches ∷ h.outputs ∷ h.gates ∷ h.properties
 

@@ -53,6 +53,7 @@ pub record NamesPort (line : List ℕ) (port : Port) (name : List ℕ) : Type 0 
   pub name_is : IsWithoutReturn tail name
   pub named : name ≢ []
 
+-- the input, or the output, of this position
 abbrev pub port_at : PortKind → ℕ → Port
 port_at kind position = record { kind = kind; position = position }
 

@@ -53,6 +53,7 @@ pub record AreOverdrawn {O : Type 0} (old : Charging O) (lines : List LogLine) (
   pub spent : old.made + count ≡ old.budget
   pub refused : new ≡ record old { lines = old.lines ++ take (count + 1) lines; made = old.made + count + 1; spent = true }
 
+-- not all of the lines could be charged: the budget was spent on the way, or memory ran out
 abbrev pub AreRefused : {O : Type 0} → Charging O → List LogLine → Charging O → Stop → Type 0
 AreRefused {O} old lines new (Spent learned) = AreOverdrawn old lines new learned
 AreRefused {O} old lines new Memory = Unit {0}
@@ -92,6 +93,7 @@ pub record IsCutOff {O : Type 0} (small : Formula) (names numbers : List ℕ) (f
   pub learned : AreLearned small lines
   pub overdrawn : AreOverdrawn old (map (translated names numbers (length full.clauses + length lemmas)) lines) new learned_lines
 
+-- a search over dense variables has no answer: the budget is spent, or memory ran out
 abbrev pub IsUnsettled : {O : Type 0}
     → Formula
     → List ℕ

@@ -44,5 +44,6 @@ abbrev pub tally_step : Bool → List ℕ → List ℕ → Step
 tally_step true one both = step.Tally Binate both one
 tally_step false one both = step.Tally Support one both
 
+-- the ban of two outputs' pair, whose inputs of a kind don't fit in number
 abbrev pub tally_of : Pair → Bool → Lists → Ban
 tally_of pair holds lists = record { pairs = pair ∷ []; step = tally_step holds lists.one lists.both }

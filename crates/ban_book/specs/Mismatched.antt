@@ -18,5 +18,6 @@ abbrev pub unlike_of : Bool → ℕ → ℕ → Unlike
 unlike_of true one other = record { fails = other; holds = one }
 unlike_of false one other = record { fails = one; holds = other }
 
+-- the ban of pairs that carry a claim to one that is decided otherwise
 abbrev pub mismatch_of : List Pair → Unlike → Ban
 mismatch_of pairs unlike = record { pairs = pairs; step = step.Mismatch unlike.fails unlike.holds }

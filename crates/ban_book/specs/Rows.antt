@@ -52,6 +52,7 @@ decided_from true claims = claims.down
 abbrev pub no_claims : InputClaims
 no_claims = record { up = record { number = 0; holds = true }; down = record { number = 0; holds = true } }
 
+-- what is decided of an output where this input changes from this value
 abbrev pub decided_at : List InputClaims → ℕ → Bool → DecidedClaim
 decided_at row input value = decided_from value (slice_index_or row input no_claims)
 
@@ -76,6 +77,7 @@ both_of holds claims = if says_both holds claims then claims.up.number ∷ claim
 abbrev pub lists_by : Bool → List InputClaims → List InputClaims → Lists
 lists_by holds one other = record { one = flat_map (one_of holds) one; both = flat_map (both_of (not holds)) other }
 
+-- of the rows of two paired outputs, that of the one circuit
 abbrev pub row_on : Side → List InputClaims → List InputClaims → List InputClaims
 row_on First one other = one
 row_on Second one other = other

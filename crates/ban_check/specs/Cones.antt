@@ -9,9 +9,11 @@ use Rattle.net_core.specs.Cones.{output_signal}
 use Rattle.net_core.specs.Sides.{Graphs}
 use Rattle.net_core.specs.Values.{Operations, with_values}
 
+-- the operands of gate t
 abbrev pub gate_at : List Gate → ℕ → Gate
 gate_at gates t = slice_index_or gates t (record { a = record { 0 = 0 }; b = record { 0 = 0 } })
 
+-- the literal that output k has
 abbrev pub output_at : Net → ℕ → Lit
 output_at net k = slice_index_or net.outputs k (record { 0 = 0 })
 

@@ -6,9 +6,11 @@ use Rattle.claim_core.specs.declared.claims.Claim.{Claim}
 use Rattle.account_core.specs.Covers.{way}
 use Rattle.account_core.specs.Given.{Given, decided}
 
+-- the facts and bans given, and last the fact that this claim holds, or fails
 abbrev pub with_fact : Given → Claim → Bool → Given
 with_fact given claim holds = record { facts = given.facts ++ decided claim holds ∷ []; bans = given.bans }
 
+-- the facts and bans given, and last the ban of these pairs
 abbrev pub with_ban : Given → List Pair → Given
 with_ban given pairs = record { facts = given.facts; bans = given.bans ++ pairs ∷ [] }
 

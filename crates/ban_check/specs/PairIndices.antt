@@ -22,6 +22,7 @@ pub record IsIndexOfFirst (pairs : List Pair) (count : ℕ) (entries : List (Por
   pub all : (k : ℕ) (d : Pair) → k < count → (side : Side)
       → found_at entries (port_of side (slice_index_or pairs k d)) ≡ Some (slice_index_or pairs k d)
 
+-- by each port of the pairs the index finds its pair
 abbrev pub IsIndexOf : List Pair → List (Port × Pair) → Type 0
 IsIndexOf pairs entries = IsIndexOfFirst pairs (length pairs) entries
 

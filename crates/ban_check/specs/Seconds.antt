@@ -4,6 +4,7 @@ use Rattle.circuits.specs.declared.port.Pair.{Pair}
 use Rattle.circuits.specs.declared.port.PortKind.{PortKind}
 use Rattle.claim_core.specs.Images.{same_kind}
 
+-- the partners, in the second circuit, of the inputs that are paired, or of the outputs
 abbrev pub seconds_of : PortKind → List Pair → List ℕ
 seconds_of kind [] = []
 seconds_of kind (pair ∷ pairs) =

@@ -37,6 +37,7 @@ pub record IsUnknownAt (names : List (List ℕ)) (words : List Piece) (at : ℕ)
   pub unknown : list_any (bytes_eq word.bytes) names ≡ false
   pub offset : at ≡ word.at
 
+-- a name is read that is no input's and that no `.names` line defines
 pub record IsUnknownFault (names : List (List ℕ)) (words : List Piece) (kind : NetKind) (at : ℕ) : Type 0 where
   pub is : kind ≡ fault.NameUndefined
   pub why : IsUnknownAt names words at
@@ -72,10 +73,12 @@ abbrev pub closed_by : Option CoverSoFar → Directive → List Def
 closed_by cover Row = []
 closed_by cover other = closed cover
 
+-- the names that an `.outputs` line lists, and none of another line
 abbrev pub outputs_by : Directive → List Piece → List Piece
 outputs_by Outputs line = read_on Outputs line
 outputs_by other line = []
 
+-- where a `.names` line begins in the file, and nothing of another line
 abbrev pub places_by : Directive → List Piece → List ℕ
 places_by Names line = (word_of line 0).at ∷ []
 places_by other line = []

@@ -18,6 +18,7 @@ use Rattle.blif_reader.specs.Names.{input_words, output_words, defined_words, op
 abbrev pub trit_of : ℕ → Trit
 trit_of byte = if byte == 48 then Zero else if byte == 49 then One else Dash
 
+-- what a row wants of each operand
 abbrev pub trits_of : List Piece → List Trit
 trits_of row = map trit_of (literal_bytes row)
 
@@ -29,6 +30,7 @@ signal_names lines = map (λ word. word.bytes) (input_words lines ++ defined_wor
 abbrev pub signal_named : List (List ℕ) → Piece → ℕ
 signal_named names word = 1 + position_or_len (bytes_eq word.bytes) names
 
+-- the plain literal of the signal that has a name
 abbrev pub literal_named : List (List ℕ) → Piece → Lit
 literal_named names word = record { 0 = 2 * signal_named names word }
 
@@ -47,6 +49,7 @@ covers_of names (line ∷ lines) =
     if is_names (directive_of line) then cover_of names line (rows_of lines) ∷ covers_of names lines
     else covers_of names lines
 
+-- the circuit that a file's joined lines describe
 abbrev pub blif_circuit : List (List Piece) → Circuit
 blif_circuit lines =
     let names = signal_names lines in

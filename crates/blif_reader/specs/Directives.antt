@@ -23,6 +23,7 @@ passed_over =
 abbrev pub begins_with_stop : List ℕ → Bool
 begins_with_stop word = slice_index_or word 0 0 == 46
 
+-- what the first word of a line makes the line; one without a full stop in front makes it a row
 abbrev pub from_word : List ℕ → Directive
 from_word word =
     if bytes_eq word (codes ".model") then Model

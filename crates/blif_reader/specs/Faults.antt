@@ -31,6 +31,7 @@ fault_by_directive has_model in_row line Unknown = Some fault.Directive
 fault_by_directive has_model in_row line Row = in_row
 fault_by_directive has_model in_row line other = None
 
+-- what is wrong with a line, where no `.end` stands among the lines before it
 abbrev pub fault_before_end : List (List Piece) → List Piece → Directive → Option NetKind
 fault_before_end earlier line directive =
     fault_by_directive (has_line is_model earlier) (row_fault earlier line) line directive
@@ -45,6 +46,7 @@ line_fault earlier line =
     if has_line is_end earlier then fault_after_end (directive_of line)
     else fault_before_end earlier line (directive_of line)
 
+-- a line is refused where it stands after these
 abbrev pub is_faulty : List (List Piece) → List Piece → Bool
 is_faulty earlier line = is_some (line_fault earlier line)
 

@@ -32,6 +32,7 @@ ports_on Inputs line = named_ports Input (drop 1 line)
 ports_on Outputs line = named_ports Output (drop 1 line)
 ports_on other line = []
 
+-- the ports that all lines name, in the order of the text
 abbrev pub port_words : List (List Piece) → List PortWord
 port_words lines = flat_map (λ line. ports_on (directive_of line) line) lines
 
@@ -39,9 +40,11 @@ port_words lines = flat_map (λ line. ports_on (directive_of line) line) lines
 abbrev pub words_of_kind : PortKind → List PortWord → List Piece
 words_of_kind kind ports = map (λ port. port.word) (filter (λ port. is_same_kind port.kind kind) ports)
 
+-- the names of the inputs, in the order in which a file has them
 abbrev pub input_words : List (List Piece) → List Piece
 input_words lines = words_of_kind Input (port_words lines)
 
+-- the names of the outputs, in the order in which a file has them
 abbrev pub output_words : List (List Piece) → List Piece
 output_words lines = words_of_kind Output (port_words lines)
 
@@ -50,6 +53,7 @@ abbrev pub defined_on : Directive → List Piece → List Piece
 defined_on Names line = word_of line (length line - 1) ∷ []
 defined_on other line = []
 
+-- the names that the `.names` lines of a file define
 abbrev pub defined_words : List (List Piece) → List Piece
 defined_words lines = flat_map (λ line. defined_on (directive_of line) line) lines
 
@@ -63,6 +67,7 @@ read_on Outputs line = drop 1 line
 read_on Names line = operands line
 read_on other line = []
 
+-- the names that some line of a file reads
 abbrev pub read_words : List (List Piece) → List Piece
 read_words lines = flat_map (λ line. read_on (directive_of line) line) lines
 

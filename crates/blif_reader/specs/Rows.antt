@@ -54,6 +54,7 @@ opening_of nearest = slice_index_or nearest (length (rows_of nearest)) []
 abbrev pub rows_before : List (List Piece) → List (List Piece)
 rows_before earlier = rows_of (reverse earlier)
 
+-- the line that a row belongs to, which is a `.names` line where the row is in a cover
 abbrev pub opening : List (List Piece) → List Piece
 opening earlier = opening_of (reverse earlier)
 

@@ -21,6 +21,7 @@ abbrev pub one_or_two : Option Piece → Piece → List Piece
 one_or_two None output = output ∷ []
 one_or_two (Some literals) output = literals ∷ output ∷ []
 
+-- the literals' word, unless there are no operands, and the output's
 abbrev pub words_in_row : RowWords → List Piece
 words_in_row row = one_or_two row.literals row.output
 
@@ -39,6 +40,7 @@ abbrev pub fault_known : Survey → List Piece → Directive → Option NetKind
 fault_known survey line directive =
     fault_by_directive survey.has_model (fault_by_cover survey.cover line) line directive
 
+-- what is wrong with a line, before `.end` or after it, by what is known of the lines before
 abbrev pub fault_of : Survey → List Piece → Directive → Option NetKind
 fault_of survey line directive = if survey.ended then fault_after_end directive else fault_known survey line directive
 
@@ -77,6 +79,7 @@ IsOpenBy nearest (Some cover) =
     × (cover.operands ≡ operand_count (opening_of nearest))
     × HaveOutput cover.output (rows_of nearest)
 
+-- the cover that the next line goes on with, if it is a row
 abbrev pub IsOpen : List (List Piece) → Option OpenCover → Type 0
 IsOpen earlier cover = IsOpenBy (reverse earlier) cover
 

@@ -11,6 +11,7 @@ number_bytes n number = bytes_high_first n number
 abbrev pub both_bytes : {A B : Type 0} → (A → List ℕ) → (B → List ℕ) → A × B → List ℕ
 both_bytes {A} {B} first second both = first both.0 ++ second both.1
 
+-- two values can be written where each of them can
 abbrev pub BothFit : {A B : Type 0} → (A → Type 0) → (B → Type 0) → A × B → Type 0
 BothFit {A} {B} First Second both = First both.0 × Second both.1
 

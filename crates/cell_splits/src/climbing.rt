@@ -76,6 +76,7 @@ fn start_of(input: usize, starts: &[Items<Lanes>], drawn: Lanes) -> Lanes {
     Lanes::from_array(words)
 }
 
+// How many generations there are: two for each input and 40, as far as the words of gates allow it.
 fn generations(simulator: &FlipSim<'_>) -> u64 {
     let inputs = u64::from(simulator.graph().inputs());
     let most = (MOST_WORDS / simulator.words_of_flips().max(1)).max(FEWEST_GENERATIONS);
@@ -103,7 +104,7 @@ fn next_generation(
     Ok(Items::from_vec(next))
 }
 
-// By how much the word of the best vectors is rotated, which there are 64 of.
+// By how many of its 64 places the word of the best vectors is rotated.
 fn rotation(draws: &mut Draws) -> u32 {
     (draws.word() % 64) as u32
 }

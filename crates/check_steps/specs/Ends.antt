@@ -43,6 +43,7 @@ pub record EndsAtOnly (held : List ℕ → Option (List ℕ)) (words : List (Lis
   pub asks : AsksInfo words file_name budget
   pub ends : EndsAt First (held file_name) outcome
 
+-- a run ends at one of its netlists' files, which isn't there, or isn't read as a netlist
 abbrev pub EndsEarly : (List ℕ → Option (List ℕ)) → List (List ℕ) → Outcome → Type 0
 EndsEarly held words outcome = EndsAtFirst held words outcome ⊎ EndsAtSecond held words outcome ⊎ EndsAtOnly held words outcome
 

@@ -59,5 +59,6 @@ report_on first second (AcceptedMatch matching) = line_of (AcceptedMatch matchin
 report_on first second (Matched matching) = line_of (Matched matching) ++ table_text first second matching
 report_on first second other = line_of other
 
+-- the names of a netlist's ports, as reports have them
 abbrev pub port_names : Netlist → PortNames
 port_names netlist = record { inputs = netlist.input_names; outputs = netlist.output_names }

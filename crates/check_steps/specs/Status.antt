@@ -4,6 +4,7 @@ use Rattle.check_steps.specs.declared.outcome.Outcome.{Outcome}
 use Rattle.check_steps.specs.declared.outcome.Outcome.TheVariants.{AcceptedMatch, AcceptedRefusal, Rejected, Matched, NoMatching, Spent, Usage, Absent}
 use Rattle.check_steps.specs.declared.outcome.Outcome.TheVariants.{TooLarge, Malformed, Informed, Made, Restored, Tried, ReadFault, WriteFault, Memory}
 
+-- 0 says a match, or that the work is done; 1 that there is no match; from 2 on, why there is no answer
 abbrev pub status_of : Outcome → ℕ
 status_of (AcceptedMatch matching) = 0
 status_of AcceptedRefusal = 1

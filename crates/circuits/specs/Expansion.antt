@@ -16,9 +16,11 @@ pub record Made : Type 0 where
   pub gates : List Gate
   pub value : Lit
 
+-- gates, and the literal that they make
 abbrev pub made : List Gate → Lit → Made
 made gates value = record { gates = gates; value = value }
 
+-- the AND of two literals
 abbrev pub gate_of : Lit → Lit → Gate
 gate_of a b = record { a = a; b = b }
 
@@ -48,6 +50,7 @@ row_literals (name ∷ names) (Dash ∷ row) = row_literals names row
 abbrev pub row_made : ℕ → List Lit → List Gate → List Trit → Made
 row_made first names gates row = and_all first gates (row_literals names row)
 
+-- the complement of what was made, for which no gate is needed
 abbrev pub inverted : Made → Made
 inverted s = made s.gates (inverse s.value)
 
@@ -90,6 +93,7 @@ with_def circuit so_far d =
     let next = def_made (1 + circuit.inputs) so_far.literals so_far.gates (def_at circuit d) in
     record { gates = next.gates; literals = slice_set so_far.literals (signal_at circuit d) next.value }
 
+-- definitions are expanded one after the other, in the order in which they are listed
 abbrev pub with_defs : Circuit → Making → List ℕ → Making
 with_defs circuit so_far [] = so_far
 with_defs circuit so_far (d ∷ order) = with_defs circuit (with_def circuit so_far d) order

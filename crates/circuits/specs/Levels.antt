@@ -27,6 +27,7 @@ pub record HaveLevel (circuit : Circuit) (signals : List ℕ) (level : ℕ) : Ty
   pub within : All (IsWithin circuit level) signals
   pub least : (l : ℕ) → All (IsWithin circuit l) signals → level ≤ l
 
+-- a signal on a cycle, or above one
 abbrev pub HasNoLevel : Circuit → ℕ → Type 0
 HasNoLevel circuit s = (l : ℕ) → IsWithin circuit l s → ⊥
 

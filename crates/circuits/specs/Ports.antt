@@ -3,6 +3,7 @@ use Rattle.std.specs.Prelude.{ℕ, ◌==◌, Option, None, Some, if◌then◌els
 use Rattle.circuits.specs.declared.port.PortKind.{PortKind}
 use Rattle.circuits.specs.declared.port.PortKind.TheVariants.{Input, Output}
 
+-- the byte that begins the symbol of a port of this kind
 abbrev pub letter_of : PortKind → ℕ
 letter_of Input = 105
 letter_of Output = 111

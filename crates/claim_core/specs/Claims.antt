@@ -65,8 +65,10 @@ pub record IsClaim (graphs : Graphs) (claim : Claim) : Type 0 where
   pub output : claim.output < length (graph_of graphs claim.side).outputs
   pub placed : IsPlaced (graph_of graphs claim.side).inputs claim.shape
 
+-- no vector breaks the claim in its circuit
 abbrev pub Holds : Graphs → Claim → Type 0
 Holds graphs claim = ShapeHolds (graph_of graphs claim.side) claim.output claim.shape
 
+-- on this vector the claim's output falls, where its inputs change as the claim says
 abbrev pub Breaks : Graphs → Claim → List Bool → Type 0
 Breaks graphs claim x = BreaksShape (graph_of graphs claim.side) claim.output claim.shape x

@@ -20,6 +20,7 @@ pub record IsOfReachedGate (net : Net) (k first id : ℕ) : Type 0 where
 abbrev pub left_gates : Graphs → Query → ℕ
 left_gates graphs query = length (circuit_of graphs query.left).gates
 
+-- how many gates the circuit of a query's right cone has
 abbrev pub right_gates : Graphs → Query → ℕ
 right_gates graphs query = length (circuit_of graphs query.right).gates
 

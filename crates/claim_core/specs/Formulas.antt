@@ -23,6 +23,7 @@ use Rattle.claim_core.specs.Queries.{circuit_of, bits_in, IsQuery}
 abbrev pub true_literal : SatLit
 true_literal = literal_of 0 true
 
+-- the complement of variable 0 is false
 abbrev pub false_literal : SatLit
 false_literal = literal_of 0 false
 
@@ -31,6 +32,7 @@ abbrev pub feed_literal : Feed → SatLit
 feed_literal (Fixed b) = literal_of 0 b
 feed_literal (Wire place flip) = literal_of (1 + place) (not flip)
 
+-- the positive literal of a variable
 abbrev pub plain : ℕ → SatLit
 plain variable = literal_of variable true
 
@@ -63,6 +65,7 @@ same_feed (Fixed b) (Wire place flip) = false
 same_feed (Wire place flip) (Fixed b) = false
 same_feed (Wire place flip) (Wire other sign) = (place == other) && beq flip sign
 
+-- which inputs get one thing in one cone, and another in the other
 abbrev pub feeds_differ : List Feed → List Feed → List Bool
 feeds_differ [] right = []
 feeds_differ (feed ∷ left) [] = []
@@ -73,9 +76,11 @@ abbrev pub reaching : List Bool → List Gate → List Bool
 reaching so_far [] = so_far
 reaching so_far (gate ∷ gates) = reaching (so_far ++ (bit so_far (signal_of gate.a) || bit so_far (signal_of gate.b)) ∷ []) gates
 
+-- which signals may have another value in the right cone than in the left one, where both are of one circuit
 abbrev pub reaches : Query → List Gate → List Bool
 reaches query gates = reaching (false ∷ feeds_differ query.left.feed query.right.feed) gates
 
+-- both cones are of the first circuit, or both of the second
 abbrev pub same_side : Side → Side → Bool
 same_side First First = true
 same_side First Second = false
@@ -101,9 +106,11 @@ right_variables graphs query =
     if same_side query.left.side query.right.side then shared_from first own (drop first (reaches query gates))
     else range_with_len own (length gates)
 
+-- what stands for each signal of the left circuit
 abbrev pub left_literals : Graphs → Query → List SatLit
 left_literals graphs query = signal_literals query.left.feed (left_variables graphs query)
 
+-- what stands for each signal of the right circuit, of which some may be the left one's too
 abbrev pub right_literals : Graphs → Query → List SatLit
 right_literals graphs query = signal_literals query.right.feed (right_variables graphs query)
 
@@ -122,6 +129,7 @@ abbrev pub clauses_by : List (List SatLit) → List (List SatLit) → SatLit →
 clauses_by left right left_output right_output =
     (true_literal ∷ []) ∷ (left ++ (right ++ (left_output ∷ []) ∷ (right_output ∷ []) ∷ []))
 
+-- what an assignment has to meet, so that its vector is what the query asks for
 abbrev pub query_clauses : Graphs → Query → List (List SatLit)
 query_clauses graphs query =
     let left = circuit_of graphs query.left in
@@ -132,6 +140,7 @@ query_clauses graphs query =
     (output_literal left ls query.left.output query.left_value)
     (output_literal right rs query.right.output query.right_value)
 
+-- a query's clauses, over the inputs' variables, those of all gates, and the constant
 abbrev pub formula_of : Graphs → Query → Formula
 formula_of graphs query = record {
   variables = bits_in graphs query + 1 + length (circuit_of graphs query.left).gates + length (circuit_of graphs query.right).gates;

@@ -33,6 +33,7 @@ pub record HasPair (p q : List (ℕ × Bool)) (pair : Pair) : Type 0 where
 abbrev pub Extends : List Pair → List (ℕ × Bool) → List (ℕ × Bool) → Type 0
 Extends pairs p q = All (HasPair p q) pairs
 
+-- two inputs, or two outputs
 abbrev pub same_kind : PortKind → PortKind → Bool
 same_kind Input Input = true
 same_kind Input Output = false
@@ -79,6 +80,7 @@ moved_shape pairs exchanged (Swap i j a b) =
     (λ first. option_map (moved_two exchanged a b first) (pair_of pairs Input j))
     (pair_of pairs Input i)
 
+-- a claim of an output of the second circuit
 abbrev pub claim_of_second : ℕ → Shape → Claim
 claim_of_second output shape = record { side = Second; output = output; shape = shape }
 

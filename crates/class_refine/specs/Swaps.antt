@@ -56,5 +56,6 @@ pub record IsIndexOfFirst (facts : List Decided) (count : ℕ) (entries : List (
       → HasTwoInputs (fact_at (given_of facts []) k).claim.shape
       → IsSome (number_in entries (fact_at (given_of facts []) k).claim)
 
+-- each fact of a claim of two inputs is found by its claim
 abbrev pub IsSwapIndex : List Decided → List (Claim × ℕ) → Type 0
 IsSwapIndex facts entries = IsIndexOfFirst facts (length facts) entries

@@ -12,6 +12,7 @@ use Rattle.cnf_core.specs.declared.fault.LineFault.{LineFault}
 use Rattle.cnf_core.specs.declared.fault.LineFault.TheVariants as fault
 use Rattle.cnf_core.specs.Clauses.{Formula, variable_of, opposite, clause_at}
 
+-- the same variable with the same sign
 abbrev pub is_same : SatLit → SatLit → Bool
 is_same one other = one.0 == other.0
 
@@ -32,6 +33,7 @@ abbrev pub effect_by : List SatLit → List SatLit → Effect
 effect_by made [] = Conflict
 effect_by made (literal ∷ others) = if list_all (is_same literal) others && not (is_true made literal) then Makes literal else Neither
 
+-- what a clause does where these literals were made true: it is a conflict, a unit, or neither
 abbrev pub effect_of : List SatLit → List SatLit → Effect
 effect_of made clause = effect_by made (filter (λ literal. not (is_false made literal)) clause)
 
@@ -50,10 +52,12 @@ hint_fault clauses made (hint ∷ hints) =
     fault_after (effect_of made (clause_at clauses hint)) hints (λ literal. hint_fault clauses (made ++ literal ∷ []) hints)
     else Some fault.UnknownHint
 
+-- a clause without a literal, which no assignment meets
 abbrev pub is_empty : List SatLit → Bool
 is_empty [] = true
 is_empty (literal ∷ others) = false
 
+-- some variable stands twice in a clause, with either sign
 abbrev pub repeats_variable : List SatLit → Bool
 repeats_variable [] = false
 repeats_variable (literal ∷ others) = list_any (λ other. variable_of other == variable_of literal) others || repeats_variable others

@@ -17,6 +17,7 @@ pub record Loans : Type 0 where
   pub broken_name : GName
   pub ledger_name : GName
 
+-- what an asker has on loan now
 abbrev pub loans : {O : Type 0} → (O → Known) → Asker O → Loans
 loans known asker = record {
   known = known asker.oracle.now;

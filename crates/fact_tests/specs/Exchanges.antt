@@ -45,6 +45,7 @@ abbrev pub last_by : ℕ × Unate → Option OtherInputs → ℕ × Unate
 last_by first None = first
 last_by first (Some others) = others.last
 
+-- the input that joined a class last, or its first one where no other did
 abbrev pub last_of : Class → ℕ × Unate
 last_of class = last_by class.first class.others
 
@@ -103,6 +104,7 @@ pub record Joins (n : ℕ) (f : List Bool → Bool) (class : Class) (entry : ℕ
   pub exchange : IsExchange n f class.first.0 entry.0 others.inverted others.both
   pub kept : KeepsBoth class.others others
 
+-- an input joins a class, or may not be exchanged with its inputs
 abbrev pub IsJoined : ℕ → (List Bool → Bool) → Class → ℕ × Unate → Option OtherInputs → Type 0
 IsJoined n f class entry None = IsStranger n f class entry.0
 IsJoined n f class entry (Some others) = Joins n f class entry others
@@ -112,9 +114,11 @@ abbrev pub IsSecond : ℕ → (List Bool → Bool) → ℕ × Unate → ℕ × U
 IsSecond n f first entry None = IsNever n f first.0 entry.0
 IsSecond n f first entry (Some others) = (others.last ≡ entry) × IsExchange n f first.0 entry.0 others.inverted others.both
 
+-- a class's inputs beside the first one, when this one is the last
 abbrev pub second_with : ℕ × Unate → Bool → Bool → OtherInputs
 second_with entry inverted both = record { last = entry; inverted = inverted; both = both }
 
+-- a second input of a class, by whether it may go with the first as they are, and with both inverted
 abbrev pub second_by : ℕ × Unate → Bool → Bool → Option OtherInputs
 second_by entry true true = Some (second_with entry false true)
 second_by entry true false = Some (second_with entry false false)
@@ -130,10 +134,12 @@ next_by others entry (Some inverted) = Some (second_with entry (differ others.in
 abbrev pub IsNext : ℕ → (List Bool → Bool) → OtherInputs → ℕ × Unate → Option OtherInputs → Type 0
 IsNext n f others entry next = (way : Option Bool) × IsWay n f others.last.0 entry.0 way × (next ≡ next_by others entry way)
 
+-- two inputs may be exchanged with both inverted, or in neither way
 abbrev pub skew_by : Bool → Option Bool
 skew_by true = Some true
 skew_by false = None
 
+-- the class of this number, where an input joined it
 abbrev pub found_by : ℕ → Class → Option OtherInputs → Option FoundClass
 found_by number class None = None
 found_by number class (Some others) = Some (record { number = number; first = class.first; others = others })
@@ -144,10 +150,12 @@ pub record Finds (n : ℕ) (f : List Bool → Bool) (classes : List Class) (entr
   pub first : (d : Class) → found.first ≡ (slice_index_or classes found.number d).first
   pub joins : (d : Class) → Joins n f (slice_index_or classes found.number d) entry found.others
 
+-- an input joins one of the classes, or may not be exchanged with an input of any
 abbrev pub IsFound : ℕ → (List Bool → Bool) → List Class → ℕ × Unate → Option FoundClass → Type 0
 IsFound n f classes entry None = All (λ class. IsStranger n f class entry.0) classes
 IsFound n f classes entry (Some found) = Finds n f classes entry found
 
+-- an input joins the class of this number, or may not be exchanged with its inputs
 abbrev pub IsTried : ℕ → (List Bool → Bool) → List Class → ℕ × Unate → ℕ → Option FoundClass → Type 0
 IsTried n f classes entry number None = (d : Class) → number < length classes → IsStranger n f (slice_index_or classes number d) entry.0
 IsTried n f classes entry number (Some found) = Finds n f classes entry found
@@ -167,6 +175,7 @@ sym_by true inverted = Both
 sym_by false false = Symmetric
 sym_by false true = Skew
 
+-- any two inputs of a class may be exchanged both ways
 abbrev pub both_by : Option OtherInputs → Bool
 both_by None = false
 both_by (Some others) = others.both

@@ -11,6 +11,7 @@ IsGroup net output group = (group.net ≡ net) × Covers group output
 abbrev pub IsOf : Net → Signed → Type 0
 IsOf net signed = signed.net ≡ net
 
+-- the group that was simulated last, if there was one, is of this circuit
 abbrev pub IsLastGroup : Net → Option Signed → Type 0
 IsLastGroup net None = Unit {0}
 IsLastGroup net (Some group) = IsOf net group

@@ -7,5 +7,6 @@ pub record Kept : Type 0 where
   pub query : Query
   pub answer : Answer
 
+-- an answered query, as it is kept
 abbrev pub kept_of : Query × Answer → Kept
 kept_of entry = record { query = entry.0; answer = entry.1 }

@@ -50,6 +50,7 @@ IsLane v leaves m = (m < 64) × ((k : ℕ) → k < length leaves → (m / 2 ^ k 
 abbrev pub HasSides : List Bool → List Bool → List ℕ → Bool → Bool → SideWords → Type 0
 HasSides v w leaves one other sides = (m : ℕ) → IsLane v leaves m → (one ≡ word_bit m sides.one) × (other ≡ word_bit m sides.other)
 
+-- what is listed of a signal is its bit under one valuation, and under the other
 abbrev pub IsChanged : List Bool → List Bool → List ℕ → Changed → Type 0
 IsChanged v w leaves entry = HasSides v w leaves (bit v entry.signal) (bit w entry.signal) entry.sides
 
@@ -112,10 +113,11 @@ IsListing signal sides old new Same = (sides.one ≡ sides.other) × (new.leaves
 IsListing signal sides old new Differs = (new.leaves ≡ old.leaves) × (new.changed ≡ old.changed ++ record { signal = signal; sides = sides } ∷ [])
 IsListing signal sides old new TooFar = Unit {0}
 
--- the two inputs of an exchange, as they are listed at first
+-- a signal has these two bits, whatever the leaves have
 abbrev pub sides_of_bits : Bool → Bool → SideWords
 sides_of_bits one other = record { one = signed_word 0 one; other = signed_word 0 other }
 
+-- the two inputs of an exchange, as they are listed at first
 abbrev pub first_listed : ℕ → ℕ → Bool → List Changed
 first_listed i j inverted =
     record { signal = i + 1; sides = sides_of_bits false true } ∷ record { signal = j + 1; sides = sides_of_bits (not inverted) inverted } ∷ []

@@ -28,6 +28,7 @@ pub record Mixing : Type 0 where
   pub gates : List Gate
   pub random : Lcg
 
+-- these literals side by side, with the gates that make them
 abbrev pub mixing : List Lit → List Gate → Lcg → Mixing
 mixing window gates random = record { window = window; gates = gates; random = random }
 
@@ -55,6 +56,7 @@ pub record Joining : Type 0 where
   pub gates : List Gate
   pub random : Lcg
 
+-- this literal, with the gates that make it
 abbrev pub joining : Lit → List Gate → Lcg → Joining
 joining literal gates random = record { literal = literal; gates = gates; random = random }
 
@@ -77,6 +79,7 @@ pub record Making : Type 0 where
   pub outputs : List Lit
   pub random : Lcg
 
+-- these outputs, with the gates that make them
 abbrev pub making : List Gate → List Lit → Lcg → Making
 making gates outputs random = record { gates = gates; outputs = outputs; random = random }
 

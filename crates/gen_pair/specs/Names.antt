@@ -4,9 +4,11 @@ use Rattle.std.specs.Fmt.{decimal}
 use Rattle.std.specs.List.{range_with_len}
 use Rattle.net_file.specs.declared.named.Named.{Named}
 
+-- the name of the port at a position, as `a3`
 abbrev pub port_name : ℕ → ℕ → List ℕ
 port_name letter position = letter ∷ decimal position
 
+-- the names of so many ports of a kind, in order
 abbrev pub port_names : ℕ → ℕ → List (List ℕ)
 port_names letter count = map (port_name letter) (range_with_len 0 count)
 

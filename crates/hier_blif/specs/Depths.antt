@@ -12,9 +12,11 @@ abbrev pub is_within : List BlifModel → ℕ → BlifModel → Bool
 is_within models zero model = false
 is_within models (suc l) model = list_all (λ line. is_within models l (model_of models line)) (instances_of model)
 
+-- instances in the model come to an end: none leads back to a model in which it stands
 abbrev pub HasDepth : List BlifModel → BlifModel → Type 0
 HasDepth models model = (depth : ℕ) × (is_within models depth model ≡ true)
 
+-- instances in the model never come to an end: it, or a model in it, has an instance of itself in it
 abbrev pub HasNoDepth : List BlifModel → BlifModel → Type 0
 HasNoDepth models model = (depth : ℕ) → is_within models depth model ≡ false
 
@@ -37,5 +39,6 @@ covers_within models zero model = 0
 covers_within models (suc l) model =
     length (covers_of model) + sum_by (λ line. covers_within models l (model_of models line)) (instances_of model)
 
+-- instances and covers together, of which a file may not have too many
 abbrev pub size_within : List BlifModel → ℕ → BlifModel → ℕ
 size_within models depth model = instances_within models depth model + covers_within models depth model

@@ -15,9 +15,11 @@ use Rattle.hier_blif.specs.Nested.{IsInstance, OfNames, Shares}
 abbrev pub FlatCover : Type 0
 FlatCover = List ℕ × CoverLine
 
+-- a cover of the model itself, and of no instance in it
 abbrev pub own_cover : CoverLine → FlatCover
 own_cover line = ([], line)
 
+-- a cover of the instance on line k, as the model sees it that has that line
 abbrev pub cover_inside : ℕ → FlatCover → FlatCover
 cover_inside k cover = (k ∷ cover.0, cover.1)
 
@@ -28,11 +30,13 @@ covers_at below models k (Cover line) = own_cover line ∷ []
 covers_at below models k (Instance line) = map (cover_inside k) (below (model_of models line))
 covers_at below models k other = []
 
+-- the covers of these lines of a model and of the instances on them; the first is its line k
 abbrev pub covers_from : (BlifModel → List FlatCover) → List BlifModel → ℕ → List ModelLine → List FlatCover
 covers_from below models k [] = []
 covers_from below models k (line ∷ lines) =
     covers_at below models k line ++ covers_from below models (suc k) lines
 
+-- the covers of a model and of all instances in it, each with the path to its instance
 abbrev pub flat_covers : List BlifModel → ℕ → BlifModel → List FlatCover
 flat_covers models zero model = []
 flat_covers models (suc l) model = covers_from (flat_covers models l) models 0 model.lines
@@ -50,6 +54,7 @@ abbrev pub flat_def : OfNames ℕ → FlatCover → Def
 flat_def signal cover =
     def.Cover (map (λ word. signal cover.0 word.bytes) cover.1.operands) cover.1.rows cover.1.on
 
+-- one circuit without instances: the top's ports, and the covers of all instances over signals
 abbrev pub flat_circuit : BlifModel → List FlatCover → OfNames ℕ → Circuit
 flat_circuit top covers signal = record {
   inputs = length (inputs_of top);

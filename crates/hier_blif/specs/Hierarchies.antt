@@ -52,6 +52,7 @@ pub record AreFew (lines : List (List Piece)) (depth : ℕ) : Type 0 where
 abbrev pub covers_of_top : List (List Piece) → ℕ → List FlatCover
 covers_of_top lines depth = flat_covers (models_of lines) depth (top_of (models_of lines))
 
+-- the top, with the covers of all its instances, is this circuit
 abbrev pub AreFlattened : List (List Piece) → ℕ → Circuit → Type 0
 AreFlattened lines depth circuit =
     IsFlattened (models_of lines) (top_of (models_of lines)) (covers_of_top lines depth) circuit
@@ -125,6 +126,7 @@ IsFaultOfLines end lines fault =
     ⊎ IsCycleFault lines fault
     ⊎ IsGatesFault end lines fault
 
+-- the fault for which a file of models is refused: its first one
 abbrev pub IsHierFault : List ℕ → HierFault → Type 0
 IsHierFault bytes fault = IsFaultOfLines (length bytes) (blif_lines bytes) fault
 

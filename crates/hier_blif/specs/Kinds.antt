@@ -5,6 +5,7 @@ use Rattle.net_file.specs.declared.fault.NetKind.TheVariants as row
 use Rattle.hier_blif.specs.declared.fault.HierKind.{HierKind}
 use Rattle.hier_blif.specs.declared.fault.HierKind.TheVariants as kind
 
+-- the number by which reports name a fault of a file of models
 abbrev pub kind_number : HierKind → ℕ
 kind_number kind.TooManyInputs = 4
 kind_number kind.TooManyOutputs = 5

@@ -17,6 +17,7 @@ abbrev pub words_on : PortKind → ModelLine → List Piece
 words_on port.Input = inputs_on
 words_on port.Output = outputs_on
 
+-- A model has no more inputs and no more outputs than a netlist may have.
 pub record HasFewPorts (lines : List ModelLine) : Type 0 where
   pub inputs : length (flat_map inputs_on lines) ≤ most_ports
   pub outputs : length (flat_map outputs_on lines) ≤ most_ports
@@ -32,5 +33,6 @@ pub record HasManyOutputs (lines : List ModelLine) (fault : HierFault) : Type 0 
   pub many : most_ports < length (flat_map outputs_on lines)
   pub is : fault ≡ fault_at wrong.TooManyOutputs (word_of (flat_map outputs_on lines) most_ports)
 
+-- more inputs than a netlist may have, or else more outputs
 abbrev pub HasManyPorts : List ModelLine → HierFault → Type 0
 HasManyPorts lines fault = HasManyInputs lines fault ⊎ HasManyOutputs lines fault

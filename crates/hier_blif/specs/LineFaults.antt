@@ -75,6 +75,7 @@ line_fault earlier line =
     if not (is_model (directive_of line)) && is_ended earlier then at_line wrong.Directive line
     else fault_by_directive (is_taken earlier line) (row_fault earlier line) line (directive_of line)
 
+-- a line is refused where it stands after these
 abbrev pub is_faulty : List (List Piece) → List Piece → Bool
 is_faulty earlier line = is_some (line_fault earlier line)
 

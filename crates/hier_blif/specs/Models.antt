@@ -39,6 +39,7 @@ model_line directive.Names line rows = Cover (cover_line line rows) ∷ []
 model_line directive.Subckt line rows = Instance (instance_line line) ∷ []
 model_line other line rows = []
 
+-- what the lines of a model say of its function, in the order of the text
 abbrev pub model_lines : List (List Piece) → List ModelLine
 model_lines [] = []
 model_lines (line ∷ lines) = model_line (directive_of line) line (rows_of lines) ++ model_lines lines
@@ -51,6 +52,7 @@ body lines = take_while (λ line. not (is_model (directive_of line))) lines
 abbrev pub begun_by : List Piece → List (List Piece) → BlifModel
 begun_by line lines = record { at = (word_of line 0).at; name = word_of line 1; lines = model_lines (body lines) }
 
+-- the models that `.model` lines begin, in the order of the text
 abbrev pub named_models : List (List Piece) → List BlifModel
 named_models [] = []
 named_models (line ∷ lines) =
@@ -71,9 +73,11 @@ abbrev pub has_front : List (List Piece) → Bool
 has_front lines =
     not (list_all (λ line. is_passed_over (directive_of line)) (body lines)) || not (has_line is_model lines)
 
+-- the model of the lines that stand before any `.model` line
 abbrev pub front_model : List (List Piece) → BlifModel
 front_model lines = record { at = 0; name = no_name; lines = model_lines (body lines) }
 
+-- all models of a file, in the order of the text
 abbrev pub models_of : List (List Piece) → List BlifModel
 models_of lines = if has_front lines then front_model lines ∷ named_models lines else named_models lines
 

@@ -25,6 +25,7 @@ found_after test earlier (x ∷ xs) =
     if test earlier x then x ∷ found_after test (earlier ++ x ∷ []) xs
     else found_after test (earlier ++ x ∷ []) xs
 
+-- all elements of a list that a test finds
 abbrev pub found_in : {X : Type 0} → (List X → X → Bool) → List X → List X
 found_in test xs = found_after test [] xs
 
@@ -44,13 +45,16 @@ abbrev pub is_inputs_line : ModelLine → Bool
 is_inputs_line (Inputs words) = true
 is_inputs_line other = false
 
+-- the line lists outputs
 abbrev pub is_outputs_line : ModelLine → Bool
 is_outputs_line (Outputs words) = true
 is_outputs_line other = false
 
+-- the model has no line for its inputs, or none for its outputs
 abbrev pub lacks_ports : BlifModel → Bool
 lacks_ports model = not (list_any is_inputs_line model.lines && list_any is_outputs_line model.lines)
 
+-- a model that lacks such a line is refused where it begins
 abbrev pub port_line_faults : BlifModel → List HierFault
 port_line_faults model = when (lacks_ports model) wrong.NoPortLine model.at
 
@@ -58,6 +62,7 @@ port_line_faults model = when (lacks_ports model) wrong.NoPortLine model.at
 abbrev pub repeated_ports : List PortWord → List HierFault
 repeated_ports ports = at_words wrong.DuplicatePort (map (λ port. port.word) (found_in repeats_port ports))
 
+-- a model is refused at each port that has the name of an earlier one of its kind
 abbrev pub port_faults : BlifModel → List HierFault
 port_faults model = repeated_ports (ports_of model)
 
@@ -69,6 +74,7 @@ model_faults models line = when (not (list_any (has_name line.model.bytes) model
 abbrev pub binds_no_port : List BlifModel → InstanceLine → Piece → Bool
 binds_no_port models line word = beq (binds_input models line word) (binds_output models line word)
 
+-- an instance is refused at each binding that names no single port of its model
 abbrev pub formal_faults : List BlifModel → InstanceLine → List HierFault
 formal_faults models line = where_wrong wrong.Formal (binds_no_port models line) line.bindings
 
@@ -76,6 +82,7 @@ formal_faults models line = where_wrong wrong.Formal (binds_no_port models line)
 abbrev pub binds_again : List Piece → Piece → Bool
 binds_again earlier word = list_any (λ other. bytes_eq (formal_of word.bytes) (formal_of other.bytes)) earlier
 
+-- an instance is refused at each binding of a port that an earlier one binds
 abbrev pub twice_faults : InstanceLine → List HierFault
 twice_faults line = at_words wrong.FormalTwice (found_in binds_again line.bindings)
 
@@ -83,9 +90,11 @@ twice_faults line = at_words wrong.FormalTwice (found_in binds_again line.bindin
 abbrev pub binds : InstanceLine → Piece → Bool
 binds line input = list_any (λ word. bytes_eq input.bytes (formal_of word.bytes)) line.bindings
 
+-- some input of the instance's model gets no value
 abbrev pub leaves_unbound : List BlifModel → InstanceLine → Bool
 leaves_unbound models line = list_any (λ input. not (binds line input)) (inputs_of (model_of models line))
 
+-- an instance that leaves an input unbound is refused at its line
 abbrev pub unbound_faults : List BlifModel → InstanceLine → List HierFault
 unbound_faults models line = when (leaves_unbound models line) wrong.Unbound line.at
 

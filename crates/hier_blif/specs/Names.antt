@@ -21,13 +21,16 @@ abbrev pub inputs_on : ModelLine → List Piece
 inputs_on (Inputs words) = words
 inputs_on other = []
 
+-- the names of a model's inputs, in the order of the text
 abbrev pub inputs_of : BlifModel → List Piece
 inputs_of model = flat_map inputs_on model.lines
 
+-- the names that a line lists as outputs
 abbrev pub outputs_on : ModelLine → List Piece
 outputs_on (Outputs words) = words
 outputs_on other = []
 
+-- the names of a model's outputs, in the order of the text
 abbrev pub outputs_of : BlifModel → List Piece
 outputs_of model = flat_map outputs_on model.lines
 
@@ -37,6 +40,7 @@ ports_on (Inputs words) = named_ports Input words
 ports_on (Outputs words) = named_ports Output words
 ports_on other = []
 
+-- all ports of a model, in the order of the text
 abbrev pub ports_of : BlifModel → List PortWord
 ports_of model = flat_map ports_on model.lines
 
@@ -45,13 +49,16 @@ abbrev pub covers_on : ModelLine → List CoverLine
 covers_on (Cover line) = line ∷ []
 covers_on other = []
 
+-- the covers that a model has itself, not in instances
 abbrev pub covers_of : BlifModel → List CoverLine
 covers_of model = flat_map covers_on model.lines
 
+-- the instance that a `.subckt` line makes
 abbrev pub instances_on : ModelLine → List InstanceLine
 instances_on (Instance line) = line ∷ []
 instances_on other = []
 
+-- the instances that stand in the model itself, and not in others of them
 abbrev pub instances_of : BlifModel → List InstanceLine
 instances_of model = flat_map instances_on model.lines
 
@@ -96,6 +103,7 @@ defined_on models (Cover line) = line.defined ∷ []
 defined_on models (Instance line) = map actual (filter (binds_output models line) line.bindings)
 defined_on models other = []
 
+-- all names that a model defines, by covers and by instances
 abbrev pub defined_in : List BlifModel → BlifModel → List Piece
 defined_in models model = flat_map (defined_on models) model.lines
 
@@ -106,6 +114,7 @@ read_on models (Cover line) = line.operands
 read_on models (Instance line) = map actual (filter (binds_input models line) line.bindings)
 read_on models other = []
 
+-- all names that a model reads, in the order of the text
 abbrev pub read_in : List BlifModel → BlifModel → List Piece
 read_in models model = flat_map (read_on models) model.lines
 

@@ -25,9 +25,11 @@ abbrev pub callees_on : List BlifModel → ModelLine → List ℕ
 callees_on models (Instance line) = place_of models line ∷ []
 callees_on models other = []
 
+-- the models of all instances that these lines make, by their places
 abbrev pub callees : List BlifModel → List ModelLine → List ℕ
 callees models lines = flat_map (callees_on models) lines
 
+-- the models that the one at a place has instances of, by their places
 abbrev pub callees_at : List BlifModel → ℕ → List ℕ
 callees_at models place = callees models (model_at models place).lines
 
@@ -60,9 +62,11 @@ pub record IsRecursionAmong (models : List BlifModel) (lines : List InstanceLine
   pub deep : All (λ other. HasDepth models (model_of models other)) before
   pub at : IsRecursionAt models line fault
 
+-- how far the search has come with the model at a place
 abbrev pub visit_of : List Visit → ℕ → Visit
 visit_of visits place = slice_index_or visits place New
 
+-- the search hasn't met the model yet
 abbrev pub is_new : Visit → Bool
 is_new New = true
 is_new Open = false
@@ -92,6 +96,7 @@ pub record IsPath (models : List BlifModel) (root : ℕ) (stack : List ℕ) : Ty
   pub steps : (j d : ℕ) → suc j < length stack
       → Contains (callees_at models (slice_index_or stack j d)) (slice_index_or stack (suc j) d)
 
+-- The search from a root goes on: what is known of all models, and of those on the stack.
 pub record IsUnderWay (models : List BlifModel) (root : ℕ) (search : ModelSearch) : Type 0 where
   pub knows : Knows models search.visits.items search.looked.items search.stack.items search.order.items
   pub path : IsPath models root search.stack.items

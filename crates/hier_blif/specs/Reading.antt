@@ -75,11 +75,13 @@ abbrev pub ended_by : Bool → BlifModel → Option CoverLine → Directive → 
 ended_by begun current cover directive.Model = if begun then with_lines current (closed cover) ∷ [] else []
 ended_by begun current cover other = []
 
+-- whether the model that is read has ended by `.end`
 abbrev pub ended_after : Bool → Directive → Bool
 ended_after ended directive.Model = false
 ended_after ended directive.End = true
 ended_after ended other = ended
 
+-- the name that a `.model` line gives to a model
 abbrev pub names_by : Directive → List Piece → List (List ℕ)
 names_by directive.Model line = (word_of line 1).bytes ∷ []
 names_by other line = []

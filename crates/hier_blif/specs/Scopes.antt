@@ -35,10 +35,11 @@ model_at models place = slice_index_or models place (empty_model 0 no_name)
 pub record HasKeys {X : Type 0} (key : X → List ℕ) (xs : List X) (names : List (List ℕ)) : Type 0 where
   pub each : (name : List ℕ) → list_any (bytes_eq name) names ≡ list_any (λ x. bytes_eq name (key x)) xs
 
--- these are the names of a model
+-- names, each of them once
 abbrev pub NameSet : Type 0
 NameSet = IndexSet (Bor (List ℕ)) (BuildHasherDefault FoldHasher)
 
+-- these are the names of a model
 abbrev pub HasNames : List BlifModel → BlifModel → NameSet → Type 0
 HasNames models model names = HasKeys (λ word. word.bytes) (names_in models model) (names_of names)
 

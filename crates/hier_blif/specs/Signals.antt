@@ -76,6 +76,7 @@ signal_down models (suc l) model inputs first (k ∷ path) name =
 abbrev pub input_signal : BlifModel → List ℕ → ℕ
 input_signal top name = 1 + position_or_len (λ word. bytes_eq name word.bytes) (inputs_of top)
 
+-- the signal of each name of each instance, by the path that leads to it from the top
 abbrev pub signal_of_top : List BlifModel → ℕ → BlifModel → OfNames ℕ
 signal_of_top models l top =
     λ path name. signal_down models l top (input_signal top) (1 + length (inputs_of top)) path name

@@ -10,6 +10,7 @@ use Rattle.hier_blif.specs.Hierarchies.{most_parts}
 use Rattle.hier_blif.specs.Scopes.{model_at}
 use Rattle.hier_blif.specs.Order.{callees}
 
+-- a number, and for all above the limit the one after it
 abbrev pub capped : ℕ → ℕ
 capped n = min n (most_parts + 1)
 
@@ -20,9 +21,11 @@ pub record IsSize (models : List BlifModel) (model : BlifModel) (size : Size) : 
   pub covers : (depth : ℕ) → is_within models depth model ≡ true
       → size.covers ≡ capped (covers_within models depth model)
 
+-- what is listed at a place is what the model there makes
 abbrev pub IsSizeAt : List BlifModel → List Size → ℕ → Type 0
 IsSizeAt models sizes place = (d : Size) → IsSize models (model_at models place) (slice_index_or sizes place d)
 
+-- Each model of the file has what it makes listed at its place.
 pub record AreSizes (models : List BlifModel) (sizes : List Size) : Type 0 where
   pub entries : length sizes ≡ length models
   pub each : (place : ℕ) → place < length models → IsSizeAt models sizes place
@@ -36,10 +39,12 @@ abbrev pub instances_made : List BlifModel → ℕ → List ModelLine → ℕ
 instances_made models l lines =
     sum_by (λ line. instances_within models l (model_of models line)) (flat_map instances_on lines)
 
+-- the covers on these lines, and those of the instances that the lines make
 abbrev pub covers_made : List BlifModel → ℕ → List ModelLine → ℕ
 covers_made models l lines = length (flat_map covers_on lines)
     + sum_by (λ line. covers_within models l (model_of models line)) (flat_map instances_on lines)
 
+-- What the lines of a model make is counted, up to the limit; `first` instances are there before them.
 pub record Counts (models : List BlifModel) (first : ℕ) (lines : List ModelLine) (size : Size) : Type 0 where
   pub instances : (l : ℕ) → AreWithin models l lines → size.instances ≡ capped (first + instances_made models l lines)
   pub covers : (l : ℕ) → AreWithin models l lines → size.covers ≡ capped (covers_made models l lines)

@@ -28,6 +28,7 @@ abbrev pub twin_literal : Option Twin → SatLit → SatLit
 twin_literal None literal = literal
 twin_literal (Some twin) literal = if is_negated literal then opposite twin.first else twin.first
 
+-- the literal of a gate's class that stands for a literal of the query
 abbrev pub representative : (ℕ → Option Twin) → SatLit → SatLit
 representative twins literal = twin_literal (twins (variable_of literal)) literal
 
@@ -39,10 +40,11 @@ in_order one other = if nat_lt other.0 one.0 then (other, one) else (one, other)
 abbrev pub operands_of : (ℕ → Option Twin) → ConeGate → SatLit × SatLit
 operands_of twins gate = in_order (representative twins gate.first) (representative twins gate.second)
 
--- the first gate that has these operands
+-- the same two literals in the same order
 abbrev pub same_operands : SatLit × SatLit → SatLit × SatLit → Bool
 same_operands one other = is_same one.0 other.0 && is_same one.1 other.1
 
+-- the first gate that has these operands
 abbrev pub first_with : List ((SatLit × SatLit) × ConeGate) → SatLit × SatLit → Option ConeGate
 first_with entries operands = lookup (same_operands operands) entries
 
@@ -64,6 +66,7 @@ pub record IsTwin (count : ℕ) (clauses : List (List SatLit)) (variable : ℕ) 
   pub to_variable : clause_at clauses twin.to_variable ≡ opposite twin.first ∷ plain variable ∷ []
   pub from_variable : clause_at clauses twin.from_variable ≡ twin.first ∷ opposite (plain variable) ∷ []
 
+-- each variable that another literal stands for is shown equal to it by two lemmas
 abbrev pub AreTwins : ℕ → List (List SatLit) → (ℕ → Option Twin) → Type 0
 AreTwins count clauses twins = (variable : ℕ) (twin : Twin) → twins variable ≡ Some twin → IsTwin count clauses variable twin
 

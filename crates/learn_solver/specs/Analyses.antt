@@ -48,6 +48,7 @@ pub record IsLearnedAs (clauses : List (List SatLit)) (trail : Trailing) (clause
       → effect_of (before trail.entries k) clause ≡ Neither
   pub asserting : IsAsserting trail clause level
 
+-- what was learned is right: its clause, the steps that derive it, and the level to go back to
 abbrev pub IsLearned : List (List SatLit) → Trailing → LearnedClause → Type 0
 IsLearned clauses trail learned = IsLearnedAs clauses trail learned.clause learned.steps.items learned.level
 
@@ -135,6 +136,7 @@ pub record IsAnalysed (clauses : List (List SatLit)) (trail : Trailing) (marked 
       → IsLeft trail.entries marked below below made
       → hint_fault clauses made (reverse steps) ≡ None
 
+-- from the conflict back to here, the steps of the analysis are right
 abbrev pub IsAnalysis : List (List SatLit) → Trailing → List Bool → Analysis → Type 0
 IsAnalysis clauses trail marked analysis =
     IsAnalysed clauses trail marked analysis.below analysis.here analysis.steps.items
@@ -154,6 +156,7 @@ pub record IsReduced (clauses : List (List SatLit)) (trail : Trailing) (marked :
       → IsLeft trail.entries marked place below made
       → hint_fault clauses made (reverse steps) ≡ None
 
+-- from its last literal down to a place, the learned clause has been minimized rightly
 abbrev pub IsReducing : List (List SatLit) → Trailing → List Bool → Analysis → ℕ → Type 0
 IsReducing clauses trail marked analysis =
     IsReduced clauses trail marked analysis.below analysis.here analysis.steps.items

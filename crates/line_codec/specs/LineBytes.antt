@@ -19,12 +19,15 @@ mark_if is_so bit = if is_so then bit else 0
 abbrev pub low_of : ℕ → ℕ
 low_of magnitude = if nat_le 64 magnitude then magnitude % 64 else magnitude
 
+-- the first group of a delta: its sign, its low bits, and whether more groups follow
 abbrev pub signed_first : Bool → ℕ → ℕ
 signed_first negative magnitude = mark_if (nat_le 64 magnitude) 128 + mark_if negative 64 + low_of magnitude
 
+-- the groups for what a delta has beyond its low six bits
 abbrev pub signed_rest : ℕ → List ℕ
 signed_rest magnitude = if nat_le 64 magnitude then number_bytes (magnitude / 64) else []
 
+-- a delta, by its sign and its magnitude
 abbrev pub signed_bytes : Bool → ℕ → List ℕ
 signed_bytes negative magnitude = signed_first negative magnitude ∷ signed_rest magnitude
 
@@ -37,6 +40,7 @@ abbrev pub deltas_bytes : ℕ → List ℕ → List ℕ
 deltas_bytes from [] = []
 deltas_bytes from (to ∷ numbers) = delta_bytes from to ++ deltas_bytes to numbers
 
+-- a list of numbers: its length, and the deltas
 abbrev pub numbers_bytes : List ℕ → List ℕ
 numbers_bytes numbers = number_bytes (length numbers) ++ deltas_bytes 0 numbers
 
@@ -44,6 +48,7 @@ numbers_bytes numbers = number_bytes (length numbers) ++ deltas_bytes 0 numbers
 abbrev pub literal_numbers : List SatLit → List ℕ
 literal_numbers clause = map (λ literal. literal.0) clause
 
+-- a clause, as the list of its literals' numbers
 abbrev pub clause_bytes : List SatLit → List ℕ
 clause_bytes clause = numbers_bytes (literal_numbers clause)
 
@@ -51,6 +56,7 @@ clause_bytes clause = numbers_bytes (literal_numbers clause)
 abbrev pub line_bytes : LogLine → List ℕ
 line_bytes line = clause_bytes line.clause ++ numbers_bytes line.hints
 
+-- lines of a log, one after the other
 abbrev pub lines_bytes : List LogLine → List ℕ
 lines_bytes lines = flat_map line_bytes lines
 

@@ -31,6 +31,7 @@ IsGuessed graphs (guessed.Match matching logs) = IsShownMatch graphs matching lo
 IsGuessed graphs guessed.Fails = Unit {0}
 IsGuessed graphs guessed.Nothing = Unit {0}
 
+-- what a search found is shown: a match, by its logs, or that there is none, by a ban without pairs
 abbrev pub IsFound : Graphs → List Ban → Found → Type 0
 IsFound graphs bans (found.Match matching logs) = IsShownMatch graphs matching logs
 IsFound graphs bans (found.None number) = IsEmptyBan bans number

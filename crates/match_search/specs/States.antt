@@ -47,6 +47,7 @@ pub record Lent : Type 0 where
   pub book_name : GName
   pub ledger_name : GName
 
+-- what a session has on loan now
 abbrev pub lent : {O : Type 0} → (O → Known) → Session O → Lent
 lent known s = record {
   known = known s.asker.oracle.now;

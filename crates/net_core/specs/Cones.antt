@@ -47,6 +47,7 @@ pub record IsNew (first s : ℕ) (marks : List Bool) (found : List ℕ) (new_mar
   pub marks_are : new_marks ≡ slice_set marks (s - first) true
   pub found_are : new_found ≡ found ++ (s - first) ∷ []
 
+-- what looking at a signal changes: nothing, or its gate is marked now, and listed
 abbrev pub IsFoundBy : ℕ → ℕ → List Bool → List ℕ → List Bool → List ℕ → Type 0
 IsFoundBy first s marks found new_marks new_found =
     IsOld first s marks found new_marks new_found ⊎ IsNew first s marks found new_marks new_found

@@ -4,6 +4,7 @@ use Rattle.circuits.specs.Literals.{EachAt, signal_of}
 use Rattle.circuits.specs.Netlists.{Net, IsOrdered, signals_of}
 use Rattle.circuits.specs.declared.netlist.Gate.{Gate}
 
+-- A netlist in order whose literals have 32 bits, and so has the number of its outputs.
 pub record IsGraph (net : Net) : Type 0 where
   pub ordered : IsOrdered net
   pub signals : signals_of net < 2 ^ 31

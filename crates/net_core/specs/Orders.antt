@@ -12,6 +12,7 @@ AreListed circuit count placed = (k : ℕ) (d : Placed)
     → k < count
     → ((slice_index_or placed k d).position ≡ k) × HasLevel circuit (signal_at circuit k) (slice_index_or placed k d).level
 
+-- All definitions are listed, each with its level.
 pub record AreLevels (circuit : Circuit) (placed : List Placed) : Type 0 where
   pub entries : length placed ≡ length circuit.defs
   pub listed : AreListed circuit (length circuit.defs) placed

@@ -2,6 +2,7 @@
 use Rattle.std.specs.Prelude.{◌^◌, ◌<◌, length}
 use Rattle.circuits.specs.Circuits.{Circuit, IsClosed, signals_in}
 
+-- A closed circuit with few enough signals and outputs for each to have a number.
 pub record IsPlainNet (circuit : Circuit) : Type 0 where
   pub closed : IsClosed circuit
   pub signals : signals_in circuit < 2 ^ 30

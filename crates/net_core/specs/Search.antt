@@ -14,9 +14,11 @@ use Rattle.net_core.specs.declared.order_fault.OrderFault.{OrderFault}
 use Rattle.net_core.specs.declared.order_fault.OrderFault.TheVariants.{Cycle, TooManyGates, Memory}
 use Rattle.net_core.specs.Limits.{most_gates}
 
+-- how far the search has come with definition k
 abbrev pub visit_of : List Visit → ℕ → Visit
 visit_of visits k = slice_index_or visits k New
 
+-- the search hasn't met the definition yet
 abbrev pub is_new : Visit → Bool
 is_new New = true
 is_new Open = false
@@ -61,6 +63,7 @@ pub record IsPath (circuit : Circuit) (root : ℕ) (stack : List ℕ) : Type 0 w
   pub steps : (j d : ℕ) → suc j < length stack
       → Names circuit (signal_at circuit (slice_index_or stack j d)) (signal_at circuit (slice_index_or stack (suc j) d))
 
+-- The search from a root goes on: what is known of all definitions, and of those on the stack.
 pub record IsUnderWay (circuit : Circuit) (root : ℕ) (visits : List Visit) (stack : List Frame) : Type 0 where
   pub knows : Knows circuit visits (positions stack)
   pub path : IsPath circuit root (positions stack)

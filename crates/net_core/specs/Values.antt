@@ -42,6 +42,7 @@ bits = record { absent = false; signed = differ; and = λ a b. a && b }
 abbrev pub signed_word : ℕ → Bool → ℕ
 signed_word word negated = bit_xor word (if negated then 2 ^ 64 - 1 else 0)
 
+-- 64 bits at once, each on a pattern of its own
 abbrev pub words : Operations ℕ
 words = record { absent = 0; signed = signed_word; and = bit_and }
 
@@ -49,6 +50,7 @@ words = record { absent = 0; signed = signed_word; and = bit_and }
 abbrev pub each_lane : ℕ → (ℕ → ℕ → ℕ) → List ℕ → List ℕ → List ℕ
 each_lane n f one other = map (λ l. f (slice_index_or one l 0) (slice_index_or other l 0)) (range_with_len 0 n)
 
+-- n words at once, 64 patterns in each
 abbrev pub blocks : ℕ → Operations (List ℕ)
 blocks n = record {
   absent = [];

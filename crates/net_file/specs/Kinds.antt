@@ -3,6 +3,7 @@ use Rattle.std.specs.Prelude.{ℕ}
 use Rattle.net_file.specs.declared.fault.NetKind.{NetKind}
 use Rattle.net_file.specs.declared.fault.NetKind.TheVariants as kind
 
+-- the number by which reports name a fault of a netlist's file
 abbrev pub kind_number : NetKind → ℕ
 kind_number kind.Header = 1
 kind_number kind.Sequential = 2

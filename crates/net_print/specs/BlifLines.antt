@@ -48,9 +48,11 @@ abbrev pub covers_from : {T : Type 0} → (ℕ → ℕ → T → List (List (Lis
 covers_from {T} lines inputs k [] = []
 covers_from {T} lines inputs k (first ∷ rest) = lines inputs k first ++ covers_from lines inputs (k + 1) rest
 
+-- the covers of all gates
 abbrev pub gates_lines : ℕ → ℕ → List Gate → List (List (List ℕ))
 gates_lines = covers_from gate_lines
 
+-- the covers of all outputs
 abbrev pub outputs_lines : ℕ → ℕ → List Lit → List (List (List ℕ))
 outputs_lines = covers_from output_lines
 

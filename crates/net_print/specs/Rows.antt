@@ -25,6 +25,7 @@ header_numbers net =
 abbrev pub header_line : List ℕ → Net → List ℕ
 header_line keyword net = keyword ++ numbers_line (header_numbers net)
 
+-- the header, as a file begins with it
 abbrev pub header_text : List ℕ → Net → List ℕ
 header_text keyword net = header_line keyword net ++ 10 ∷ []
 
@@ -36,6 +37,7 @@ counts_text variables inputs = decimal variables ++ 32 ∷ decimal inputs ++ 32 
 abbrev pub input_row : ℕ → List ℕ
 input_row input = 2 * (input + 1) ∷ []
 
+-- the lines of all inputs
 abbrev pub input_rows : ℕ → List (List ℕ)
 input_rows inputs = map input_row (range_with_len 0 inputs)
 
@@ -56,6 +58,7 @@ gate_rows variable (gate ∷ gates) = gate_row variable gate ∷ gate_rows (vari
 abbrev pub symbol_line : ℕ → ℕ → List ℕ → List ℕ
 symbol_line letter position name = letter ∷ decimal position ++ 32 ∷ name
 
+-- the symbol of a port, as it stands in a file
 abbrev pub symbol_text : ℕ → ℕ → List ℕ → List ℕ
 symbol_text letter position name = symbol_line letter position name ++ 10 ∷ []
 
@@ -69,6 +72,7 @@ symbol_lines letter position (name ∷ names) =
 abbrev pub symbols : Named → List (List ℕ)
 symbols named = symbol_lines 105 0 named.input_names ++ symbol_lines 111 0 named.output_names
 
+-- the lines that name all ports, as they stand in a file
 abbrev pub symbols_text : Named → List ℕ
 symbols_text named =
     text_of_lines (symbol_lines 105 0 named.input_names) ++ text_of_lines (symbol_lines 111 0 named.output_names)

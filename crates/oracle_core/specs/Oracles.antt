@@ -110,6 +110,7 @@ pub record IsDifference (graphs : Graphs) (matching : Matching) (k : ℕ) (x : L
   pub unlike : bit (function_of graphs.first x) k
       ≢ differ (bit (function_of graphs.second (moved matching.inputs x)) (place_of matching.outputs k)) (sign_of matching.outputs k)
 
+-- an output and its partner are shown equal by two logs, or differ on a vector
 abbrev pub IsCompared : Graphs → Matching → ℕ → Compared → Type 0
 IsCompared graphs matching k (Same one other) = AreSame graphs matching k one other
 IsCompared graphs matching k (Differs vector) = IsDifference graphs matching k vector

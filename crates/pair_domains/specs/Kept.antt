@@ -38,6 +38,7 @@ pub record AreCounts (inputs outputs : ℕ) (entries : List Entry) (gone : List 
       → port < ports_of inputs outputs kind
       → slice_index_or gone (port_number inputs outputs side kind port) 0 ≡ gone_in entries side kind port
 
+-- What is looked up quickly agrees with the entries: pairs assigned, places, and counts of deletions.
 pub record IsKept (inputs outputs : ℕ) (entries : List Entry) (pairs : List Pair) (places : List (Option ℕ))
     (pairs_at : List (Option Pair)) (gone : List ℕ) : Type 0 where
   pub entries_are : AreEntries inputs outputs entries

@@ -6,6 +6,7 @@ use Rattle.circuits.specs.declared.port.PortKind.TheVariants.{Input, Output}
 use Rattle.net_core.specs.declared.graphs.Side.{Side}
 use Rattle.net_core.specs.declared.graphs.Side.TheVariants.{First, Second}
 
+-- a plain pair comes before the inverted one
 abbrev pub sign_number : Bool → ℕ
 sign_number false = 0
 sign_number true = 1
@@ -18,6 +19,7 @@ number_in ports pair = 2 * (pair.from * ports + pair.to) + sign_number pair.flip
 abbrev pub pairs_of_ports : ℕ → ℕ → ℕ
 pairs_of_ports inputs outputs = 2 * (inputs * inputs) + 2 * (outputs * outputs)
 
+-- pairs of inputs come before those of outputs
 abbrev pub number_from : ℕ → ℕ → PortKind → Pair → ℕ
 number_from inputs outputs Input pair = number_in inputs pair
 number_from inputs outputs Output pair = 2 * (inputs * inputs) + number_in outputs pair

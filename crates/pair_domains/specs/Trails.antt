@@ -30,6 +30,7 @@ pub record IsPairOf (inputs outputs : ℕ) (pair : Pair) : Type 0 where
   pub from : pair.from < ports_of inputs outputs pair.kind
   pub to : pair.to < ports_of inputs outputs pair.kind
 
+-- the matching that is sought has the pair
 abbrev pub is_assigned : Fate → Bool
 is_assigned (Assigned cause) = true
 is_assigned (Deleted reason) = false
@@ -74,5 +75,6 @@ pub record AreEntries (inputs outputs : ℕ) (entries : List Entry) : Type 0 whe
   pub distinct : AllPairs (λ one other. one.pair ≢ other.pair) entries
   pub apart : AllPairs AreApart (assigned_in entries)
 
+-- what became of the pairs of two circuits fits together
 abbrev pub AreDomains : Domained → Type 0
 AreDomains domains = AreEntries domains.inputs domains.outputs domains.entries

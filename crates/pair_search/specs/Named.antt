@@ -21,6 +21,7 @@ AreNamed bans pairs pair (reason.Clash with) = Contains pairs with × Clash with
 AreNamed bans pairs pair (reason.Ban number) = Covers bans (pair ∷ pairs) number
 AreNamed bans pairs pair (reason.Mismatch with fails holds) = Contains pairs with
 
+-- a pair that can't stand, with the reason why
 abbrev pub deleted : Pair → Reason → Entry
 deleted pair why = record { pair = pair; fate = Deleted why }
 

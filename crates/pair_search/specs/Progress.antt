@@ -45,6 +45,7 @@ weight radix (suc depth) (digit ∷ digits) = digit * whole radix depth + weight
 abbrev pub left_of : ℕ → List Entry → ℕ
 left_of count entries = weight (count + 2) (count + 1) (open_at_ends count entries)
 
+-- how much of the search is left before it ends for certain
 abbrev pub left : Domained → ℕ
 left domains = left_of (pairs_of_ports domains.inputs domains.outputs) domains.entries
 

@@ -10,11 +10,13 @@ use Rattle.claim_core.specs.declared.info.Sym.{Sym}
 use Rattle.claim_core.specs.declared.info.Sym.TheVariants.{Symmetric, Skew, Both}
 use Rattle.port_report.specs.Reports.{PortNames, names_of, port_among}
 
+-- the word for an output that never falls, never rises, or may do either, where the input rises
 abbrev pub unate_word : Unate → List ℕ
 unate_word Positive = codes "positive"
 unate_word Negative = codes "negative"
 unate_word Binate = codes "binate"
 
+-- the word for two inputs that may be exchanged as they are, with both inverted, or either way
 abbrev pub sym_word : Sym → List ℕ
 sym_word Symmetric = codes "symmetric"
 sym_word Skew = codes "skew"
@@ -28,6 +30,7 @@ count_line word count = word ++ 32 ∷ decimal count ++ 10 ∷ []
 abbrev pub input_line : List (List ℕ) → ℕ × Unate → List ℕ
 input_line names entry = port_among (codes "input") names entry.0 ++ 32 ∷ unate_word entry.1 ++ 10 ∷ []
 
+-- a line for each input that an output depends on
 abbrev pub input_lines : List (List ℕ) → List (ℕ × Unate) → List ℕ
 input_lines names [] = []
 input_lines names (entry ∷ entries) = input_line names entry ++ input_lines names entries
@@ -36,6 +39,7 @@ input_lines names (entry ∷ entries) = input_line names entry ++ input_lines na
 abbrev pub pair_line : ℕ × ℕ × Sym → List ℕ
 pair_line pair = codes "pair " ++ decimal pair.0 ++ 32 ∷ decimal pair.1 ++ 32 ∷ sym_word pair.2 ++ 10 ∷ []
 
+-- a line for each two inputs that may be exchanged
 abbrev pub pair_lines : List (ℕ × ℕ × Sym) → List ℕ
 pair_lines [] = []
 pair_lines (pair ∷ pairs) = pair_line pair ++ pair_lines pairs

@@ -28,6 +28,7 @@ pub record PortNames : Type 0 where
   pub inputs : List (List ℕ)
   pub outputs : List (List ℕ)
 
+-- the names that a netlist's file gives to its ports
 abbrev pub names_of : Named → PortNames
 names_of named = record { inputs = named.input_names; outputs = named.output_names }
 

@@ -24,14 +24,17 @@ printed_signal inputs signal =
 abbrev pub wanted_of : Lit → Trit
 wanted_of literal = if is_negated literal then Zero else One
 
+-- a gate as a cover of one row, over the signals of its operands
 abbrev pub gate_cover : ℕ → Gate → Def
 gate_cover inputs gate =
     Cover (printed_signal inputs (signal_of gate.a) ∷ printed_signal inputs (signal_of gate.b) ∷ [])
     ((wanted_of gate.a ∷ wanted_of gate.b ∷ []) ∷ []) true
 
+-- an output as a cover of one row, over the signal that it has
 abbrev pub output_cover : ℕ → Lit → Def
 output_cover inputs output = Cover (printed_signal inputs (signal_of output) ∷ []) ((wanted_of output ∷ []) ∷ []) true
 
+-- what the printed file describes: the constant, then the gates, and then the outputs, each defined by a cover
 abbrev pub printed_circuit : Net → Circuit
 printed_circuit net = record {
   inputs = net.inputs;

@@ -37,6 +37,7 @@ is_of_marked gates marked id = (id == 0) || (nat_lt (6 * gates) id || bit marked
 abbrev pub is_present : PartialQuery → ℕ → Bool
 is_present part id = part.whole || is_of_marked (left_gates part.graphs part.query) part.marked id
 
+-- a clause of the query where it is present; else that of variable 0, which asks nothing
 abbrev pub present_clause : PartialQuery → ℕ → List SatLit
 present_clause part id = if is_present part id then clause_at (query_clauses part.graphs part.query) id else true_literal ∷ []
 

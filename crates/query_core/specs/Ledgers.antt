@@ -23,6 +23,7 @@ pub record Ledgered : Type 0 where
 abbrev pub entry_of : Query → List LogLine → Asked
 entry_of query lemmas = record { query = query; lemmas = length lemmas; lines = lemmas }
 
+-- stands for the last entry of a ledger that has none yet
 abbrev pub nothing_asked : Asked
 nothing_asked =
     let cone : Cone = record { side = First; output = 0; feed = [] } in
@@ -52,6 +53,7 @@ charged_lines asked = flat_map charged_of asked
 abbrev pub charged_in : Asked → ℕ
 charged_in entry = length entry.lines - entry.lemmas
 
+-- how many lines were refused: the one at which the budget was spent, or none
 abbrev pub one_if : Bool → ℕ
 one_if spent = if spent then 1 else 0
 

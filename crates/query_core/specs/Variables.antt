@@ -30,6 +30,7 @@ pub record HasMark (first own : ℕ) (marked : List Bool) (t : ℕ) : Type 0 whe
   pub first_few : first + t < 2 ^ 63
   pub own_few : own + t < 2 ^ 63
 
+-- gate t has a variable that is below 2^63: its own, or the one that a mark gives
 abbrev pub HasGate : Variables → ℕ → Type 0
 HasGate (Own first) t = first + t < 2 ^ 63
 HasGate (Shared first own marked) t = HasMark first own marked t

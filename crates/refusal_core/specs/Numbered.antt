@@ -16,8 +16,10 @@ step_by of_fact of_ban (Cover kind from to refs) = Cover kind from to (map (opti
 abbrev pub at : List ℕ → ℕ → ℕ
 at numbers place = slice_index_or numbers place 0
 
+-- a step, with the numbers that its facts and its bans have now
 abbrev pub numbered : List ℕ → List ℕ → Step → Step
 numbered facts bans step = step_by (at facts) (at bans) step
 
+-- a ban of the same pairs, with the numbers that what it rests on has now
 abbrev pub numbered_ban : List ℕ → List ℕ → Ban → Ban
 numbered_ban facts bans ban = record { pairs = ban.pairs; step = numbered facts bans ban.step }

@@ -30,6 +30,7 @@ new_numbers marks = map (number_of marks) (range_with_len 0 (length marks))
 abbrev pub renumbered : List Bool → List Bool → Step → Step
 renumbered facts bans step = step_by (number_of facts) (number_of bans) step
 
+-- a ban of the same pairs, whose step names what is left by the new numbers
 abbrev pub renumbered_ban : List Bool → List Bool → Ban → Ban
 renumbered_ban facts bans ban = record { pairs = ban.pairs; step = renumbered facts bans ban.step }
 

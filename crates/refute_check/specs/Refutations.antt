@@ -16,10 +16,11 @@ pub record Refuting (B : Type 0) : Type 0 where
   pub taken : List (List SatLit)
   pub room : Option ℕ
 
--- it is stored as the tuple of its fields
+-- a literal is stored as its number
 abbrev pub literal_code : Coded SatLit
 literal_code = code_by ℕ coded_ℕ (λ literal. literal.0) (λ number. record { 0 = number }) (λ _. refl)
 
+-- what a check has taken is stored as the tuple of its fields
 abbrev pub refuting_code : {B : Type 0} → Coded B → Coded (Refuting B)
 refuting_code {B} code =
     code_by (B × (List (List SatLit) × Option ℕ)) (coded× code (coded× (coded_list (coded_list literal_code)) (coded_option coded_ℕ)))

@@ -12,6 +12,7 @@ pub record Made : Type 0 where
   pub variables : ℕ
   pub made : List SatLit
 
+-- the bit that a variable has, if it has one yet
 abbrev pub bit_at : List (Option Bool) → ℕ → Option Bool
 bit_at bits variable = slice_index_or bits variable None
 
@@ -20,6 +21,7 @@ abbrev pub is_bit : Option Bool → Bool → Bool
 is_bit None b = false
 is_bit (Some value) b = beq value b
 
+-- a literal is over this variable, plain or negated
 abbrev pub is_of : ℕ → SatLit → Bool
 is_of variable literal = variable_of literal == variable
 

@@ -9,21 +9,27 @@ use Rattle.check_steps.specs.declared.words.Trial.{Trial as TrialWords}
 use Rattle.check_steps.specs.declared.words.Command.{Command}
 use Rattle.check_steps.specs.declared.words.Command.TheVariants.{Check, Restore, Match, Info, Make, Trial}
 
+-- to check an account of two netlists
 abbrev pub asked_check : CheckWords → Command
 asked_check check = Check check
 
+-- to write the second of two netlists with the first one's ports
 abbrev pub asked_restore : RestoreWords → Command
 asked_restore restore_words = Restore restore_words
 
+-- to seek a match of two netlists, and to write its account
 abbrev pub asked_match : MatchWords → Command
 asked_match match_words = Match match_words
 
+-- to tell of a netlist which inputs its outputs depend on, and how
 abbrev pub asked_info : InfoWords → Command
 asked_info info = Info info
 
+-- to write a pair of netlists that a number gives
 abbrev pub asked_make : MakeWords → Command
 asked_make make_words = Make make_words
 
+-- to match a pair that a number gives, and to check the account
 abbrev pub asked_trial : TrialWords → Command
 asked_trial trial = Trial trial
 

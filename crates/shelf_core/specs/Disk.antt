@@ -5,6 +5,7 @@ use Rattle.shelf_core.specs.declared.disk_shelf.Opened.{Opened}
 use Rattle.shelf_core.specs.declared.file_error.Faults.{Faults}
 use Rattle.shelf_core.specs.declared.disk_shelf.Opened.TheVariants as opened
 
+-- whether a file is open, and whether it is read or written
 abbrev pub disk_mode : {F A : Type 0} → Opened F A → Mode
 disk_mode opened.No = Closed
 disk_mode (opened.Reading file left) = Reading
@@ -12,6 +13,7 @@ disk_mode (opened.Held stream) = Reading
 disk_mode (opened.Endless left) = Reading
 disk_mode (opened.Writing file room) = Writing
 
+-- how many bytes of the open file are still unread; none of one that is written
 abbrev pub disk_left : {F A : Type 0} → Opened F A → ℕ
 disk_left opened.No = 0
 disk_left (opened.Reading file left) = left

@@ -40,16 +40,19 @@ open_mode opened.No = Closed
 open_mode (opened.Reading place at) = Reading
 open_mode opened.Writing = Writing
 
+-- the name of the open file, and no bytes where none is open
 abbrev pub open_name : List File → Opened → List ℕ
 open_name files opened.No = []
 open_name files (opened.Reading place at) = (file_at files place).0
 open_name files opened.Writing = (file_at files 0).0
 
+-- the bytes of the file that is read, from where reading goes on
 abbrev pub open_unread : List File → Opened → List ℕ
 open_unread files opened.No = []
 open_unread files (opened.Reading place at) = drop at (file_at files place).1
 open_unread files opened.Writing = []
 
+-- what a caller sees of a shelf in memory, by its files and how one of them stands open
 abbrev pub safe_shelf : List File → Opened → ShelfState
 safe_shelf files open_as = record {
   held = look_up files;

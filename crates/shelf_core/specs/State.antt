@@ -7,6 +7,7 @@ pub data Mode : Type 0 where
   Reading : Mode
   Writing : Mode
 
+-- What a caller knows of a shelf: its files, the one that is open, and what has failed.
 pub record ShelfState : Type 0 where
   -- the files: the bytes under each name, none where there is no such file
   pub held : List ℕ → Option (List ℕ)
@@ -23,6 +24,7 @@ pub record ShelfState : Type 0 where
   -- how many of them came in the last call
   pub latest : ℕ
 
+-- What a caller knows of a sink: what was written to it, and what has failed.
 pub record SinkState : Type 0 where
   -- all bytes that the sink took, in order
   pub written : List ℕ

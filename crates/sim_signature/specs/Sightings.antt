@@ -12,6 +12,7 @@ use Rattle.sim_signature.specs.declared.sighting.Sighting.{Sighting}
 abbrev pub IsBroken : Net → ℕ → Sighting → Type 0
 IsBroken net k sighting = IsPlaced net.inputs sighting.shape × BreaksShape net k sighting.shape sighting.vector
 
+-- each sighting's vector breaks its claim of this output
 abbrev pub AreBroken : Net → ℕ → List Sighting → Type 0
 AreBroken net k sightings = All (IsBroken net k) sightings
 

@@ -128,7 +128,7 @@ fn near_block(bit: bool, generator: &mut Pcg32) -> u64x8 {
     ])
 }
 
-/// The block of an input, inverted where both inputs are that the gate joins: the same is drawn for either of them.
+/// The block of an input. Where a gate joins two inputs, the same bits are inverted of both.
 fn joined(block: u64x8, gate: Option<u32>, seed: u64) -> u64x8 {
     let Some(gate) = gate else {
         return block;

@@ -6,6 +6,7 @@ use Rattle.cnf_core.specs.Clauses.{opposite, variable_of}
 use Rattle.trail_core.specs.declared.assigned.Assigned.{Assigned}
 use Rattle.trail_core.specs.Trails.{IsTrail, IsPlace, entry_at, literals, value_in}
 
+-- where a variable's literal stands on the trail, if it is assigned
 abbrev pub place_at : List (Option ℕ) → ℕ → Option ℕ
 place_at places variable = slice_index_or places variable None
 

@@ -14,6 +14,7 @@ pub record Trailing : Type 0 where
   pub level : ℕ
   pub walked : ℕ
 
+-- stands for what isn't on a trail
 abbrev pub nothing : Assigned
 nothing = record { literal = record { 0 = 0 }; level = 0; reason = None }
 
@@ -21,6 +22,7 @@ nothing = record { literal = record { 0 = 0 }; level = 0; reason = None }
 abbrev pub entry_at : List Assigned → ℕ → Assigned
 entry_at entries place = slice_index_or entries place nothing
 
+-- what is true by a trail, in the order in which it was assigned
 abbrev pub literals : List Assigned → List SatLit
 literals entries = map (λ entry. entry.literal) entries
 

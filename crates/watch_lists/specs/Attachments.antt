@@ -45,6 +45,7 @@ pub record IsFalseAtTop (trail : Trailing) (clause : List SatLit) : Type 0 where
   pub level : (entry_at trail.entries place).level ≡ trail.level
   pub there : is_true clause (opposite (entry_at trail.entries place).literal) ≡ true
 
+-- above level 0 a clause has a literal that the present level made false
 abbrev pub IsReached : Trailing → List SatLit → Type 0
 IsReached trail clause = 0 < trail.level → IsFalseAtTop trail clause
 
@@ -69,6 +70,7 @@ pub record ArePair (entries : List Assigned) (clause : List SatLit) (first secon
   pub first_guarded : IsGuarded entries first second
   pub second_guarded : IsGuarded entries second first
 
+-- two of a clause's literals can watch it, or one is true for good, or all are false
 abbrev pub IsAttachment : Trailing → Trailing → List SatLit → Attachment → Type 0
 IsAttachment old new clause (Two first second) = ArePair new.entries clause first second
 IsAttachment old new clause Rooted = IsRooted new.entries clause

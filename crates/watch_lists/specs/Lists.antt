@@ -17,9 +17,11 @@ pub record Listed : Type 0 where
   pub watches : List ℕ
   pub room : ℕ
 
+-- the list of a literal that nothing watches, and that has no room
 abbrev pub none_listed : Listed
 none_listed = record { watches = []; room = 0 }
 
+-- the list of the literal of a number
 abbrev pub list_at : List Listed → ℕ → Listed
 list_at lists c = slice_index_or lists c none_listed
 

@@ -3,9 +3,11 @@ use Rattle.std.specs.Prelude.{◌≢◌, ℕ, ◌+◌, ◌<◌, ◌≤◌, List,
 use Rattle.watch_lists.specs.declared.list_store.Span.{Span}
 use Rattle.watch_lists.specs.Lists.{Listed}
 
+-- a list of no places at all
 abbrev pub no_span : Span
 no_span = record { start = 0; len = 0; room = 0; places = 0 }
 
+-- where the list of the literal of a number stands
 abbrev pub span_at : List Span → ℕ → Span
 span_at spans c = slice_index_or spans c no_span
 

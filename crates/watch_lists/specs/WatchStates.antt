@@ -35,6 +35,7 @@ pub record IsLeft (trail : Trailing) (clause : List SatLit) (literal : SatLit) :
   pub makes : effect_of (literals trail.entries) clause ≡ Makes literal
   pub free : IsFree trail literal
 
+-- a clause's other watched literal is true, another can be watched, it is a unit, or it is a conflict
 abbrev pub IsWatchState : Trailing → List SatLit → SatLit → WatchState → Type 0
 IsWatchState trail clause other Satisfied = is_true (literals trail.entries) other ≡ true
 IsWatchState trail clause other (Replacement literal) = IsOtherNotFalse (literals trail.entries) clause other literal

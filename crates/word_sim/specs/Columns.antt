@@ -12,6 +12,7 @@ pub record Table : Type 0 where
   pub words : ℕ
   pub columns : List (List ℕ)
 
+-- each column has as many words as the table says
 abbrev pub IsTable : Table → Type 0
 IsTable table = All (λ column. length column ≡ table.words) table.columns
 

@@ -12,6 +12,7 @@ pub record Rail : Type 0 where
   pub one : Bool
   pub zero : Bool
 
+-- the two bits of a value, of which X has neither
 abbrev pub rail_of : Tri → Rail
 rail_of Zero = record { one = false; zero = true }
 rail_of One = record { one = true; zero = false }
@@ -28,12 +29,15 @@ rails_at w v signals = map (rail_at w v) signals
 abbrev pub rail_not : Rail → Rail
 rail_not rail = record { one = rail.zero; zero = rail.one }
 
+-- an AND of two values is 1 where both are, and 0 where one is
 abbrev pub rail_and : Rail → Rail → Rail
 rail_and rail other = record { one = rail.one && other.one; zero = rail.zero || other.zero }
 
+-- what a literal has of its signal's value: the same, or its complement
 abbrev pub signed_rail : Rail → Bool → Rail
 signed_rail rail negated = if negated then rail_not rail else rail
 
+-- gates over values of two bits; a signal that isn't there is X
 abbrev pub rail_values : Operations Rail
 rail_values = record { absent = rail_of X; signed = signed_rail; and = rail_and }
 
@@ -41,6 +45,7 @@ rail_values = record { absent = rail_of X; signed = signed_rail; and = rail_and 
 abbrev pub signed_rails : Rails → Bool → Rails
 signed_rails rails negated = if negated then record { ones = rails.zeros; zeros = rails.ones } else rails
 
+-- gates over eight words of each bit, 512 vectors at once
 abbrev pub rails : Operations Rails
 rails = record {
   absent = record { ones = []; zeros = [] };

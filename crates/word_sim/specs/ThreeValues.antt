@@ -31,6 +31,7 @@ tri_and X Zero = Zero
 tri_and X One = X
 tri_and X X = X
 
+-- gates over 0, 1 and X; a signal that isn't there is X
 abbrev pub tris : Operations Tri
 tris = record { absent = X; signed = λ value negated. if negated then tri_not value else value; and = tri_and }
 
@@ -39,6 +40,7 @@ abbrev pub tri_literal : List Tri → Lit → Tri
 tri_literal v literal =
     if is_negated literal then tri_not (slice_index_or v (signal_of literal) X) else slice_index_or v (signal_of literal) X
 
+-- the AND of a gate's operands where each signal has the value given
 abbrev pub tri_gate : List Tri → Gate → Tri
 tri_gate v gate = tri_and (tri_literal v gate.a) (tri_literal v gate.b)
 
