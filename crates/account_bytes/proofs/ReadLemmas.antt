@@ -1,13 +1,11 @@
 -- What reading a value says of reading another that begins with it.
-use Rattle.std.proofs.Common.{◌≡◌, ℕ, List, ◌∷◌, ◌++◌, Result, Ok, Err, refl, sym, ap, subst, ◌∙◌}
+use Rattle.std.proofs.Common.{◌≡◌, ℕ, List, ◌++◌, Result, Ok, Err, refl, sym, ap, subst, ◌∙◌}
 use Rattle.std.specs.Result.{IsErrAnd}
 use Rattle.byte_form.specs.Codes.{BeginsWith, BeginsNone, BothFit, IsPrefixCode, both_bytes}
 use Rattle.byte_form.proofs.CodeLemmas.{next_none}
 use Rattle.account_bytes.specs.declared.form.FormStop.{FormStop}
 use Rattle.account_bytes.specs.declared.form.FormStop.TheVariants.{Malformed, Memory}
-use Rattle.account_bytes.specs.Bodies.{Always}
-use Rattle.account_bytes.specs.Fields.{tagged_bytes}
-use Rattle.account_bytes.specs.Reading.{OfTag, Reads, one_byte}
+use Rattle.account_bytes.specs.Reading.{Reads}
 
 stop_as : {A X : Type 0} (bytes_a : A → List ℕ) (FitsA : A → Type 0) (bytes : X → List ℕ) (Fits : X → Type 0) (mid after old new : List ℕ) (why : FormStop) → Reads {X = A} bytes_a FitsA mid (Err why) after → (BeginsNone bytes_a FitsA mid → BeginsNone bytes Fits old) → Reads {X = X} bytes Fits old (Err why) new
 stop_as {A} {X} bytes_a FitsA bytes Fits mid after old new Malformed is turn = turn is
@@ -23,19 +21,6 @@ pub none_by : {X A : Type 0} (bytes : X → List ℕ) (Fits : X → Type 0) (byt
 none_by {X} {A} bytes Fits bytes_a FitsA to text is fits h = record {
   none = λ x left begins. h.none (to x) left (record { fits = fits x begins.fits; text_is = begins.text_is ∙ ap (λ b. b ++ left) (is x) });
 }
-
-byte_code : IsPrefixCode one_byte Always
-byte_code = record { one = λ x y after other fits fit same. cc same }
-
--- the fields after a tag
-pub tagged : {X : Type 0} (tag : X → ℕ) (fields : X → List ℕ) (Fits : X → Type 0) (old mid new : List ℕ) (given : ℕ) (answer : Result X FormStop) → BeginsWith one_byte Always old given mid → Reads fields (OfTag tag Fits given) mid answer new → Reads (tagged_bytes tag fields) Fits old answer new
-tagged {X} tag fields Fits old mid new given (Ok x) first reads = record {
-  fits = reads.fits.0;
-  text_is = first.text_is ∙ (ap (λ m. given ∷ m) reads.text_is ∙ ap (λ t. t ∷ (fields x ++ new)) (sym reads.fits.1));
-}
-tagged {X} tag fields Fits old mid new given (Err Malformed) first reads =
-    next_none (tagged_bytes tag fields) Fits one_byte Always tag fields old given mid (λ x. refl) (λ x fits. tt) byte_code first reads
-tagged {X} tag fields Fits old mid new given (Err Memory) first reads = tt
 
 pub second_of_both : {A B : Type 0} (bytes_a : A → List ℕ) (FitsA : A → Type 0) (bytes_b : B → List ℕ) (FitsB : B → Type 0) (old mid : List ℕ) (a : A) → IsPrefixCode bytes_a FitsA → BeginsWith bytes_a FitsA old a mid → BeginsNone bytes_b FitsB mid → BeginsNone (both_bytes bytes_a bytes_b) (BothFit FitsA FitsB) old
 second_of_both {A} {B} bytes_a FitsA bytes_b FitsB old mid a code first h =

@@ -1,5 +1,5 @@
 -- What was read and written is the account in the other version.
-use Rattle.std.proofs.Common.{◌≡◌, ℕ, Bool, true, false, not, List, [], ◌++◌, length, All, refl, sym, ap, subst, ◌∙◌}
+use Rattle.std.proofs.Common.{◌≡◌, ℕ, Bool, true, false, not, List, [], ◌++◌, length, All, sym, ap, subst, ◌∙◌}
 use Rattle.std.specs.List.{flat_map}
 use Rattle.account_file.specs.declared.record.Record.{Record}
 use Rattle.account_file.specs.Accounts.{IsAccountOf}
@@ -14,7 +14,7 @@ use Rattle.account_convert.specs.declared.text_writer.TextWriter.{TextWriter}
 use Rattle.account_convert.specs.AccountDues.{AreDuesOf, AreMentionsOf}
 use Rattle.account_convert.specs.Conversions.{IsConverted, in_other_version, version_number, with_drops, without_drops}
 use Rattle.account_convert.specs.Reading.{HasLed}
-use Rattle.account_convert.specs.Tables.{AreDues, LeadMentions, bans_from, facts_from}
+use Rattle.account_convert.specs.Tables.{AreDues}
 use Rattle.account_convert.specs.Writing.{LeadToBytes, LeadToText, queue_of, written_from}
 use Rattle.account_convert.proofs.PlaceLemmas.{with_drops_ended, without_drops_ended}
 use Rattle.account_convert.proofs.SpelledLemmas.{IsAccountIn, binary_account, text_account}
@@ -56,14 +56,6 @@ to_bytes_is old dues first last new count e are none queue led from to records_a
     becomes_in old (flat_map record_bytes (with_drops records)) records false new count e led.are led.counted from to records_are (bytes_are ∙ written)
     (binary_account (with_drops records) (subst (All HasBytes) all led.led.fit) (with_drops_ended records (account_ended old records led.are)))
 
-pub mentions_are : (account : List ℕ) (first mentions : Mentions) (count : ℕ) → first.facts ≡ [] → first.bans ≡ [] → HasLed LeadMentions account first mentions count → AreMentionsOf account mentions
-mentions_are account first mentions count no_facts no_bans led = record {
-  records = led.records;
-  are = led.are;
-  facts = led.led.facts ∙ ap (λ t. facts_from 1 t led.records) no_facts;
-  bans = led.led.bans ∙ ap (λ t. bans_from 1 t led.records) no_bans;
-}
-
 pub dues_are : (account : List ℕ) (mentions : Mentions) (dues : Dues) → AreMentionsOf account mentions → AreDues mentions.facts dues.facts.items → AreDues mentions.bans dues.bans.items → AreDuesOf account dues
 dues_are account mentions dues are facts bans = record {
   records = are.records;
@@ -71,6 +63,3 @@ dues_are account mentions dues are facts bans = record {
   facts = subst (λ t. AreDues t dues.facts.items) are.facts facts;
   bans = subst (λ t. AreDues t dues.bans.items) are.bans bans;
 }
-
-pub lead_mentions_first : (mentions : Mentions) → LeadMentions mentions [] mentions
-lead_mentions_first mentions = record { facts = refl; bans = refl }

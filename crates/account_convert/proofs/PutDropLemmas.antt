@@ -42,12 +42,6 @@ put_one of record_number number old now new before out then is first after wrote
   fit = λ each. is.fit (subst (λ ns. All HasBytes (map (drop_of of) ns)) (sym first) (All-cons HasBytes (drop_of of number) (drops_of of record_number new) fits each));
 }
 
-pub put_all_bytes : (of : Numbered) (record_number : ℕ) (old now : List Due) (before out : List ℕ) → IsPutting of record_number old now before out → first_at record_number now ≡ [] → out ≡ before ++ flat_map record_bytes (drops_of of record_number old)
-put_all_bytes of record_number old now before out is none = sym (append-nil out) ∙ (ap (λ ns. out ++ flat_map record_bytes (map (drop_of of) ns)) (sym none) ∙ is.bytes)
-
-pub put_all_fit : (of : Numbered) (record_number : ℕ) (old now : List Due) (before out : List ℕ) → IsPutting of record_number old now before out → first_at record_number now ≡ [] → All HasBytes (drops_of of record_number old)
-put_all_fit of record_number old now before out is none = is.fit (subst (λ ns. All HasBytes (map (drop_of of) ns)) (sym none) (All-nil HasBytes))
-
 -- A record more was written, with the drops after it.
 pub record IsWritten (old : BinaryWriter) (record_number : ℕ) (entry : Record) (new : BinaryWriter) : Type 0 where
   pub queue : queue_of new ≡ queue_after (queue_of old) record_number entry
@@ -73,10 +67,6 @@ lead_more first old new before entry record_number led number_is wrote =
           ∙ ap (flat_map record_bytes) (sym more)))));
       fit = subst (All HasBytes) (sym more) (All-append HasBytes (written_from start 1 before) (entry ∷ drops_due there record_number entry) led.fit (subst (All HasBytes) drops wrote.fit));
     }
-
--- before the first record
-pub lead_first : (writer : BinaryWriter) → LeadToBytes writer [] writer
-lead_first writer = record { queue = refl; bytes = sym (append-nil writer.bytes.items); fit = All-nil HasBytes }
 
 -- a record of the conclusion or after it, which no drops follow
 pub wrote_alone : (old new : BinaryWriter) (record_number : ℕ) (entry : Record)

@@ -1,19 +1,18 @@
 -- Records that are written in either version are the account of them.
-use Rattle.std.proofs.Common.{◌≡◌, ℕ, suc, ◌-◌, ◌<◌, Bool, true, false, List, [], ◌∷◌, ◌++◌, fold, length, take, get_or, All, None, Some, IsSome, refl, sym, ap, subst, ◌∙◌, arith, append-nil}
+use Rattle.std.proofs.Common.{◌≡◌, ℕ, Bool, true, false, List, [], ◌∷◌, ◌++◌, fold, All, None, Some, IsSome, refl, sym, ap, subst, ◌∙◌, append-nil}
 use Rattle.std.specs.List.{AllZip, flat_map, join_with_byte}
 use Rattle.std.proofs.lemmas.List.{append_cancel_right}
-use Rattle.std.proofs.lemmas.List.Splits.{join_with_byte-slice_split, length-slice_split}
-use Rattle.text_core.specs.Bytes.{is_line_feed}
 use Rattle.account_file.specs.declared.place.Place.TheVariants.{Start, Ended}
 use Rattle.account_file.specs.declared.record.Record.{Record}
 use Rattle.account_file.specs.declared.record.Record.TheVariants as record_of
 use Rattle.account_file.specs.Accounts.{IsAccountBy, IsAccountOf}
 use Rattle.account_file.specs.Binary.{HasBytes, is_binary, record_bytes}
-use Rattle.account_file.specs.Lines.{after_lines, pieces_of, whole_lines}
+use Rattle.account_file.specs.Lines.{after_lines, whole_lines}
 use Rattle.account_file.specs.Order.{HaveEnded, place_after_one}
 use Rattle.account_file.specs.Spelling.{IsWritable, record_line}
 use Rattle.account_file.specs.TextAccounts.{HasForm, IsTextAccount}
 use Rattle.account_file.proofs.AccountLemmas.{after_records, have_forms, lines_of_records, texts_of}
+use Rattle.account_file.proofs.LineLemmas.{text_of}
 use Rattle.account_file.proofs.OrderLemmas.{none_stays}
 use Rattle.account_file.proofs.StepLemmas.{text_form}
 
@@ -68,18 +67,6 @@ binary_account records fit ended =
     })
 
 -- a text is known by its lines, where nothing stands after them
-
-last_apart : (pieces : List (List ℕ)) → 0 < length pieces → take (length pieces - 1) pieces ++ get_or pieces (length pieces - 1) [] ∷ [] ≡ pieces
-last_apart [] some = absurd (omega (arith, some))
-last_apart (piece ∷ []) some = refl
-last_apart (piece ∷ next ∷ pieces) some =
-    let long : suc (suc (length pieces)) - 1 ≡ suc (length pieces) = omega arith in
-    let short : suc (length pieces) - 1 ≡ length pieces = omega arith in
-    ap (λ n. take n (piece ∷ next ∷ pieces) ++ get_or (piece ∷ next ∷ pieces) n [] ∷ []) long
-    ∙ ap (λ l. piece ∷ l) (ap (λ n. take n (next ∷ pieces) ++ get_or (next ∷ pieces) n [] ∷ []) (sym short) ∙ last_apart (next ∷ pieces) (omega arith))
-
-text_of : (bytes : List ℕ) → bytes ≡ join_with_byte 10 (whole_lines bytes ++ after_lines bytes ∷ [])
-text_of bytes = sym (join_with_byte-slice_split 10 bytes) ∙ ap (join_with_byte 10) (sym (last_apart (pieces_of bytes) (omega (arith, length-slice_split is_line_feed bytes))))
 
 same_line : (one other : List ℕ) → one ++ 10 ∷ [] ≡ other ++ 10 ∷ [] → one ≡ other
 same_line one other e = append_cancel_right one other (10 ∷ []) e

@@ -1,5 +1,5 @@
 -- Lines of one record more.
-use Rattle.std.proofs.Common.{◌≡◌, ℕ, Bool, true, false, not, cond, List, [], ◌∷◌, ◌++◌, All, Result, Ok, Err, OnOk, refl, sym, ap, subst, ◌∙◌, append-nil, append_assoc}
+use Rattle.std.proofs.Common.{◌≡◌, ℕ, Bool, false, not, cond, List, [], ◌∷◌, ◌++◌, All, Result, Ok, Err, OnOk, refl, sym, ap, subst, ◌∙◌, append-nil, append_assoc}
 use Rattle.std.specs.List.{flat_map}
 use Rattle.std.proofs.lemmas.List.Elements.{All-append, All-cons, All-nil, filter-append}
 use Rattle.std.proofs.lemmas.Grind.{flat_map-append}
@@ -13,16 +13,7 @@ use Rattle.account_convert.specs.Writing.{LeadToText}
 without_more : (before : List Record) (entry : Record) (b : Bool) → is_drop entry ≡ b → without_drops (before ++ entry ∷ []) ≡ without_drops before ++ cond (not b) (entry ∷ []) []
 without_more before entry b is = filter-append (λ e. not (is_drop e)) before (entry ∷ []) ∙ ap (λ c. without_drops before ++ cond (not c) (entry ∷ []) []) is
 
--- a drop has none
-pub text_passed : (first old new : TextWriter) (before : List Record) (entry : Record) → LeadToText first before old → is_drop entry ≡ true → new.bytes.items ≡ old.bytes.items → LeadToText first (before ++ entry ∷ []) new
-text_passed first old new before entry led is same =
-    let more : without_drops (before ++ entry ∷ []) ≡ without_drops before = without_more before entry true is ∙ append-nil (without_drops before) in
-    record {
-      bytes = same ∙ (led.bytes ∙ ap (λ l. first.bytes.items ++ flat_map record_line l) (sym more));
-      writable = subst (All IsWritable) (sym more) led.writable;
-    }
-
--- any other record has one
+-- a record that isn't a drop has a line
 pub text_more : (first old new : TextWriter) (before : List Record) (entry : Record) → LeadToText first before old → is_drop entry ≡ false
     → new.bytes.items ≡ old.bytes.items ++ record_line entry → IsWritable entry → LeadToText first (before ++ entry ∷ []) new
 text_more first old new before entry led is wrote writable =
@@ -39,9 +30,6 @@ text_more first old new before entry led is wrote writable =
           ∙ ap (flat_map record_line) (sym more)))));
       writable = subst (All IsWritable) (sym more) (All-append IsWritable (without_drops before) (entry ∷ []) led.writable (All-cons IsWritable entry [] writable (All-nil IsWritable)));
     }
-
-pub text_first : (writer : TextWriter) → LeadToText writer [] writer
-text_first writer = record { bytes = sym (append-nil writer.bytes.items); writable = All-nil IsWritable }
 
 pub undropped : (entry : Record) → ((fact : ℕ) → entry ≡ record_of.DropFact fact → ⊥) → ((ban : ℕ) → entry ≡ record_of.DropBan ban → ⊥) → is_drop entry ≡ false
 undropped (record_of.DropFact fact) no_fact no_ban = absurd (no_fact fact refl)

@@ -164,6 +164,3 @@ pub stop_passed : (left new : List ℕ) (call : Result Entry EntryStop) (answer 
 stop_passed left new call (Ok found) why was from reads = absurd from
 stop_passed left new call (Err e) why was from reads =
     subst (λ stop. EntryFound left (Err stop)) (sym from) (not_found left new why (subst (λ r. ReadsEntry left r new) was reads))
-
-pub fewer_left : (left new : List ℕ) (entry : Entry) → BeginsWith entry_bytes EntryFits left entry new → length new ≤ length left
-fewer_left left new entry begins = omega (arith, ap length begins.text_is, length-append (entry_bytes entry) new)

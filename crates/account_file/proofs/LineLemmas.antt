@@ -1,9 +1,9 @@
--- The whole lines of a text: from its first line, and as it goes on.
+-- The whole lines of a text: from its first line, as it goes on, and with what stands after them.
 use Rattle.std.proofs.Common.{◌≡◌, ℕ, suc, ◌-◌, ◌<◌, ◌≤◌, Bool, true, false, cond, List, [], ◌∷◌, ◌++◌, length, get_or, take, refl, sym, ap, ◌∙◌, arith, append-nil, length-append, length-take, get_or-take}
 use Rattle.std.proofs.Math.Seq.{take-append-add}
-use Rattle.std.specs.List.{onto_first, before_first, after_first, position_or_len}
+use Rattle.std.specs.List.{join_with_byte, onto_first, before_first, after_first, position_or_len}
 use Rattle.std.proofs.lemmas.Bool.Decides.{nat_tests}
-use Rattle.std.proofs.lemmas.List.Splits.{slice_split_at, slice_split_none, length-slice_split}
+use Rattle.std.proofs.lemmas.List.Splits.{join_with_byte-slice_split, slice_split_at, slice_split_none, length-slice_split}
 use Rattle.std.proofs.lemmas.List.Sums.{split_at_first, passes_at_first, fails_before_first}
 use Rattle.text_core.specs.Bytes.{is_line_feed}
 use Rattle.text_core.specs.Lines.{IsLine}
@@ -120,3 +120,17 @@ lines_stay bytes piece =
     let few = ap all on.pieces_are ∙ front_taken on.front on.last [] ∙ append-nil on.front in
     let many = ap all on.more_are ∙ front_taken on.front on.next on.others in
     (take (length on.others) (on.next ∷ on.others), many ∙ ap (λ l. l ++ take (length on.others) (on.next ∷ on.others)) (sym few))
+
+-- a text by its whole lines and what stands after them
+
+last_apart : (pieces : List (List ℕ)) → 0 < length pieces → take (length pieces - 1) pieces ++ get_or pieces (length pieces - 1) [] ∷ [] ≡ pieces
+last_apart [] some = absurd (omega (arith, some))
+last_apart (piece ∷ []) some = refl
+last_apart (piece ∷ next ∷ pieces) some =
+    let long : suc (suc (length pieces)) - 1 ≡ suc (length pieces) = omega arith in
+    let short : suc (length pieces) - 1 ≡ length pieces = omega arith in
+    ap (λ n. take n (piece ∷ next ∷ pieces) ++ get_or (piece ∷ next ∷ pieces) n [] ∷ []) long
+    ∙ ap (λ l. piece ∷ l) (ap (λ n. take n (next ∷ pieces) ++ get_or (next ∷ pieces) n [] ∷ []) (sym short) ∙ last_apart (next ∷ pieces) (omega arith))
+
+pub text_of : (bytes : List ℕ) → bytes ≡ join_with_byte 10 (whole_lines bytes ++ after_lines bytes ∷ [])
+text_of bytes = sym (join_with_byte-slice_split 10 bytes) ∙ ap (join_with_byte 10) (sym (last_apart (pieces_of bytes) (omega (arith, length-slice_split is_line_feed bytes))))

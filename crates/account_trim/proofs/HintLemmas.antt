@@ -1,45 +1,19 @@
 -- A line of a log is derived under its new numbers, where the lines in its hints are kept.
-use Rattle.std.proofs.Common.{◌≡◌, ◌⊎◌, ℕ, ◌+◌, ◌-◌, ◌<◌, ◌≤◌, cond, Bool, true, List, [], ◌∷◌, ◌++◌, length, map, All, None, Some, slice_index_or, inl, inr, refl, sym, ◌∙◌, ap, subst, arith}
-use Rattle.std.proofs.lemmas.Bool.{cases_lt, le-ltb, lt-ltb}
+use Rattle.std.proofs.Common.{◌≡◌, ℕ, ◌+◌, ◌-◌, ◌<◌, ◌≤◌, Bool, true, List, [], ◌∷◌, ◌++◌, length, map, All, None, Some, slice_index_or, inl, inr, refl, sym, ◌∙◌, ap, subst, arith}
+use Rattle.std.proofs.lemmas.Bool.{cases_lt}
 use Rattle.std.proofs.lemmas.List.{get_or_append_left, get_or-append_right, length-append}
 use Rattle.std.proofs.lemmas.List.Elements.{All-cons, All-head, All-nil, All-tail}
 use Rattle.circuits.specs.Literals.{bit}
 use Rattle.cnf_core.specs.declared.literal.SatLit.{SatLit}
 use Rattle.cnf_core.specs.declared.log.LogLine.{LogLine}
-use Rattle.cnf_core.specs.declared.effect.Effect.{Effect}
-use Rattle.cnf_core.specs.declared.effect.Effect.TheVariants.{Conflict, Makes, Neither}
 use Rattle.cnf_core.specs.declared.fault.LineFault.TheVariants as fault
 use Rattle.cnf_core.specs.Clauses.{Formula, clause_at, opposite}
-use Rattle.cnf_core.specs.Derivations.{effect_of, fault_after, hint_fault, is_empty, line_fault}
+use Rattle.cnf_core.specs.Derivations.{effect_of, hint_fault, is_empty, line_fault}
 use Rattle.cnf_core.proofs.LineLemmas.{line_from, line_says}
+use Rattle.cnf_core.proofs.HintLemmas.{hint_says, step_conflict, step_makes}
 use Rattle.refusal_core.specs.Trims.{kept, number_of}
 use Rattle.refusal_core.proofs.KeptLemmas.{kept_at, kept_below}
 use Rattle.account_trim.proofs.KeptLemmas.{none_kept}
-
--- what a hint without a fault says: its clause is there, and is a conflict, and no hint follows, or it makes a literal
-hint_says : (clauses : List (List SatLit)) (made : List SatLit) (hint : ℕ) (hints : List ℕ) → hint_fault clauses made (hint ∷ hints) ≡ None
-    → (hint < length clauses) × (((effect_of made (clause_at clauses hint) ≡ Conflict) × (hints ≡ [])) ⊎ ((m : SatLit) × (effect_of made (clause_at clauses hint) ≡ Makes m) × (hint_fault clauses (made ++ m ∷ []) hints ≡ None)))
-hint_says clauses made hint hints e =
-    elim (cases_lt hint (length clauses)) [
-      | inr late ↦ absurd (let x : Some fault.UnknownHint ≡ None = sym (ap (λ b. cond b (fault_after (effect_of made (clause_at clauses hint)) hints (λ m. hint_fault clauses (made ++ m ∷ []) hints)) (Some fault.UnknownHint)) (le-ltb hint (length clauses) late)) ∙ e in cc)
-      | inl low ↦ (low, by_effect (effect_of made (clause_at clauses hint)) hints (sym (ap (λ b. cond b (fault_after (effect_of made (clause_at clauses hint)) hints (λ m. hint_fault clauses (made ++ m ∷ []) hints)) (Some fault.UnknownHint)) (lt-ltb hint (length clauses) low)) ∙ e))
-    ]
-  where
-    by_effect : (effect : Effect) (left : List ℕ) → fault_after effect left (λ m. hint_fault clauses (made ++ m ∷ []) hints) ≡ None → ((effect ≡ Conflict) × (left ≡ [])) ⊎ ((m : SatLit) × (effect ≡ Makes m) × (hint_fault clauses (made ++ m ∷ []) hints ≡ None))
-    by_effect Conflict [] goes = inl (refl, refl)
-    by_effect Conflict (x ∷ left) goes = absurd (let y : Some fault.AfterConflict ≡ None = goes in cc)
-    by_effect (Makes m) left goes = inr (m, refl, goes)
-    by_effect Neither left goes = absurd (let y : Some fault.NotUnit ≡ None = goes in cc)
-
-makes_one : (clauses : List (List SatLit)) (made : List SatLit) (hint : ℕ) (hints : List ℕ) (m : SatLit) → hint < length clauses → effect_of made (clause_at clauses hint) ≡ Makes m → hint_fault clauses (made ++ m ∷ []) hints ≡ None → hint_fault clauses made (hint ∷ hints) ≡ None
-makes_one clauses made hint hints m there makes after =
-    ap (λ t. cond t (fault_after (effect_of made (clause_at clauses hint)) hints (λ l. hint_fault clauses (made ++ l ∷ []) hints)) (Some fault.UnknownHint)) (lt-ltb hint (length clauses) there)
-    ∙ (ap (λ e. fault_after e hints (λ l. hint_fault clauses (made ++ l ∷ []) hints)) makes ∙ after)
-
-ends_all : (clauses : List (List SatLit)) (made : List SatLit) (hint : ℕ) → hint < length clauses → effect_of made (clause_at clauses hint) ≡ Conflict → hint_fault clauses made (hint ∷ []) ≡ None
-ends_all clauses made hint there conflict =
-    ap (λ t. cond t (fault_after (effect_of made (clause_at clauses hint)) [] (λ l. hint_fault clauses (made ++ l ∷ []) [])) (Some fault.UnknownHint)) (lt-ltb hint (length clauses) there)
-    ∙ ap (λ e. fault_after e [] (λ l. hint_fault clauses (made ++ l ∷ []) [])) conflict
 
 -- a clause that is there stands among others under its new number
 abbrev pub StandsAt : List (List SatLit) → List (List SatLit) → (ℕ → ℕ) → ℕ → Type 0
@@ -53,8 +27,8 @@ hints_kept clauses all f made (hint ∷ hints) each e =
     let there = All-head (StandsAt clauses all f) hint hints each says.0 in
     let effect = ap (effect_of made) there.1 in
     elim says.1 [
-      | inl (conflict, none) ↦ subst (λ left. hint_fault all made (f hint ∷ map f left) ≡ None) (sym none) (ends_all all made (f hint) there.0 (effect ∙ conflict))
-      | inr (m, makes, goes) ↦ makes_one all made (f hint) (map f hints) m there.0 (effect ∙ makes) (hints_kept clauses all f (made ++ m ∷ []) hints (All-tail (StandsAt clauses all f) hint hints each) goes)
+      | inl (conflict, none) ↦ subst (λ left. hint_fault all made (f hint ∷ map f left) ≡ None) (sym none) (step_conflict all made (f hint) there.0 (effect ∙ conflict))
+      | inr (m, makes, goes) ↦ step_makes all made (f hint) (map f hints) m there.0 (effect ∙ makes) (hints_kept clauses all f (made ++ m ∷ []) hints (All-tail (StandsAt clauses all f) hint hints each) goes)
     ]
 
 -- all hints without a fault are there

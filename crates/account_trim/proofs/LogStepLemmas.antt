@@ -1,5 +1,6 @@
 -- One line more of an open log.
 use Rattle.std.proofs.Common.{◌≡◌, ◌≢◌, ◌&&◌, ℕ, ◌+◌, ◌-◌, ◌<◌, ◌≤◌, Bool, true, false, List, [], ◌∷◌, ◌++◌, length, map, All, Option, None, Some, is_none, slice_index_or, append-nil, inl, inr, refl, sym, ap, subst, ◌∙◌, arith}
+use Rattle.std.proofs.Math.Bool.{and-false}
 use Rattle.std.specs.Prelude.{option_to_list}
 use Rattle.std.specs.List.{flat_map}
 use Rattle.std.proofs.lemmas.Bool.{cases_lt, false≢true}
@@ -112,15 +113,11 @@ module _ (graphs : Graphs) (links : List Links) (marks : List Bool) (lower : Low
   facts_on : AreNumbered marks (k + 1) spots.facts own.facts given.facts own_given.facts
   facts_on = later_numbered marks k spots.facts own.facts given.facts own_given.facts facts
 
-  never : (b : Bool) → (b && false) ≡ false
-  never true = refl
-  never false = refl
-
   -- no line of the log of a fact is a root
   none_here : (clause : List SatLit) → root_at links k ≡ (is_empty clause && is_none spots.owner) → (j : ℕ) → o ≤ j → j < k + 1 → root_at links j ≡ false
   none_here clause here j from to = elim (cases_lt j k) [
     | inl earlier ↦ no_roots j from earlier
-    | inr late ↦ let same : j ≡ k = omega (arith, to, late) in ap (root_at links) same ∙ (here ∙ (ap (λ (x : Option ℕ). is_empty clause && is_none x) owner ∙ never (is_empty clause)))
+    | inr late ↦ let same : j ≡ k = omega (arith, to, late) in ap (root_at links) same ∙ (here ∙ (ap (λ (x : Option ℕ). is_empty clause && is_none x) owner ∙ and-false (is_empty clause)))
   ]
 
   module _ (clause : List SatLit) (hints : List ℕ) (fine : HasFault old_now (entry_with clause hints) None) (each : AreMarked marks (names spots k (entry_with clause hints))) where

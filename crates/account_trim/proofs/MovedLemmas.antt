@@ -5,8 +5,7 @@ use Rattle.std.specs.List.{flat_map}
 use Rattle.std.specs.Option.{option_map}
 use Rattle.std.proofs.lemmas.Bool.{cases_lt, le-ltb, lt-ltb}
 use Rattle.std.proofs.lemmas.List.{get_or_default, map-append}
-use Rattle.std.proofs.lemmas.List.Elements.{All-append, All-cons, All-head, All-nil, All-tail, Contains-append_right}
-use Rattle.std.specs.Prelude.{Contains}
+use Rattle.std.proofs.lemmas.List.Elements.{All-append, All-cons, All-head, All-nil, All-tail}
 use Rattle.circuits.specs.Literals.{bit}
 use Rattle.circuits.proofs.Lists.{All-back, All-front}
 use Rattle.net_core.specs.Sides.{Graphs}
@@ -18,6 +17,7 @@ use Rattle.refusal_core.specs.Names.{AreMarked, bans_named, facts_named}
 use Rattle.refusal_core.specs.Numbered.{step_by}
 use Rattle.refusal_core.specs.Trims.{number_of}
 use Rattle.refusal_core.proofs.KeptLemmas.{number_of-later, number_of-more, number_of-within}
+use Rattle.refusal_core.proofs.ValidLemmas.{all_referred}
 use Rattle.account_trim.specs.declared.links.Links.{Links}
 use Rattle.account_trim.specs.declared.places.Places.{Places}
 use Rattle.account_trim.specs.Links.{earlier, hinted, listed}
@@ -100,16 +100,6 @@ bans_moved f g (Tally kind have lack) = refl
 bans_moved f g (Cover kind from to refs) = references_moved g refs
 
 -- ---- what a step names was given
-
-all_referred : (references : List (Option ℕ)) (n : ℕ) → ((b : ℕ) → Contains references (Some b) → b < n) → All (λ b. b < n) (flat_map option_to_list references)
-all_referred [] n each = All-nil (λ b. b < n)
-all_referred (r ∷ references) n each =
-    All-append (λ b. b < n) (option_to_list r) (flat_map option_to_list references) (first r (λ b is. each b (0, omega arith, is)))
-    (all_referred references n (λ b in_rest. each b (Contains-append_right (r ∷ []) references (Some b) in_rest)))
-  where
-    first : (r : Option ℕ) → ((b : ℕ) → r ≡ Some b → b < n) → All (λ b. b < n) (option_to_list r)
-    first None it = All-nil (λ b. b < n)
-    first (Some b) it = All-cons (λ c. c < n) b [] (it b refl) (All-nil (λ c. c < n))
 
 pub facts_given : (graphs : Graphs) (given : Given) (step : Step) → AreNamesKnown graphs given step → All (λ f. f < length given.facts) (facts_named step)
 facts_given graphs given (Vector output values) known = All-nil (λ f. f < length given.facts)

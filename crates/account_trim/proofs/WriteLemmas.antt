@@ -1,8 +1,8 @@
 -- The records that are marked are written one after another.
-use Rattle.std.proofs.Common.{◌≡◌, ℕ, suc, ◌+◌, ◌<◌, ◌≤◌, Bool, true, false, cond, List, [], ◌∷◌, ◌++◌, length, drop, All, slice_index_or, append-nil, append_assoc, refl, sym, ap, subst, ◌∙◌, arith}
+use Rattle.std.proofs.Common.{◌≡◌, ℕ, suc, ◌+◌, ◌<◌, ◌≤◌, Bool, true, false, cond, List, [], ◌∷◌, ◌++◌, length, drop, All, slice_index_or, append_assoc, refl, sym, ap, subst, ◌∙◌, arith}
 use Rattle.std.specs.List.{flat_map}
-use Rattle.std.proofs.lemmas.List.{drop-drop, drop_all, drop_more}
-use Rattle.std.proofs.lemmas.List.Elements.{All-cons, All-nil}
+use Rattle.std.proofs.lemmas.List.{drop-drop, drop_more}
+use Rattle.std.proofs.lemmas.List.Elements.{All-cons}
 use Rattle.account_file.specs.declared.record.Record.{Record}
 use Rattle.account_file.specs.Spelling.{HasLine, IsWritable, record_line}
 use Rattle.circuits.specs.Literals.{bit}
@@ -23,16 +23,6 @@ pub record IsWriting (lower : Lower) (marks : List Bool) (links : List Links) (r
   pub writable : All IsWritable (left_from lower marks links records place) → All IsWritable (left_by lower marks links records)
   pub count_is : count + length (left_from lower marks links records place) ≡ length (left_by lower marks links records)
   pub few : count ≤ place
-
-pub writing_begun : (lower : Lower) (marks : List Bool) (links : List Links) (records : List Record) (start : List ℕ) → IsWriting lower marks links records start 0 records start 0
-writing_begun lower marks links records start = record {
-  as_many = refl;
-  rest = refl;
-  text = refl;
-  writable = λ all. all;
-  count_is = omega arith;
-  few = omega arith;
-}
 
 -- those from a place on are that of the place, if it is marked, and those after it
 by_mark : (lower : Lower) (mark : Bool) (marks : List Bool) (link : Links) (links : List Links) (entry : Record) (records : List Record) → left_by lower (mark ∷ marks) (link ∷ links) (entry ∷ records) ≡ cond mark (lowered_record lower link entry ∷ []) [] ++ left_by lower marks links records
@@ -131,24 +121,6 @@ pub record IsWritten (lower : Lower) (marks : List Bool) (links : List Links) (r
   pub text : out ≡ start ++ flat_map record_line (left_by lower marks links records)
   pub writable : All IsWritable (left_by lower marks links records)
   pub count_is : count ≡ length (left_by lower marks links records)
-
-left_none : (lower : Lower) (marks : List Bool) (links : List Links) → left_by lower marks links [] ≡ []
-left_none lower [] links = refl
-left_none lower (mark ∷ marks) [] = refl
-left_none lower (mark ∷ marks) (link ∷ links) = refl
-
-pub all_written : (lower : Lower) (marks : List Bool) (links : List Links) (records : List Record) (start : List ℕ) (i : ℕ) (now : List Record) (out : List ℕ) (count : ℕ)
-    → length records ≤ i
-    → IsWriting lower marks links records start i now out count
-    → IsWritten lower marks links records start out count
-all_written lower marks links records start i now out count whole was = record {
-  text = sym (append-nil out) ∙ (ap (λ l. out ++ flat_map record_line l) (sym none) ∙ was.text);
-  writable = was.writable (subst (All IsWritable) (sym none) (All-nil IsWritable));
-  count_is = omega (arith, was.count_is, ap length none);
-}
-  where
-    none : left_from lower marks links records i ≡ []
-    none = ap (left_by lower (drop i marks) (drop i links)) (drop_all i records whole) ∙ left_none lower (drop i marks) (drop i links)
 
 -- there are as many as are marked
 pub left_counted : (lower : Lower) (marks : List Bool) (links : List Links) (records : List Record) → length marks ≡ length links → length links ≡ length records → length (left_by lower marks links records) ≡ marked marks

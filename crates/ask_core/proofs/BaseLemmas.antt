@@ -16,7 +16,7 @@ use Rattle.cnf_core.specs.declared.clause.Clause3.{Clause3}
 use Rattle.cnf_core.specs.declared.log.LogLine.{LogLine}
 use Rattle.cnf_core.specs.Clauses.{Formula, clause_at, literals_of, variable_of, AreKnown}
 use Rattle.cnf_core.specs.Derivations.{clauses_of}
-use Rattle.ask_core.specs.Renamings.{AreListed, AreMarks, AreNames, AreOver, ArePlaces, AreOverPlaces, IsNamed, IsOver, IsRenaming, numbers_of, renamed}
+use Rattle.ask_core.specs.Renamings.{AreListed, AreMarks, AreNames, AreOver, AreOverPlaces, IsNamed, IsOver, IsRenaming, numbers_of, renamed}
 use Rattle.bit_list.proofs.MarkLemmas.{marked_where}
 use Rattle.learn_solver.proofs.AnalysisLemmas.{unmarked_bit}
 use Rattle.circuits.proofs.Lists.{not_among}
@@ -64,13 +64,6 @@ lemma_over_more n front lemmas i line listed new c is within line_is c_is own ne
     let last = ap (λ x. clauses_of (take i lemmas) ++ x ∷ []) (c_is ∙ ap (λ (l : LogLine). l.clause) line_is) ∙ sym (ap clauses_of (take_more lemmas i line within) ∙ map-append (λ (l : LogLine). l.clause) (take i lemmas) (slice_index_or lemmas i line ∷ [])) in
     let whole : (front ++ clauses_of (take i lemmas)) ++ literals_of c ∷ [] ≡ front ++ clauses_of (take (i + 1) lemmas) = append_assoc front (clauses_of (take i lemmas)) (literals_of c ∷ []) ∙ ap (λ (cs : List (List SatLit)). front ++ cs) last in
     subst (AreOver n (front ++ clauses_of (take (i + 1) lemmas))) (sym new_is) (subst (λ cs. AreOver n cs (listed ++ c ∷ [])) whole (over_more n (front ++ clauses_of (take i lemmas)) listed c is own))
-
--- the place of a name is that of it
-pub place_at : (variables : ℕ) (names places : List ℕ) (v : ℕ) → ArePlaces variables names places → Contains names v → (slice_index_or places v 0 < length names) × (slice_index_or names (slice_index_or places v 0) 0 ≡ v)
-place_at variables names places v are (k, within, is) =
-    let at_k : slice_index_or names k 0 ≡ v = get_or_default names k 0 v within ∙ is in
-    let place : slice_index_or places v 0 ≡ k = ap (λ w. slice_index_or places w 0) (sym at_k) ∙ are.each k within in
-    (omega (arith, place, within), ap (λ j. slice_index_or names j 0) place ∙ at_k)
 
 -- one clause more over the places
 pub over_places_more : (names : List ℕ) (clauses : List Clause3) (i : ℕ) (dense new : List Clause3) (t : Clause3) (clause : List SatLit) (d : Clause3) → AreOverPlaces names clauses dense i → i < length clauses → clause ≡ literals_of (slice_index_or clauses i d) → 1 ≤ length clause → map (renamed names) (literals_of t) ≡ clause → AreKnown (length names) (literals_of t) → 1 ≤ t.len → t.len ≤ 3 → new ≡ dense ++ t ∷ [] → AreOverPlaces names clauses new (i + 1)

@@ -20,7 +20,7 @@ use Rattle.learn_solver.specs.declared.verdict.Finding.TheVariants.{Model, Refut
 use Rattle.learn_solver.proofs.AdvanceLemmas.{derived_after}
 use Rattle.learn_solver.proofs.SolverLemmas.{line_known, line_says, lines_known, steps_there}
 use Rattle.ask_core.specs.Renamings.{AreShort, IsRenaming, IsSpread, renamed, translated}
-use Rattle.ask_core.specs.Solved.{AreCharged, AreLearned, AreRefused, IsDenseVerdict, IsFound, IsSettled, IsTranslated, IsUnsettled, start_of, with_lines_of}
+use Rattle.ask_core.specs.Solved.{AreCharged, AreLearned, IsDenseVerdict, IsFound, IsSettled, IsTranslated, IsUnsettled, start_of, with_lines_of}
 use Rattle.ask_core.proofs.RenameLemmas.{has_all_renamed, met_renamed}
 use Rattle.cnf_core.proofs.LiteralLemmas.{variable_of-literal}
 use Rattle.ask_core.proofs.LineLemmas.{clauses_after, empties_renamed, is_negated-literal, line_translated, names_rename}
@@ -204,8 +204,3 @@ dense_asking {O} small names numbers full lemmas before after (Ok answer) opened
   not_spent = ap (λ (x : Charging O). x.spent) s.charged.charged ∙ fresh;
 }
 dense_asking {O} small names numbers full lemmas before after (Err stop) opened fresh s = tt
-
--- a refusal cuts a search off
-pub cut_off : {O : Type 0} (small : Formula) (names numbers : List ℕ) (full : Formula) (lemmas lines : List LogLine) (before after : Charging O) (stop : Stop) → AreLearned small lines → AreRefused before (map (translated names numbers (length full.clauses + length lemmas)) lines) after stop → IsUnsettled small names numbers full lemmas before after stop
-cut_off {O} small names numbers full lemmas lines before after Memory learned refused = tt
-cut_off {O} small names numbers full lemmas lines before after (Spent n) learned refused = record { lines = lines; learned = learned; overdrawn = refused }

@@ -1,5 +1,5 @@
 -- What tests say.
-use Rattle.std.proofs.Common.{◌≡◌, ℕ, ◌+◌, ◌<◌, ◌&&◌, Bool, true, false, List, ◌∷◌, length, get_or, slice_index_or, drop, All, ap, subst, ◌↔◌, inl, inr, refl, sym, ◌∙◌, arith, add-one, drop-cons}
+use Rattle.std.proofs.Common.{◌≡◌, ℕ, ◌+◌, ◌<◌, ◌&&◌, Bool, true, false, List, ◌∷◌, length, get_or, slice_index_or, drop, ap, subst, ◌↔◌, inl, inr, refl, sym, ◌∙◌, arith, add-one, drop-cons}
 use Rattle.std.specs.Bool.{IsTrue}
 use Rattle.std.proofs.lemmas.Bool.{cases_lt}
 use Rattle.std.proofs.lemmas.List.{get_or_default}
@@ -37,6 +37,3 @@ all_more {X} P xs k e within so_far here j d below =
           let last : k ≡ j = omega (arith, below, not_before) in
           subst P (get_or_default xs k e d within ∙ ap (λ n. get_or xs n d) last) here
     ]
-
-pub not_all : {X : Type 0} (P : X → Type 0) (xs : List X) (k : ℕ) (e : X) → k < length xs → All P xs → P (get_or xs k e)
-not_all {X} P xs k e within all = all k e within

@@ -77,12 +77,6 @@ list_one {X} bytes Fits code xs ys after other fits fit same =
 pub list_code : {X : Type 0} (bytes : X → List ℕ) (Fits : X → Type 0) → IsPrefixCode bytes Fits → IsPrefixCode (list_bytes bytes) (ListFits Fits)
 list_code {X} bytes Fits code = record { one = list_one bytes Fits code }
 
--- no value begins where its first part doesn't
-pub first_none : {X A : Type 0} (bytes : X → List ℕ) (Fits : X → Type 0) (bytes_a : A → List ℕ) (FitsA : A → Type 0) (part : X → A) (rest : X → List ℕ) (text : List ℕ) → ((x : X) → bytes x ≡ bytes_a (part x) ++ rest x) → ((x : X) → Fits x → FitsA (part x)) → BeginsNone bytes_a FitsA text → BeginsNone bytes Fits text
-first_none {X} {A} bytes Fits bytes_a FitsA part rest text is fits h = record {
-  none = λ x left begins. h.none (part x) (rest x ++ left) (record { fits = fits x begins.fits; text_is = begins.text_is ∙ (ap (λ b. b ++ left) (is x) ∙ append_assoc (bytes_a (part x)) (rest x) left) });
-}
-
 -- no value begins where what follows its first part doesn't
 pub next_none : {X A : Type 0} (bytes : X → List ℕ) (Fits : X → Type 0) (bytes_a : A → List ℕ) (FitsA : A → Type 0) (part : X → A) (rest : X → List ℕ) (text : List ℕ) (a : A) (left : List ℕ) → ((x : X) → bytes x ≡ bytes_a (part x) ++ rest x) → ((x : X) → Fits x → FitsA (part x)) → IsPrefixCode bytes_a FitsA → BeginsWith bytes_a FitsA text a left → BeginsNone rest (λ x. Fits x × (part x ≡ a)) left → BeginsNone bytes Fits text
 next_none {X} {A} bytes Fits bytes_a FitsA part rest text a left is fits code first h = record {

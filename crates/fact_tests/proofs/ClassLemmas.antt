@@ -143,10 +143,6 @@ classes_push n f entry classes right are strangers =
           (omega (arith, first_before n f entry.0 class is), never_by n f entry.0 class.first class.others is.joined is.before (strangers k d h)));
     }
 
--- a class with an input more
-grown : FoundClass → Class
-grown found = record { first = found.first; others = Some found.others }
-
 class_grown : (n : ℕ) (f : List Bool → Bool) (entry : ℕ × Unate) (old : Class) (found : FoundClass)
     → IsEntry n f entry
     → IsClass n f entry.0 old

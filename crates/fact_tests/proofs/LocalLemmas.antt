@@ -1,7 +1,7 @@
 -- What an exchange of two inputs changes near them, gate by gate.
 use Rattle.std.proofs.Common.{◌≡◌, ◌≢◌, ◌⊎◌, ℕ, zero, suc, ◌+◌, ◌-◌, ◌/◌, ◌%◌, ◌^◌, ◌==◌, ◌<◌, ◌≤◌, ◌&&◌, Bool, true, false, not, List, [], ◌∷◌, ◌++◌}
 use Rattle.std.proofs.Common.{length, map, All, Some, bit_and, get_or, max, min, refl, sym, subst, ap, ◌∙◌, inl, inr, arith}
-use Rattle.std.proofs.lemmas.Bool.{cases_eq, cases_lt}
+use Rattle.std.proofs.lemmas.Bool.{cases_lt}
 use Rattle.std.proofs.lemmas.List.{get_or_append_left, get_or_default, get_or_push, get_or-map, get_or-set_other, get_or-set_same, length-map, length-set}
 use Rattle.std.proofs.lemmas.List.{length_push}
 use Rattle.std.proofs.lemmas.List.Elements.{All-push}
@@ -24,7 +24,7 @@ use Rattle.fact_tests.specs.declared.local_exchange.Near.{Near}
 use Rattle.fact_tests.specs.declared.local_exchange.Went.{Went}
 use Rattle.fact_tests.specs.declared.local_exchange.Went.TheVariants.{Same, Differs, TooFar}
 use Rattle.fact_tests.specs.LocalExchanges.{AreSpans, GoesOver, HasMore, HasSides, IsChanged, IsCovered, IsGateOf, IsLane, IsLeaf, IsListed, IsListing, IsSpan}
-use Rattle.fact_tests.specs.LocalExchanges.{IsUnchanged, IsWent, IsWhole, Spreads, Tells, Tracks, Widens, first_listed, side}
+use Rattle.fact_tests.specs.LocalExchanges.{IsUnchanged, IsWent, IsWhole, Spreads, Tells, Tracks, first_listed, side}
 use Rattle.fact_tests.specs.Outputs.{IsAlike}
 use Rattle.fact_tests.proofs.ExchangeLemmas.{at_alike}
 
@@ -464,20 +464,6 @@ spreads_end net i j inverted start place end near ordered le within spreads x le
     (spreads.tracks x len))
 
 -- the spans of a circuit, gate by gate
-
-wider : (place signal k : ℕ) (old new : List GateSpan) (d : GateSpan) → Widens place signal old new → (get_or old k d).end ≤ place + 1
-    → ((get_or new k d).start ≤ (get_or old k d).start) × ((get_or old k d).end ≤ (get_or new k d).end) × ((get_or new k d).end ≤ place + 1) × (k ≡ signal → ((get_or new k d).start ≤ place) × (place < (get_or new k d).end))
-wider place signal k old new d widens before =
-    elim (cases_eq k signal) [
-      | inl is ↦
-          let same : signal ≡ k = sym is in
-          subst (λ k. (get_or old k d).end ≤ place + 1 → ((get_or new k d).start ≤ (get_or old k d).start) × ((get_or old k d).end ≤ (get_or new k d).end) × ((get_or new k d).end ≤ place + 1) × (k ≡ signal → ((get_or new k d).start ≤ place) × (place < (get_or new k d).end))) same
-          (λ end. (widens.before d, omega (arith, end, widens.end d), omega (arith, widens.end d), λ e. (widens.start d, omega (arith, widens.end d)))) before
-      | inr apart ↦
-          let same : get_or old k d ≡ get_or new k d = sym (widens.others k d apart) in
-          subst (λ (it : GateSpan). (it.start ≤ (get_or old k d).start) × ((get_or old k d).end ≤ it.end) × (it.end ≤ place + 1) × (k ≡ signal → (it.start ≤ place) × (place < it.end))) same
-          (omega arith, omega arith, before, λ e. absurd (apart e))
-    ]
 
 pub spans_none : (net : Net) (spans : List GateSpan) → length spans ≡ signals_of net → All (λ span. span.end ≡ 0) spans → AreSpans net 0 spans
 spans_none net spans count none = record {

@@ -15,7 +15,7 @@ use Rattle.cnf_core.specs.Clauses.{Formula, clause_at, opposite}
 use Rattle.cnf_core.specs.Derivations.{IsRefutation, clauses_of, effect_of, hint_fault, line_fault}
 use Rattle.cnf_core.proofs.EffectLemmas.{conflict_from}
 use Rattle.cnf_core.proofs.LiteralLemmas.{opposite_twice, same_from}
-use Rattle.learn_solver.proofs.DeriveLemmas.{step_conflict, step_makes}
+use Rattle.cnf_core.proofs.HintLemmas.{step_conflict, step_makes}
 use Rattle.net_core.specs.Sides.{Graphs}
 use Rattle.net_core.specs.declared.graphs.Side.{Side}
 use Rattle.net_core.specs.declared.graphs.Side.TheVariants.{First, Second}

@@ -1,7 +1,7 @@
 -- For `check_limits`: the word after as many as the limit, of words that stand on lines.
-use Rattle.std.proofs.Common.{◌≡◌, ℕ, ◌+◌, ◌<◌, List, [], ◌∷◌, ◌++◌, length, get_or, take, drop, ap, sym, subst, ◌∙◌, inl, arith, take-append-drop}
+use Rattle.std.proofs.Common.{◌≡◌, ℕ, ◌+◌, ◌<◌, List, [], ◌++◌, length, get_or, take, drop, ap, sym, subst, ◌∙◌, inl, arith, take-append-drop}
 use Rattle.std.specs.List.{flat_map}
-use Rattle.std.proofs.lemmas.List.{get_or_default, get_or_append_left, get_or-append-add, length-append, take_more, at_drop_more, append-nil}
+use Rattle.std.proofs.lemmas.List.{get_or_default, get_or_append_left, get_or-append-add, length-append, at_drop_more}
 use Rattle.std.proofs.lemmas.Grind.{flat_map-append}
 use Rattle.text_core.specs.Piece.{Piece}
 use Rattle.net_core.specs.Limits.{most_ports}
@@ -19,12 +19,6 @@ use Rattle.hier_blif.specs.Limits.{HasManyPorts}
 
 abbrev at_kind : HierKind → ℕ → HierFault
 at_kind kind at = record { kind = kind; at = at }
-
--- one line more
-pub count_more : (f : ModelLine → List Piece) (lines : List ModelLine) (k : ℕ) (line : ModelLine) → k < length lines → line ≡ get_or lines k line → length (flat_map f (take (k + 1) lines)) ≡ length (flat_map f (take k lines)) + length (f line)
-count_more f lines k line below is =
-    ap (λ ls. length (flat_map f ls)) (take_more lines k line below ∙ ap (λ l. take k lines ++ l ∷ []) (sym is))
-    ∙ (ap length (flat_map-append f (take k lines) (line ∷ []) ∙ ap (λ ws. flat_map f (take k lines) ++ ws) (append-nil (f line))) ∙ length-append (flat_map f (take k lines)) (f line))
 
 -- the words after others
 later_word : (xs ys : List Piece) (n : ℕ) → word_of (xs ++ ys) (length xs + n) ≡ word_of ys n

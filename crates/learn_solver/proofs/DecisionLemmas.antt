@@ -1,12 +1,11 @@
 -- The variables of clauses, marked and listed.
-use Rattle.std.proofs.Common.{◌≡◌, ℕ, ◌+◌, ◌<◌, Bool, true, false, List, [], length, set, All, slice_index_or, inl, inr, sym, ap, subst, ◌∙◌, arith}
+use Rattle.std.proofs.Common.{◌≡◌, ℕ, ◌+◌, ◌<◌, Bool, true, false, List, [], length, set, slice_index_or, inl, inr, sym, ap, subst, ◌∙◌, arith}
 use Rattle.std.proofs.lemmas.Bool.{cases_lt}
 use Rattle.std.proofs.lemmas.List.{get_or_default, get_or-set_same, length-set}
 use Rattle.circuits.specs.Literals.{bit}
 use Rattle.cnf_core.specs.declared.literal.SatLit.{SatLit}
 use Rattle.cnf_core.specs.Clauses.{clause_at, variable_of, AreKnown}
-use Rattle.learn_solver.specs.Analyses.{AreMarked, AreMarkedPlaces, StayMarked}
-use Rattle.learn_solver.specs.Solvers.{HaveVariables}
+use Rattle.learn_solver.specs.Analyses.{AreMarked, StayMarked}
 use Rattle.learn_solver.proofs.MarkLemmas.{still}
 
 -- The variables of the first n literals of a clause are marked.
@@ -48,13 +47,4 @@ clause_marked old marked new clauses count clause marking within clause_is size 
             let same : slice_index_or clauses k d ≡ clause = ap (λ n. slice_index_or clauses n d) e ∙ (get_or_default clauses count d [] within ∙ sym clause_is) in
             subst (AreMarked new) (sym same) own
       ];
-}
-
--- the marked places are the variables of the clauses
-pub variables_are : (old marked : List Bool) (clauses : List (List SatLit)) (places : List ℕ) (variables : ℕ) → length old ≡ variables → length marked ≡ length old → All (AreKnown variables) clauses → All (AreMarked marked) clauses → AreMarkedPlaces marked (length marked) places → HaveVariables variables clauses places
-variables_are old marked clauses places variables size same known marks are = record {
-  known = λ k d within. omega (arith, are.below k d within, same, size);
-  all = λ k d within j e inside.
-      let v = variable_of (slice_index_or (slice_index_or clauses k d) j e) in
-      are.all v (omega (arith, known k d within j e inside, same, size)) (marks k d within j e inside);
 }

@@ -1,16 +1,15 @@
 -- Steps that lead to a conflict from where the marked literals that are left are true.
-use Rattle.std.proofs.Common.{◌≡◌, ◌≢◌, ℕ, ◌+◌, ◌<◌, ◌≤◌, ◌||◌, ◌⊎◌, cond, Bool, true, false, List, [], ◌∷◌, ◌++◌, length, reverse, None, Some, slice_index_or, inl, inr, refl, sym, ◌∙◌, ap, arith}
+use Rattle.std.proofs.Common.{◌≡◌, ◌≢◌, ℕ, ◌+◌, ◌<◌, ◌≤◌, ◌||◌, ◌⊎◌, Bool, true, false, List, [], ◌∷◌, ◌++◌, length, reverse, None, slice_index_or, inl, inr, refl, sym, ◌∙◌, ap, arith}
 use Rattle.std.specs.List.{list_all}
-use Rattle.std.proofs.lemmas.Bool.{cases_eq, false≢true, false_from_ne_true, both_ways, lt-ltb, or_cases, or_left, or_right}
+use Rattle.std.proofs.lemmas.Bool.{cases_eq, false≢true, false_from_ne_true, both_ways, or_cases, or_left, or_right}
 use Rattle.std.proofs.lemmas.Bool.Decides.{leb_tells}
 use Rattle.std.proofs.lemmas.List.{reverse-append}
 use Rattle.std.proofs.lemmas.List.Recursion.{and_at, and_from_places}
 use Rattle.circuits.specs.Literals.{bit}
 use Rattle.cnf_core.specs.declared.literal.SatLit.{SatLit}
 use Rattle.cnf_core.specs.declared.effect.Effect.TheVariants.{Conflict, Makes}
-use Rattle.cnf_core.specs.declared.fault.LineFault.TheVariants as fault
 use Rattle.cnf_core.specs.Clauses.{clause_at, opposite, variable_of}
-use Rattle.cnf_core.specs.Derivations.{effect_of, fault_after, hint_fault, is_false, is_same, is_true}
+use Rattle.cnf_core.specs.Derivations.{effect_of, hint_fault, is_false, is_same, is_true}
 use Rattle.trail_core.specs.declared.assigned.Assigned.{Assigned}
 use Rattle.trail_core.specs.Trails.{IsTrail, Trailing, entry_at, literals}
 use Rattle.watch_lists.specs.Propagations.{IsReason, before}
@@ -20,17 +19,7 @@ use Rattle.learn_solver.proofs.KeptLemmas.{kept_at, kept_there}
 use Rattle.learn_solver.proofs.PlaceLemmas.{before_whole, same_place, stands, true_before, true_further, variable_of-opposite}
 use Rattle.cnf_core.proofs.EffectLemmas.{true_more}
 use Rattle.cnf_core.proofs.LiteralLemmas.{no_literal}
-
--- a first step that leaves a single literal, and one that is the conflict
-pub step_makes : (clauses : List (List SatLit)) (made : List SatLit) (id : ℕ) (rest : List ℕ) (l : SatLit) → id < length clauses → effect_of made (clause_at clauses id) ≡ Makes l → hint_fault clauses (made ++ l ∷ []) rest ≡ None → hint_fault clauses made (id ∷ rest) ≡ None
-step_makes clauses made id rest l there makes after =
-    ap (λ t. cond t (fault_after (effect_of made (clause_at clauses id)) rest (λ m. hint_fault clauses (made ++ m ∷ []) rest)) (Some fault.UnknownHint)) (lt-ltb id (length clauses) there)
-    ∙ (ap (λ e. fault_after e rest (λ m. hint_fault clauses (made ++ m ∷ []) rest)) makes ∙ after)
-
-pub step_conflict : (clauses : List (List SatLit)) (made : List SatLit) (id : ℕ) → id < length clauses → effect_of made (clause_at clauses id) ≡ Conflict → hint_fault clauses made (id ∷ []) ≡ None
-step_conflict clauses made id there conflict =
-    ap (λ t. cond t (fault_after (effect_of made (clause_at clauses id)) [] (λ m. hint_fault clauses (made ++ m ∷ []) [])) (Some fault.UnknownHint)) (lt-ltb id (length clauses) there)
-    ∙ ap (λ e. fault_after e [] (λ m. hint_fault clauses (made ++ m ∷ []) [])) conflict
+use Rattle.cnf_core.proofs.HintLemmas.{step_conflict, step_makes}
 
 -- a literal that is false before a place is false wherever the marked ones are true, if its variable is marked
 false_left : (es : List Assigned) (marked : List Bool) (p q place : ℕ) (made : List SatLit) (l : SatLit) → p ≤ q → IsLeft es marked place q made → bit marked (variable_of l) ≡ true → is_false (before es p) l ≡ true → is_false made l ≡ true

@@ -1,5 +1,5 @@
 -- Lines that are added to a solver, and the numbers of its clauses.
-use Rattle.std.proofs.Common.{◌≡◌, ℕ, zero, suc, ◌+◌, ◌-◌, ◌<◌, cond, false, List, [], ◌∷◌, ◌++◌, length, map, take, drop, All, Option, None, Some, nat_lt, slice_index_or, ◌⊎◌, inl, inr, refl, sym, ◌∙◌, ap, subst, arith}
+use Rattle.std.proofs.Common.{◌≡◌, ℕ, zero, suc, ◌+◌, ◌-◌, ◌<◌, cond, false, List, [], ◌∷◌, ◌++◌, length, map, take, drop, All, Option, None, Some, nat_lt, slice_index_or, inl, inr, refl, sym, ◌∙◌, ap, subst, arith}
 use Rattle.std.specs.List.{list_all}
 use Rattle.std.proofs.lemmas.Bool.{cases_lt, le-ltb, lt-ltb, ltb-true}
 use Rattle.std.proofs.lemmas.List.{append_assoc, get_or_append_left, get_or-append_right, get_or-map, length-append, length-map, nil_from_length}
@@ -7,13 +7,11 @@ use Rattle.std.proofs.lemmas.List.Elements.{All-append, All-map, All-push}
 use Rattle.std.proofs.lemmas.List.Recursion.{and_at}
 use Rattle.cnf_core.specs.declared.literal.SatLit.{SatLit}
 use Rattle.cnf_core.specs.declared.log.LogLine.{LogLine}
-use Rattle.cnf_core.specs.declared.effect.Effect.{Effect}
-use Rattle.cnf_core.specs.declared.effect.Effect.TheVariants.{Conflict, Makes, Neither}
 use Rattle.cnf_core.specs.declared.fault.LineFault.TheVariants as fault
 use Rattle.cnf_core.specs.Clauses.{Formula, clause_at, variable_of, AreKnown}
-use Rattle.cnf_core.specs.Derivations.{AreDerived, clauses_of, effect_of, fault_after, hint_fault, is_empty, line_fault}
+use Rattle.cnf_core.specs.Derivations.{AreDerived, clauses_of, effect_of, hint_fault, is_empty, line_fault}
 pub use Rattle.cnf_core.proofs.LineLemmas.{IsLine, clauses_more, derived_more, line_from, line_says}
-use Rattle.learn_solver.proofs.DeriveLemmas.{step_conflict, step_makes}
+use Rattle.cnf_core.proofs.HintLemmas.{hint_says, step_conflict, step_makes}
 use Rattle.learn_solver.specs.Solvers.{ArePut, IsSolver, active, id_at, wanted}
 
 pub line_known : (formula : Formula) (taken : List (List SatLit)) (line : LogLine) → line_fault formula taken line ≡ None → AreKnown formula.variables line.clause
@@ -67,21 +65,6 @@ at_number formula ids lines there k within =
           let index : length formula.clauses + (k - length ids) - length formula.clauses ≡ k - length ids = omega arith in
           (omega (arith, number, within, late, size, length-append formula.clauses (clauses_of lines), length-append (wanted formula ids) (clauses_of lines)), ap (clause_at (formula.clauses ++ clauses_of lines)) number ∙ (first ∙ (ap (λ n. slice_index_or (clauses_of lines) n []) index ∙ sym second)))
     ]
-
--- What it says that steps go through: the first is a clause that is there, which is a conflict and the last, or makes a literal
--- true, with which the others go on.
-pub hint_says : (clauses : List (List SatLit)) (made : List SatLit) (s : ℕ) (steps : List ℕ) → hint_fault clauses made (s ∷ steps) ≡ None → (s < length clauses) × (((effect_of made (clause_at clauses s) ≡ Conflict) × (steps ≡ [])) ⊎ ((m : SatLit) × (effect_of made (clause_at clauses s) ≡ Makes m) × (hint_fault clauses (made ++ m ∷ []) steps ≡ None)))
-hint_says clauses made s steps e =
-    elim (cases_lt s (length clauses)) [
-      | inr late ↦ absurd (let x : Some fault.UnknownHint ≡ None = sym (ap (λ b. cond b (fault_after (effect_of made (clause_at clauses s)) steps (λ m. hint_fault clauses (made ++ m ∷ []) steps)) (Some fault.UnknownHint)) (le-ltb s (length clauses) late)) ∙ e in cc)
-      | inl low ↦ (low, by_effect (effect_of made (clause_at clauses s)) steps (sym (ap (λ b. cond b (fault_after (effect_of made (clause_at clauses s)) steps (λ m. hint_fault clauses (made ++ m ∷ []) steps)) (Some fault.UnknownHint)) (lt-ltb s (length clauses) low)) ∙ e))
-    ]
-  where
-    by_effect : (effect : Effect) (left : List ℕ) → fault_after effect left (λ m. hint_fault clauses (made ++ m ∷ []) steps) ≡ None → ((effect ≡ Conflict) × (left ≡ [])) ⊎ ((m : SatLit) × (effect ≡ Makes m) × (hint_fault clauses (made ++ m ∷ []) steps ≡ None))
-    by_effect Conflict [] goes = inl (refl, refl)
-    by_effect Conflict (x ∷ left) goes = absurd (let y : Some fault.AfterConflict ≡ None = goes in cc)
-    by_effect (Makes m) left goes = inr (m, refl, goes)
-    by_effect Neither left goes = absurd (let y : Some fault.NotUnit ≡ None = goes in cc)
 
 -- so all of them are clauses that are there
 pub steps_there : (clauses : List (List SatLit)) (made : List SatLit) (steps : List ℕ) → hint_fault clauses made steps ≡ None → (k d : ℕ) → k < length steps → slice_index_or steps k d < length clauses

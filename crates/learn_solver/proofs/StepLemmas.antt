@@ -1,11 +1,10 @@
 -- One step of a search: a line is learned from a conflict.
 use Rattle.std.proofs.Common.{◌≡◌, ℕ, ◌+◌, ◌-◌, ◌<◌, ◌≤◌, Bool, true, false, List, [], ◌∷◌, ◌++◌, length, map, take, All, Some, Result, Ok, Err, IfErr, nat_lt, slice_index_or, refl, sym, ◌∙◌, ap, subst, arith}
 use Rattle.std.specs.Result.{IsErrAnd}
-use Rattle.std.specs.List.{list_any, list_all}
-use Rattle.std.proofs.lemmas.Bool.{both_ways, false_from_ne_true, lt-ltb}
+use Rattle.std.specs.List.{list_all}
+use Rattle.std.proofs.lemmas.Bool.{lt-ltb}
 use Rattle.std.proofs.lemmas.List.{get_or_at, length-append, take_at}
 use Rattle.std.proofs.lemmas.Simd.{map-map}
-use Rattle.std.proofs.lemmas.List.Folds.{list_any_at}
 use Rattle.std.proofs.lemmas.List.Recursion.{and_from_places}
 use Rattle.cnf_core.specs.declared.literal.SatLit.{SatLit}
 use Rattle.cnf_core.specs.declared.log.LogLine.{LogLine}
@@ -20,11 +19,6 @@ use Rattle.learn_solver.specs.Solvers.{IsAdded, IsAsking, IsExtended, IsSolver, 
 use Rattle.learn_solver.specs.Searches.{IsLesson, IsSearching, last_line}
 use Rattle.learn_solver.proofs.SolverLemmas.{at_number, hints_carried, line_from}
 use Rattle.cnf_core.proofs.LiteralLemmas.{no_literal}
-
--- none of the clauses that are looked at is empty
-none_empty : (cs : List (List SatLit)) → list_any is_empty cs ≡ false → All (λ c. is_empty c ≡ false) cs
-none_empty cs e k d within =
-    false_from_ne_true (is_empty (slice_index_or cs k d)) (λ empty. both_ways (list_any is_empty cs) e (list_any_at is_empty cs k d within empty))
 
 -- what was learned is a lesson
 pub lesson_from : (s : Solving) (t : Trailing) (clauses : List (List SatLit)) (line : LogLine) (steps : List ℕ) (level : ℕ) → IsSolver s.formula s.ids s.lines clauses → IsSearching s t → IsLearnedAs clauses t line.clause steps level → line.hints ≡ map (id_at s.formula s.ids) steps → IsLesson s t line level

@@ -1,7 +1,7 @@
 -- What is kept, with one entry more and one less.
 use Rattle.std.proofs.Common.{◌≡◌, ◌≢◌, ℕ, ◌+◌, ◌-◌, ◌^◌, ◌<◌, ◌≤◌, ◌&&◌, not, true, false, take, List, [], ◌∷◌, ◌++◌, length, get_or, set, All, AllPairs, Contains, Option, Some, None, refl, sym, ap, subst, ◌∙◌, inl, inr, arith}
 use Rattle.std.proofs.lemmas.Bool.{cases_Bool, cases_eq, false≢true}
-use Rattle.std.proofs.lemmas.List.{get_or_append_left, get_or_at, get_or-set_other, get_or-set_same, length-set, length_push, take_at, take-take}
+use Rattle.std.proofs.lemmas.List.{get_or_append_left, get_or_at, get_or-set_other, get_or-set_same, length-set, length_push, take_at}
 use Rattle.std.proofs.lemmas.List.Elements.{All-push, Contains-append_left, Contains-push, Contains-push_cases}
 use Rattle.std.proofs.lemmas.List.Quantifiers.{all_pairs_push}
 use Rattle.std.proofs.lemmas.List.Sums.{count_by-le-length}
@@ -295,14 +295,3 @@ pub record IsGoingBack (was now : Domained) (count : ℕ) : Type 0 where
   pub outputs : now.outputs ≡ was.outputs
   pub enough : count ≤ length now.entries
   pub front : now.entries ≡ take (length now.entries) was.entries
-
-pub goes_back : (was now next : Domained) (count : ℕ) → IsGoingBack was now count → count < length now.entries → next.inputs ≡ now.inputs → next.outputs ≡ now.outputs → length now.entries ≡ length next.entries + 1 → next.entries ≡ take (length next.entries) now.entries → IsGoingBack was next count
-goes_back was now next count is more inputs outputs one front = record {
-  inputs = inputs ∙ is.inputs;
-  outputs = outputs ∙ is.outputs;
-  enough = omega (arith, more, one);
-  front = front ∙ (ap (take (length next.entries)) is.front ∙ take-take (length next.entries) (length now.entries) was.entries (omega (arith, one)));
-}
-
-abbrev made : ℕ → ℕ → List Entry → Domained
-made inputs outputs entries = record { inputs = inputs; outputs = outputs; entries = entries }

@@ -270,7 +270,7 @@ module _ (graphs : Graphs) (facts : List Fact) (bans : List Ban) (fact_marks ban
 
 -- references name what there is
 
-all_referred : (references : List (Option ℕ)) (n : ℕ) → ((b : ℕ) → Contains references (Some b) → b < n) → All (λ b. b < n) (flat_map option_to_list references)
+pub all_referred : (references : List (Option ℕ)) (n : ℕ) → ((b : ℕ) → Contains references (Some b) → b < n) → All (λ b. b < n) (flat_map option_to_list references)
 all_referred [] n each = All-nil (λ b. b < n)
 all_referred (r ∷ references) n each =
     All-append (λ b. b < n) (option_to_list r) (flat_map option_to_list references) (first r (λ b is. each b (0, omega arith, is)))

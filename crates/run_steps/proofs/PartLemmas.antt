@@ -1,9 +1,7 @@
 -- A first part of an account that ends in the line `end` is the whole account.
-use Rattle.std.proofs.Common.{◌≡◌, ℕ, suc, ◌+◌, ◌-◌, ◌<◌, ◌⊎◌, inl, inr, Bool, true, false, cond, eqb, List, [], ◌∷◌, ◌++◌, codes, fold, length, get_or, take, drop, Option, None, Some, refl, sym, ap, subst, ◌∙◌, arith, append-nil, length-append, take-append-drop}
+use Rattle.std.proofs.Common.{◌≡◌, ℕ, ◌+◌, ◌⊎◌, inl, inr, Bool, true, false, cond, eqb, List, [], ◌∷◌, ◌++◌, codes, fold, length, take, drop, Option, None, Some, refl, sym, ap, subst, ◌∙◌, arith, append-nil, length-append, take-append-drop}
 use Rattle.std.specs.List.{AllZip, join_with_byte}
 use Rattle.std.proofs.lemmas.List.{nil_from_length}
-use Rattle.std.proofs.lemmas.List.Splits.{join_with_byte-slice_split, length-slice_split}
-use Rattle.text_core.specs.Bytes.{is_line_feed}
 use Rattle.account_file.specs.declared.record.Record.{Record}
 use Rattle.account_file.specs.declared.record.Record.TheVariants as record_of
 use Rattle.account_file.specs.declared.place.Place.{Place}
@@ -11,10 +9,10 @@ use Rattle.account_file.specs.declared.place.Place.TheVariants.{Start, Headed, F
 use Rattle.account_file.specs.Accounts.{IsAccountBy, IsAccountOf}
 use Rattle.account_file.specs.Binary.{is_binary}
 use Rattle.account_file.specs.TextAccounts.{HasForm, IsTextAccount}
-use Rattle.account_file.specs.Lines.{after_lines, pieces_of, whole_lines}
+use Rattle.account_file.specs.Lines.{after_lines, whole_lines}
 use Rattle.account_file.specs.Order.{next_place, place_after_one}
 use Rattle.account_file.proofs.LawLemmas.{same_record}
-use Rattle.account_file.proofs.LineLemmas.{lines_stay}
+use Rattle.account_file.proofs.LineLemmas.{lines_stay, text_of}
 use Rattle.account_file.proofs.OrderLemmas.{none_stays}
 
 abbrev pub end_line : List ℕ
@@ -72,18 +70,6 @@ last_line (line ∷ lines) rest (entry ∷ records) place forms e = by (next_pla
     by (Some next) is later = later next (sym (ap (λ p. fold place_after_one p records) is) ∙ e)
 
 -- a text by its whole lines and what stands after them
-
-last_apart : (pieces : List (List ℕ)) → 0 < length pieces → take (length pieces - 1) pieces ++ get_or pieces (length pieces - 1) [] ∷ [] ≡ pieces
-last_apart [] some = absurd (omega (arith, some))
-last_apart (piece ∷ []) some = refl
-last_apart (piece ∷ next ∷ pieces) some =
-    let long : suc (suc (length pieces)) - 1 ≡ suc (length pieces) = omega arith in
-    let short : suc (length pieces) - 1 ≡ length pieces = omega arith in
-    ap (λ n. take n (piece ∷ next ∷ pieces) ++ get_or (piece ∷ next ∷ pieces) n [] ∷ []) long
-    ∙ ap (λ l. piece ∷ l) (ap (λ n. take n (next ∷ pieces) ++ get_or (next ∷ pieces) n [] ∷ []) (sym short) ∙ last_apart (next ∷ pieces) (omega arith))
-
-text_of : (bytes : List ℕ) → bytes ≡ join_with_byte 10 (whole_lines bytes ++ after_lines bytes ∷ [])
-text_of bytes = sym (join_with_byte-slice_split 10 bytes) ∙ ap (join_with_byte 10) (sym (last_apart (pieces_of bytes) (omega (arith, length-slice_split is_line_feed bytes))))
 
 length_joined : (lines : List (List ℕ)) (last : List ℕ) → length (join_with_byte 10 (lines ++ last ∷ [])) ≡ length (join_with_byte 10 (lines ++ [] ∷ [])) + length last
 length_joined [] last = omega arith

@@ -17,8 +17,8 @@ use Rattle.claim_core.specs.Queries.{IsQuery, bits_in}
 use Rattle.claim_core.specs.Formulas.{query_clauses}
 use Rattle.cnf_core.proofs.LiteralLemmas.{not_opposite, opposite_twice, same_from, same_itself, same_literal, opposite-literal}
 use Rattle.cnf_core.proofs.EffectLemmas.{conflict_from, makes_from, makes_says, true_more}
+use Rattle.cnf_core.proofs.HintLemmas.{step_conflict, step_makes}
 use Rattle.learn_solver.proofs.KeptLemmas.{opposite_there}
-use Rattle.learn_solver.proofs.DeriveLemmas.{step_conflict, step_makes}
 use Rattle.joint_hash.proofs.LeadLemmas.{last_true, stays_true}
 use Rattle.table_oracle.specs.Splits.{excluding}
 use Rattle.table_oracle.proofs.KnownLemmas.{AreApart, IsHeld}
