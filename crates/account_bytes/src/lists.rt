@@ -33,6 +33,12 @@ fn put_count<T>(list: &[T], out: &mut Vec<u8>) -> Result<(), AllocError>
     put_u64(list.len() as u64, out)
 }
 
+// How many values a list of `count` can have at most: each has a byte, so that a wrong count takes no more memory
+// than a small multiple of the bytes.
+fn most_items(count: u64, text: &ByteReader<'_>) -> usize {
+    count.min(text.left().len() as u64) as usize
+}
+
 // Takes `count` values.
 fn read_items<T: ByteForm + Drop>(
     alloc: Global,
@@ -41,7 +47,7 @@ fn read_items<T: ByteForm + Drop>(
 ) -> Result<Items<T>, FormStop>
     ensures { ReadsItems T.bytes T.fits count text.old result text.new }
 {
-    let mut items = Items::new(alloc);
+    let mut items = Items::with_capacity(alloc, most_items(count, text))?;
     for _item in 0..count {
         let item = T::read(alloc, text)?;
         items.push(item)?;

@@ -25,7 +25,7 @@ use crate::reject::RecordStop;
 use crate::verdict::Verdict;
 use account_core::{Ban, Conclusion, FactHead};
 use account_file::Record;
-use ban_check::{Evaluator, Given, clashing_pairs};
+use ban_check::{Evaluator, Given};
 use bit_list::Bits;
 use circuits::Pair;
 use claim_core::Claim;
@@ -153,7 +153,7 @@ impl<'a> Checker<'a> {
             Record::Ban(ban) => self.ban(alloc, ban),
             Record::Conclusion(conclusion) => self.conclude(alloc, conclusion),
             Record::DropFact(fact) => self.drop_fact(*fact),
-            Record::DropBan(ban) => self.drop_ban(alloc, *ban),
+            Record::DropBan(ban) => self.drop_ban(*ban),
             Record::End => {
                 self.end();
                 Ok(())
@@ -326,7 +326,7 @@ impl<'a> Checker<'a> {
     }
 
     // Takes a drop of a ban, whose pairs are forgotten.
-    fn drop_ban(&mut self, alloc: Global, ban: u64) -> Result<(), RecordStop>
+    fn drop_ban(&mut self, ban: u64) -> Result<(), RecordStop>
         requires { IsSome (next_place self.old.place (entry.DropBan ban)) }
         ensures { Takes self.old (entry.DropBan ban) self.new result }
     {
@@ -334,9 +334,8 @@ impl<'a> Checker<'a> {
         if let Some(reject) = test_drop_ban(graphs, &self.given, &self.dropped, ban) {
             return Err(RecordStop::Reject(reject));
         }
-        let clashing = clashing_pairs(alloc)?;
         self.dropped.drop_ban(ban)?;
-        self.given.forget_ban(ban, clashing);
+        self.given.forget_ban(ban);
         Ok(())
     }
 

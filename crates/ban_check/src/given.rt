@@ -2,11 +2,12 @@
 
 ghost use Rattle.std.specs.Prelude.{◌≡◌, ◌-◌, ◌↔◌, [], IfOk, IsTrue, OnOk, OnErr, length, take};
 ghost use Rattle.account_core.specs.Given.{ban_at, fact_at, IsBanGiven, IsFactGiven};
-ghost use Rattle.ban_check.specs.More.{clashing_pairs, with_ban, with_fact, without_pairs};
+ghost use Rattle.ban_check.specs.Kept.{pairs_kept};
+ghost use Rattle.ban_check.specs.More.{with_ban, with_fact, without_pairs};
 
 use circuits::{Pair, PortKind};
 use claim_core::{Claim, Shape};
-use items::{Few, Items};
+use items::Items;
 use net_core::Side;
 use std::alloc::{AllocError, Global};
 use std::marker::Model;
@@ -18,20 +19,56 @@ pub(crate) struct GivenFact {
     pub(crate) holds: bool,
 }
 
+/// What is kept of a ban: its pairs, till it is dropped. They are a list of their own, whose memory is given back then;
+/// pairs that stood in the list of bans would go on to take it.
+#[derive(Debug, Drop)]
+pub(crate) enum KeptBan {
+    Pairs(Items<Pair>),
+    Dropped,
+}
+
+/// Two pairs that no match has both of.
+static CLASHING_PAIRS: [Pair; 2] = [
+    Pair {
+        kind: PortKind::Input,
+        from: 0,
+        to: 0,
+        flip: false,
+    },
+    Pair {
+        kind: PortKind::Input,
+        from: 0,
+        to: 0,
+        flip: true,
+    },
+];
+
+impl KeptBan {
+    // Its pairs; once it is dropped, two that no match has both of.
+    fn pairs(&self) -> &[Pair]
+        ensures { result.now ≡ pairs_kept self.now }
+    {
+        match self {
+            KeptBan::Pairs(pairs) => pairs,
+            KeptBan::Dropped => &CLASHING_PAIRS,
+        }
+    }
+}
+
 /// The facts, and the pairs of the bans, each numbered from 0 in its own order.
 #[derive(Drop)]
 pub struct Given {
     facts: Items<GivenFact>,
-    bans: Items<Few<Pair, 8>>,
+    bans: Items<KeptBan>,
 }
 
 impl Model for Given {
     ghost use Rattle.account_core.specs.Given.{Given as AnyGiven};
-    ghost use Rattle.ban_check.specs.Kept.{decided_claims};
+    ghost use Rattle.ban_check.specs.Kept.{decided_claims, pairs_of_each};
 
     ghost Value = { AnyGiven };
 
-    ghost view = { λ a. record { facts = decided_claims a.facts; bans = a.bans } };
+    ghost view = { λ a. record { facts = decided_claims a.facts; bans = pairs_of_each a.bans } };
 }
 
 impl Given {
@@ -85,7 +122,7 @@ impl Given {
         if number >= self.bans.len() as u64 {
             return &[];
         }
-        &self.bans[number as usize]
+        self.bans[number as usize].pairs()
     }
 
     /// Adds a fact.
@@ -119,36 +156,16 @@ impl Given {
         ensures added { OnOk result (self.new ≡ with_ban self.old pairs.now) }
         ensures unchanged { OnErr result (self.new ≡ self.old) }
     {
-        let pairs = Few::from_slice(alloc, pairs)?;
-        self.bans.push(pairs)?;
+        let pairs = Items::from_slice(alloc, pairs)?;
+        self.bans.push(KeptBan::Pairs(pairs))?;
         Ok(())
     }
 
     /// Forgets the pairs of a ban, whose memory is given back: in their place stand two that no match has both of.
-    pub fn forget_ban(&mut self, number: u64, clashing: Few<Pair, 8>)
-        requires given { IsBanGiven self.old number }
-        requires clashing { clashing ≡ clashing_pairs }
+    pub fn forget_ban(&mut self, number: u64)
+        requires { IsBanGiven self.old number }
         ensures { self.new ≡ without_pairs self.old number }
     {
-        self.bans.set(number as usize, clashing);
+        self.bans.set(number as usize, KeptBan::Dropped);
     }
-}
-
-/// Two pairs that no match has both of.
-pub fn clashing_pairs(alloc: Global) -> Result<Few<Pair, 8>, AllocError>
-    ensures { IfOk result (λ pairs. pairs ≡ clashing_pairs) }
-{
-    let plain = Pair {
-        kind: PortKind::Input,
-        from: 0,
-        to: 0,
-        flip: false,
-    };
-    let inverted = Pair {
-        kind: PortKind::Input,
-        from: 0,
-        to: 0,
-        flip: true,
-    };
-    Few::from_slice(alloc, &[plain, inverted])
 }

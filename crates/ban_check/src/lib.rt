@@ -22,7 +22,7 @@ mod vectors;
 pub use account_core::have_as_many;
 pub use breaking::breaks;
 pub use evaluator::Evaluator;
-pub use given::{Given, clashing_pairs};
+pub use given::Given;
 pub use ordered::OrderedPairs;
 pub use ports::are_known;
 pub use steps::{are_names_known, has_shown, keeps_rule};

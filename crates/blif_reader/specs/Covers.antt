@@ -18,11 +18,7 @@ use Rattle.blif_reader.specs.Names.{input_words, output_words, defined_words, op
 abbrev pub trit_of : ℕ → Trit
 trit_of byte = if byte == 48 then Zero else if byte == 49 then One else Dash
 
-<<<<<<< HEAD
 -- what a row requires of each operand
-=======
--- what a row wants of each operand
->>>>>>> 56c5dfc7d745514afa6341aab3a35b07d13e5aed
 abbrev pub trits_of : List Piece → List Trit
 trits_of row = map trit_of (literal_bytes row)
 

@@ -10,8 +10,8 @@ loop-item-init g c =
     let bytes = g.T.ByteForm.bytes in
     let Fits = g.T.ByteForm.fits in
     let text = c.args.text.now in record {
-      has = subst (λ xs. HasItems bytes Fits text xs text) (sym c.new-items.ensures) (no_items bytes Fits text);
-      count = ap length c.new-items.ensures;
+      has = subst (λ xs. HasItems bytes Fits text xs text) (sym c.in_ok-items.ensures) (no_items bytes Fits text);
+      count = ap length c.in_ok-items.ensures;
     }
 
 pub loop-item-preserved : goal.loop-item-preserved
@@ -27,4 +27,4 @@ loop-item-preserved g c =
 pub returns-in_err-item : goal.returns-in_err-item
 returns-in_err-item g c =
     let l = c.loop-item in
-    items_stop g.T.ByteForm.bytes g.T.ByteForm.fits c.args.count c.args.text.now l.text c.read.new.text c.read.new.text l.items c.read.result c.from_residual.result _ c.in_err-item.was c.from_residual.ensures.1 c.read.ensures l.invariant.has (omega (arith, l.invariant.count))
+    items_stop g.T.ByteForm.bytes g.T.ByteForm.fits c.args.count c.args.text.now l.text c.read.new.text c.read.new.text l.items c.read.result c.from_residual-in_err-item.result _ c.in_err-item.was c.from_residual-in_err-item.ensures.1 c.read.ensures l.invariant.has (omega (arith, l.invariant.count))
