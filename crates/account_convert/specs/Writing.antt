@@ -17,12 +17,13 @@ abbrev pub drop_of : Numbered → ℕ → Record
 drop_of Fact number = record_of.DropFact number
 drop_of Ban number = record_of.DropBan number
 
--- of what is due in turn the first, as far as it is due after this record; and what is left
+-- of what is due in turn, the numbers in front that are due after this record
 abbrev pub first_at : ℕ → List Due → List ℕ
 first_at record_number [] = []
 first_at record_number (due ∷ dues) =
     if due.record_number == record_number then due.number ∷ first_at record_number dues else []
 
+-- of what is due in turn, what is left after this record
 abbrev pub after_at : ℕ → List Due → List Due
 after_at record_number [] = []
 after_at record_number (due ∷ dues) =
@@ -34,13 +35,14 @@ pub record Queue : Type 0 where
   pub facts : List Due
   pub bans : List Due
 
--- what is due after a record of this number, and what is left
+-- the drops that are due after a record of this number
 abbrev pub drops_due : Queue → ℕ → Record → List Record
 drops_due queue record_number entry =
     if queue.concluded || is_conclusion entry then []
     else (map record_of.DropFact (first_at record_number queue.facts)
     ++ map record_of.DropBan (first_at record_number queue.bans))
 
+-- the queue after a record of this number; from the conclusion on nothing is taken from it
 abbrev pub queue_after : Queue → ℕ → Record → Queue
 queue_after queue record_number entry =
     if queue.concluded || is_conclusion entry then record { concluded = true; facts = queue.facts; bans = queue.bans }
@@ -50,13 +52,14 @@ queue_after queue record_number entry =
       bans = after_at record_number queue.bans;
     }
 
--- the same of records, of which the first has this number
+-- records, of which the first has this number, each with the drops that are due after it
 abbrev pub written_from : Queue → ℕ → List Record → List Record
 written_from queue record_number [] = []
 written_from queue record_number (entry ∷ later) =
     entry ∷ drops_due queue record_number entry
     ++ written_from (queue_after queue record_number entry) (record_number + 1) later
 
+-- the queue after records of which the first has this number
 abbrev pub queue_from : Queue → ℕ → List Record → Queue
 queue_from queue record_number [] = queue
 queue_from queue record_number (entry ∷ later) =

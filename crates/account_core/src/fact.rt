@@ -55,7 +55,7 @@ impl Fact {
     }
 }
 
-/// The line of an account that gives a fact. After a claim that holds, the lines of its log follow.
+/// The record that gives a fact. After a claim that holds, the records of its log follow.
 #[derive(Debug, Drop)]
 pub enum FactHead {
     /// The claim fails: the vector of these bits breaks it.

@@ -31,7 +31,7 @@ pub struct Trimmed {
 ///
 /// # Errors
 ///
-/// The first bad line of the account, exactly where it has one, or out of memory.
+/// The first bad record of the account, exactly where it has one, or out of memory.
 pub fn trim(alloc: Global, graphs: &Graphs<'_>, account: &[u8]) -> Result<Trimmed, CheckStop>
     ensures rejected { (line : ℕ) (why : Reason) → result ≢ Err stop.Memory
         → ((result ≡ Err (stop.Rejected line why)) ↔ IsRejected graphs.now account.now line why) }

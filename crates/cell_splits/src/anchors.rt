@@ -199,7 +199,7 @@ fn no_counts(alloc: Global, outputs: usize) -> Result<Vec<LaneCounts>, AllocErro
     Ok(counts)
 }
 
-// How many outputs an inverted input changes, on each vector; for each output it is counted too.
+// How many outputs an inverted input changes, on each vector; adds to each output's counts where it changes, too.
 fn changes_with(
     alloc: Global,
     simulator: &mut FlipSim<'_>,

@@ -28,10 +28,11 @@ pub record MatchRequest : Type 0 where
   pub budget : ℕ
   pub seed : ℕ
 
--- the budget and the seed where the words give none (this project's)
+-- the budget where the words give none (this project's)
 abbrev pub default_budget : ℕ
 default_budget = 1000000000
 
+-- the seed where the words give none (this project's)
 abbrev pub default_seed : ℕ
 default_seed = 1
 

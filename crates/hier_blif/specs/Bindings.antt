@@ -7,10 +7,11 @@ use Rattle.text_core.specs.Piece.{Piece}
 abbrev pub is_equals : ℕ → Bool
 is_equals byte = byte == 61
 
--- a word is split at its first `=`: a port of the named model, and a name of the model in which the line stands
+-- what stands before a word's first `=`: a port of the named model
 abbrev pub formal_of : List ℕ → List ℕ
 formal_of word = before_first is_equals word
 
+-- what stands after a word's first `=`: a name of the model in which the line stands
 abbrev pub actual_of : List ℕ → List ℕ
 actual_of word = drop (length (formal_of word) + 1) word
 

@@ -28,12 +28,13 @@ pub record IsFirstRecursive (models : List BlifModel) (line : InstanceLine) : Ty
   pub deep : All (λ other. HasDepth models (model_of models other)) before
   pub recursive : HasNoDepth models (model_of models line)
 
--- how many instances a model within this depth makes, itself as one, and how many covers they have
+-- how many instances a model within this depth makes, itself as one
 abbrev pub instances_within : List BlifModel → ℕ → BlifModel → ℕ
 instances_within models zero model = 1
 instances_within models (suc l) model =
     1 + sum_by (λ line. instances_within models l (model_of models line)) (instances_of model)
 
+-- how many covers these instances have
 abbrev pub covers_within : List BlifModel → ℕ → BlifModel → ℕ
 covers_within models zero model = 0
 covers_within models (suc l) model =

@@ -33,10 +33,11 @@ found_in test xs = found_after test [] xs
 abbrev pub when : Bool → HierKind → ℕ → List HierFault
 when test kind at = if test then record { kind = kind; at = at } ∷ [] else []
 
--- a fault at each of these words, or at each of which the test says so
+-- a fault at each of these words
 abbrev pub at_words : HierKind → List Piece → List HierFault
 at_words kind words = map (fault_at kind) words
 
+-- a fault at each of these words of which the test says so
 abbrev pub where_wrong : HierKind → (Piece → Bool) → List Piece → List HierFault
 where_wrong kind test words = flat_map (λ word. when (test word) kind word.at) words
 

@@ -70,10 +70,11 @@ all_instances models = flat_map instances_of models
 abbrev pub is_among : List ℕ → List Piece → Bool
 is_among name words = list_any (λ word. bytes_eq name word.bytes) words
 
--- whether a model has a name, and the model that an instance is of: the first that has the name
+-- whether a model has a name
 abbrev pub has_name : List ℕ → BlifModel → Bool
 has_name name model = bytes_eq name model.name.bytes
 
+-- the model that an instance is of: the first that has the name, or an empty one where none has it
 abbrev pub model_of : List BlifModel → InstanceLine → BlifModel
 model_of models line =
     slice_index_or models (position_or_len (has_name line.model.bytes) models) (empty_model 0 no_name)
@@ -83,13 +84,15 @@ abbrev pub ports_of_kind : PortKind → BlifModel → List Piece
 ports_of_kind Input model = inputs_of model
 ports_of_kind Output model = outputs_of model
 
--- whether a word binds a port of a kind of the model: an input, or an output
+-- whether a word binds a port of a kind of the instance's model
 abbrev pub binds_port : PortKind → List BlifModel → InstanceLine → Piece → Bool
 binds_port kind models line word = is_among (formal_of word.bytes) (ports_of_kind kind (model_of models line))
 
+-- whether a word binds an input of the instance's model
 abbrev pub binds_input : List BlifModel → InstanceLine → Piece → Bool
 binds_input models line word = is_among (formal_of word.bytes) (inputs_of (model_of models line))
 
+-- whether a word binds an output of the instance's model
 abbrev pub binds_output : List BlifModel → InstanceLine → Piece → Bool
 binds_output models line word = is_among (formal_of word.bytes) (outputs_of (model_of models line))
 

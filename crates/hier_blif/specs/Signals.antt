@@ -18,11 +18,12 @@ abbrev pub part_of : (List ℕ → List ℕ) → Option Piece → List ℕ
 part_of part None = []
 part_of part (Some word) = part word.bytes
 
--- the output that is bound to a name, and the name to which a port is bound
+-- the output that an instance binds to a name: the first one, or no name where none is
 abbrev pub formal_bound : List BlifModel → InstanceLine → List ℕ → List ℕ
 formal_bound models line name =
     part_of formal_of (find (λ word. bytes_eq name (actual_of word.bytes)) (filter (binds_output models line) line.bindings))
 
+-- the name to which an instance binds a port: the first one, or no name where it binds none
 abbrev pub actual_bound : InstanceLine → List ℕ → List ℕ
 actual_bound line port = part_of actual_of (find (λ word. bytes_eq port (formal_of word.bytes)) line.bindings)
 

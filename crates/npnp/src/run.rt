@@ -98,7 +98,7 @@ pub fn run<S: Shelf, K: Sink>(
         → IsAskedToMatch (S.state shelf.old).held (bytes_of words.now) → IsOfMatch result }
 
     // Where no call failed and memory did not run out, the words and the files decide the outcome: an account that is
-    // accepted, or its first bad line; a netlist that isn't there, is too large, or is malformed, and where. For
+    // accepted, or its first bad record; a netlist that isn't there, is too large, or is malformed, and where. For
     // `restore` the first three files decide as for a check of them, but for an accepted match.
     ensures accepted { IsTrue S.tells → IsDecided result → (matching : Matching)
         → ((result ≡ Outcome.AcceptedMatch matching)

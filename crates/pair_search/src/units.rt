@@ -74,7 +74,7 @@ pub(crate) fn is_known(domains: &Domains, pair: Pair) -> bool
     (pair.from < count) & (pair.to < count)
 }
 
-/// Whether a pair is assigned.
+/// Whether a pair is assigned. No clause says when this is false: what isn't followed is found later.
 pub(crate) fn is_assigned(domains: &Domains, pair: Pair) -> bool
     ensures known { IsTrue result → IsPairOf domains.now.inputs domains.now.outputs pair }
     ensures assigned { IsTrue result → Contains (assigned_in domains.now.entries) pair }
@@ -88,7 +88,7 @@ pub(crate) fn is_assigned(domains: &Domains, pair: Pair) -> bool
     }
 }
 
-/// Whether a pair is of ports that exist, and neither assigned nor deleted.
+/// Whether a pair is of ports that exist, and neither assigned nor deleted. No clause says when this is false.
 pub fn is_open(domains: &Domains, pair: Pair) -> bool
     ensures known { IsTrue result → IsPairOf domains.now.inputs domains.now.outputs pair }
     ensures is { IsTrue result → IsOpen domains.now.entries pair }

@@ -48,7 +48,7 @@ impl Values {
         self.made.push_reserved(literal);
     }
 
-    /// Makes no literal true any more.
+    /// Takes back all that was made true.
     pub(crate) fn clear(&mut self)
         ensures { self.new ≡ record { variables = self.old.variables; made = [] } }
     {

@@ -14,8 +14,8 @@ use text_core::Parts;
 const PIECE: usize = 65_536;
 
 /// Writes an account under a name, in place of what stands under the name: its lines up to the last one in pieces, and
-/// the last one by itself, so that a file that was cut off doesn't end as an account does. After a refusal no further
-/// call is made.
+/// the last one by itself, so that a file that was cut off doesn't end as an account does. After a failed call no
+/// further call is made.
 pub fn write_account<S: Shelf>(
     alloc: Global,
     shelf: &mut S,
@@ -31,7 +31,7 @@ pub fn write_account<S: Shelf>(
     shelf.close()
 }
 
-/// Writes a text under a name, in place of what stands under the name. After a refusal no further call is made.
+/// Writes a text under a name, in place of what stands under the name. After a failed call no further call is made.
 pub fn write_text<S: Shelf, P: Parts>(
     alloc: Global,
     shelf: &mut S,

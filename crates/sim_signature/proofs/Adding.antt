@@ -4,7 +4,7 @@ use Rattle.std.proofs.lemmas.Bool.{cases_lt}
 use Rattle.claim_core.specs.declared.claims.Shape.{Shape}
 use Rattle.sim_signature.specs.Sightings.{Adds}
 
--- what two steps want, and less than one step wants
+-- two steps in turn add what either is to add
 pub Adds-then : {X : Type 0} {Good : X → Type 0} {Has : List X → Shape → Type 0} {Wanted Also Both : Shape → Type 0} {old mid new : List X}
     → Adds Good Has Wanted old mid → Adds Good Has Also mid new
     → ((shape : Shape) → Both shape → Wanted shape ⊎ Also shape)
@@ -15,6 +15,7 @@ Adds-then first then split = record {
   found = λ shape both. elim (split shape both) [ inl one ↦ then.kept shape (first.found shape one) | inr other ↦ then.found shape other ];
 }
 
+-- a step adds what it is to add, and so less than that
 pub Adds-fewer : {X : Type 0} {Good : X → Type 0} {Has : List X → Shape → Type 0} {Wanted Fewer : Shape → Type 0} {old new : List X}
     → Adds Good Has Wanted old new
     → ((shape : Shape) → Fewer shape → Wanted shape)

@@ -74,7 +74,7 @@ fn add_inverted(
     Ok(())
 }
 
-/// The outputs' blocks on the vectors, as they are changed.
+/// The blocks of `count` outputs from `first` on, on the vectors that the change at hand gives.
 fn column(
     alloc: Global,
     simulation: &Simulation<'_>,
