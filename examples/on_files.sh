@@ -150,6 +150,23 @@ wants 6 '' restore a.aag b.aag a-b.account folder
 wants 0 'accepted match' check a.aag b.aag a-b.account
 explains 'npnp restore a.aag b.aag made.account NEW' match a.aag b.aag made.account
 
+# an account is trimmed and converted, there and back; one that isn't accepted leaves the new file
+wants 0 'trimmed 5 5' trim and.blif or.blif and-or.account trimmed.account
+cmp -s and-or.account trimmed.account
+tell $? 'an account that is trimmed to itself' '' trimmed.account
+wants 0 'converted 1 2 12' convert and-xor.account bytes.account
+wants 1 'accepted refusal' check and.blif xor.blif bytes.account
+wants 0 'trimmed 19 12' trim and.blif xor.blif bytes.account trimmed.account
+wants 0 'converted 2 1 19' convert bytes.account text.account
+cmp -s and-xor.account text.account
+tell $? 'an account that is converted there and back' '' text.account
+wants 2 'rejected line 3 refutation' trim a.aag b.aag sign.account untrimmed.account
+wants 5 'absent account' convert absent.account untrimmed.account
+[ ! -e untrimmed.account ]
+tell $? 'an account that is not trimmed' '' untrimmed.account
+wants 4 'usage' convert and-xor.account and-xor.account
+wants 6 '' convert and-xor.account ./and-xor.account
+
 # ABC finds the netlist that was restored equal to the first one, port by port, by their names
 is_equal() { # FIRST RESTORED
   local answer

@@ -1,17 +1,18 @@
 -- What an account and the same in the other version have in common.
-use Rattle.std.proofs.Common.{◌≡◌, ℕ, Bool, true, false, not, List, [], Some, refl, sym, ap, subst, ◌∙◌}
+use Rattle.std.proofs.Common.{◌≡◌, ℕ, ◌+◌, Bool, true, false, not, List, [], length, Some, refl, sym, ap, subst, ◌∙◌}
 use Rattle.net_core.specs.Sides.{Graphs}
 use Rattle.account_file.specs.declared.record.Record.{Record}
 use Rattle.account_file.specs.Accounts.{IsAccountBy, IsAccountOf}
 use Rattle.account_file.specs.Binary.{is_binary}
 use Rattle.account_file.specs.Order.{HaveEnded}
-use Rattle.account_file.proofs.VersionLemmas.{account_ended, one_account}
+use Rattle.account_file.proofs.VersionLemmas.{account_ended, account_or_fault, one_account, one_fault}
+use Rattle.account_file.specs.declared.fault.RecordFault.{RecordFault}
 use Rattle.account_check.specs.declared.verdict.Verdict.{Verdict}
 use Rattle.account_check.specs.Accounts.{AreValid, account_after, empty_account, verdict_of}
 use Rattle.account_check.specs.Drops.{nothing_dropped}
 use Rattle.account_check.specs.Verdicts.{IsAccepted}
 use Rattle.account_convert.specs.declared.conversion.Converted.{Converted}
-use Rattle.account_convert.specs.Conversions.{IsConverted, in_other_version, version_number, with_drops, without_drops}
+use Rattle.account_convert.specs.Conversions.{IsConverted, IsFaultAt, in_other_version, version_number, with_drops, without_drops}
 use Rattle.account_convert.proofs.DropLemmas.{HaveNoDrops, all_kept, kept_once, text_no_drops, with_drops_back}
 use Rattle.account_convert.proofs.PutAllLemmas.{put_all}
 use Rattle.account_convert.proofs.SpelledLemmas.{same_text}
@@ -80,3 +81,17 @@ accepted_before graphs old new verdict is from accepted =
     let back : without_drops accepted.records ≡ is.records = ap without_drops same ∙ with_drops_back is.records (no_drops old is.records text is.account) in
     accepted_by graphs old is.records accepted.records verdict is.account
     (subst (λ rs. Agrees (empty_account graphs) rs (empty_account graphs) accepted.records) back (stripped graphs accepted.records accepted.valid)) accepted.verdict_is
+
+-- an account is converted in one way, or has one first fault of form
+
+pub one_converted : (account : List ℕ) (one other : Converted) → IsConverted account one → IsConverted account other → (one.from ≡ other.from) × (one.to ≡ other.to) × (one.records ≡ other.records)
+one_converted account one other a b =
+    (a.from ∙ sym b.from, a.to ∙ sym b.to, a.counted ∙ ap length (one_account account a.records b.records a.account b.account) ∙ sym b.counted)
+
+pub converted_or_fault : (account : List ℕ) (new : Converted) (line : ℕ) (fault : RecordFault) → IsConverted account new → IsFaultAt account line fault → ⊥
+converted_or_fault account new line fault is wrong = account_or_fault account is.records wrong.before fault is.account wrong.has
+
+pub one_fault_at : (account : List ℕ) (line other_line : ℕ) (fault other_fault : RecordFault) → IsFaultAt account line fault → IsFaultAt account other_line other_fault → (line ≡ other_line) × (fault ≡ other_fault)
+one_fault_at account line other_line fault other_fault one other =
+    let same = one_fault account one.before other.before fault other_fault one.has other.has in
+    (one.number_is ∙ ap (λ records. length records + 1) same.0 ∙ sym other.number_is, same.1)

@@ -1,6 +1,8 @@
 -- What trimming leaves of an account proves what the account does, and trimming it again changes nothing.
-use Rattle.std.proofs.Common.{◌≡◌, ℕ, Bool, false, List, [], ◌++◌, append-nil, IsSome, refl, sym, ap, subst, ◌∙◌}
+use Rattle.std.proofs.Common.{◌≡◌, ℕ, Bool, true, false, List, [], ◌++◌, length, append-nil, IsSome, refl, sym, ap, subst, ◌∙◌, arith}
+use Rattle.std.proofs.lemmas.List.{get_or_default, same_lists}
 use Rattle.std.specs.List.{AllZip, flat_map}
+use Rattle.circuits.specs.Literals.{bit}
 use Rattle.net_core.specs.Sides.{Graphs}
 use Rattle.account_file.specs.declared.record.Record.{Record}
 use Rattle.account_file.specs.declared.place.Place.TheVariants.{Ended}
@@ -18,6 +20,8 @@ use Rattle.account_check.specs.Accounts.{AreValid, account_after, verdict_of}
 use Rattle.account_check.specs.Verdicts.{IsAccepted}
 use Rattle.account_trim.specs.declared.trimming.Trimmed.{Trimmed}
 use Rattle.account_trim.specs.Links.{links_of}
+use Rattle.account_trim.specs.Lowered.{marked}
+use Rattle.account_trim.specs.declared.links.Links.{Links}
 use Rattle.account_trim.specs.Reached.{IsReached}
 use Rattle.account_trim.specs.Trims.{AreReached, IsLeft, IsTrimmed, left_of}
 use Rattle.account_trim.proofs.LawLemmas.{final_ended, final_reached, final_valid, final_verdict, left_final}
@@ -103,3 +107,25 @@ trimmed_again graphs bytes once again one two =
     ∙ (ap (λ records. flat_map record_line (left_of graphs records marks)) same
     ∙ (ap (flat_map record_line) (reached_stay graphs left marks (one.reached marks reached) reached.as_many (links_length graphs left))
     ∙ sym one.left.text))
+
+-- what is reached is one list of marks, and so one account is trimmed to as many records
+
+same_bit : (a b : Bool) → (a ≡ true → b ≡ true) → (b ≡ true → a ≡ true) → a ≡ b
+same_bit true b there back = sym (there refl)
+same_bit false true there back = back refl
+same_bit false false there back = refl
+
+one_reached : (links : List Links) (one other : List Bool) → IsReached links one → IsReached links other → one ≡ other
+one_reached links one other a b =
+    same_lists one other (a.as_many ∙ sym b.as_many)
+    (λ k d within.
+    get_or_default one k d false within
+    ∙ (same_bit (bit one k) (bit other k) (a.least other b.closed k) (b.least one a.closed k)
+    ∙ sym (get_or_default other k d false (omega (arith, within, a.as_many, b.as_many)))))
+
+pub one_trimmed : (graphs : Graphs) (bytes : List ℕ) (one other : Trimmed) → IsTrimmed graphs bytes one → IsTrimmed graphs bytes other → (one.before ≡ other.before) × (one.after ≡ other.after)
+one_trimmed graphs bytes one other a b =
+    let same : a.records ≡ b.records = one_account bytes a.records b.records a.account b.account in
+    let reached = subst (λ records. IsReached (links_of graphs records) a.left.marks) same a.left.reached in
+    let marks = one_reached (links_of graphs b.records) a.left.marks b.left.marks reached b.left.reached in
+    (a.left.before_is ∙ ap length same ∙ sym b.left.before_is, a.left.as_many ∙ ap marked marks ∙ sym b.left.as_many)

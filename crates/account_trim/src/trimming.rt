@@ -1,4 +1,4 @@
-ghost use Rattle.std.specs.Prelude.{ℕ, ◌≡◌, ◌≢◌, ◌↔◌, Err, IfOk, length};
+ghost use Rattle.std.specs.Prelude.{ℕ, ◌≡◌, ◌≢◌, ◌↔◌, Err, IfOk, OnOk, length};
 ghost use Rattle.account_check.specs.declared.verdict.CheckStop.TheVariants as stop;
 ghost use Rattle.account_check.specs.declared.verdict.Why.{Why as Reason};
 ghost use Rattle.account_check.specs.declared.verdict.Verdict.{Verdict as AnyVerdict};
@@ -35,6 +35,7 @@ pub struct Trimmed {
 pub fn trim(alloc: Global, graphs: &Graphs<'_>, account: &[u8]) -> Result<Trimmed, CheckStop>
     ensures rejected { (line : ℕ) (why : Reason) → result ≢ Err stop.Memory
         → ((result ≡ Err (stop.Rejected line why)) ↔ IsRejected graphs.now account.now line why) }
+    ensures accepted { OnOk result ((verdict : AnyVerdict) × IsAccepted graphs.now account.now verdict) }
     ensures trimmed { IfOk result (IsTrimmed graphs.now account.now) }
 {
     let verdict = check(alloc, graphs, account)?;

@@ -31,6 +31,8 @@ early o is = record {
   no_match = λ e. subst EndsRun e is;
   no_pair = λ e. subst EndsRun e is;
   no_netlist = λ gates e. subst EndsRun e is;
+  untrimmed = λ before after e. subst EndsRun e is;
+  unconverted = λ from to records e. subst EndsRun e is;
   no_trial = λ number account e. subst EndsRun e is;
   asked = λ e. subst EndsRun e is;
 }

@@ -7,12 +7,14 @@ use Rattle.std.proofs.lemmas.Bool.{false≢true}
 use Rattle.std.proofs.lemmas.Bool.Decides.{eqb_tells}
 use Rattle.std.proofs.lemmas.Slice.{between_to_end}
 use Rattle.std.proofs.lemmas.Slice.Eq.{bytes_eq-Decides}
-use Rattle.check_steps.specs.Asks.{match_request, make_request, restore_request}
+use Rattle.check_steps.specs.Asks.{convert_request, match_request, make_request, restore_request, trim_request}
 use Rattle.check_steps.specs.declared.words.Match.{Match as MatchWords}
-use Rattle.check_steps.specs.Words.{AreBudgetAndSeed, AreFourNames, AreNames, AreTwoNames, AsksInfo, AsksMake, AsksMatch, AsksRestore, HaveInfoForm, IsNumber, MakeRequest}
+use Rattle.check_steps.specs.Words.{AreBudgetAndSeed, AreFourNames, AreNames, AreTwoNames, AsksConvert, AsksInfo, AsksMake, AsksMatch, AsksRestore, AsksTrim, HaveInfoForm, IsNumber, MakeRequest}
 use Rattle.check_steps.specs.declared.words.Info.{Info as InfoWords}
 use Rattle.check_steps.specs.declared.words.Make.{Make as MakeWords}
 use Rattle.check_steps.specs.declared.words.Restore.{Restore as RestoreWords}
+use Rattle.check_steps.specs.declared.words.Convert.{Convert as ConvertWords}
+use Rattle.check_steps.specs.declared.words.Trim.{Trim as TrimWords}
 
 -- a text of which a test said that it isn't empty
 pub not_empty : (text : List ℕ) (empty : Bool) → empty ≡ (length text == 0) → empty ≡ false → text ≢ []
@@ -136,7 +138,21 @@ pub five : {X : Type 0} (xs : List X) (a b c d e : X) → 5 ≤ length xs → le
 five (x ∷ y ∷ z ∷ w ∷ u ∷ []) a b c d e low high ea eb ec ed ee = cc
 five xs a b c d e low high ea eb ec ed ee = absurd (omega arith)
 
--- what names make of words of the form
+-- what four names make of words of the form
+five_words : (command first second account written : List ℕ) (first' second' account' written' : List ℕ) (words : List (List ℕ))
+    → words ≡ command ∷ first ∷ second ∷ account ∷ written ∷ []
+    → (first' ≡ first) × (second' ≡ second) × (account' ≡ account) × (written' ≡ written)
+    → words ≡ command ∷ first' ∷ second' ∷ account' ∷ written' ∷ []
+five_words command first second account written first' second' account' written' words form are =
+    form ∙ ap (λ name. command ∷ name ∷ second ∷ account ∷ written ∷ []) (sym are.0) ∙ ap (λ name. command ∷ first' ∷ name ∷ account ∷ written ∷ []) (sym are.1) ∙ ap (λ name. command ∷ first' ∷ second' ∷ name ∷ written ∷ []) (sym are.2) ∙ ap (λ name. command ∷ first' ∷ second' ∷ account' ∷ name ∷ []) (sym are.3)
+
+four_names_too : (first second account written : List ℕ) (first' second' account' written' : List ℕ)
+    → AreFourNames first second account written
+    → (first' ≡ first) × (second' ≡ second) × (account' ≡ account) × (written' ≡ written)
+    → AreFourNames first' second' account' written'
+four_names_too first second account written first' second' account' written' names are =
+    subst (λ name. AreFourNames name second' account' written') (sym are.0) (subst (λ name. AreFourNames first name account' written') (sym are.1) (subst (λ name. AreFourNames first second name written') (sym are.2) (subst (AreFourNames first second account) (sym are.3) names)))
+
 pub asks_restore : (words : List (List ℕ)) (first second account restored : List ℕ) (result : Option RestoreWords)
     → words ≡ codes "restore" ∷ first ∷ second ∷ account ∷ restored ∷ []
     → IfSome result (λ asked. (asked.first.now ≡ first) × (asked.second.now ≡ second) × (asked.account.now ≡ account) × (asked.restored.now ≡ restored))
@@ -144,8 +160,31 @@ pub asks_restore : (words : List (List ℕ)) (first second account restored : Li
     → IfSome result (λ asked. AsksRestore words (restore_request asked))
 asks_restore words first second account restored None form are names_are = tt
 asks_restore words first second account restored (Some asked) form are names_are = record {
-  form = form ∙ ap (λ name. codes "restore" ∷ name ∷ second ∷ account ∷ restored ∷ []) (sym are.0) ∙ ap (λ name. codes "restore" ∷ asked.first.now ∷ name ∷ account ∷ restored ∷ []) (sym are.1) ∙ ap (λ name. codes "restore" ∷ asked.first.now ∷ asked.second.now ∷ name ∷ restored ∷ []) (sym are.2) ∙ ap (λ name. codes "restore" ∷ asked.first.now ∷ asked.second.now ∷ asked.account.now ∷ name ∷ []) (sym are.3);
-  names = subst (λ name. AreFourNames name asked.second.now asked.account.now asked.restored.now) (sym are.0) (subst (λ name. AreFourNames first name asked.account.now asked.restored.now) (sym are.1) (subst (λ name. AreFourNames first second name asked.restored.now) (sym are.2) (subst (AreFourNames first second account) (sym are.3) names_are)));
+  form = five_words (codes "restore") first second account restored asked.first.now asked.second.now asked.account.now asked.restored.now words form are;
+  names = four_names_too first second account restored asked.first.now asked.second.now asked.account.now asked.restored.now names_are are;
+}
+
+pub asks_trim : (words : List (List ℕ)) (first second account trimmed : List ℕ) (result : Option TrimWords)
+    → words ≡ codes "trim" ∷ first ∷ second ∷ account ∷ trimmed ∷ []
+    → IfSome result (λ asked. (asked.first.now ≡ first) × (asked.second.now ≡ second) × (asked.account.now ≡ account) × (asked.trimmed.now ≡ trimmed))
+    → IfSome result (λ asked. AreFourNames first second account trimmed)
+    → IfSome result (λ asked. AsksTrim words (trim_request asked))
+asks_trim words first second account trimmed None form are names_are = tt
+asks_trim words first second account trimmed (Some asked) form are names_are = record {
+  form = five_words (codes "trim") first second account trimmed asked.first.now asked.second.now asked.account.now asked.trimmed.now words form are;
+  names = four_names_too first second account trimmed asked.first.now asked.second.now asked.account.now asked.trimmed.now names_are are;
+}
+
+-- what two names make of words of the form
+pub asks_convert : (words : List (List ℕ)) (account converted : List ℕ) (result : Option ConvertWords)
+    → words ≡ codes "convert" ∷ account ∷ converted ∷ []
+    → IfSome result (λ asked. (asked.account.now ≡ account) × (asked.converted.now ≡ converted))
+    → IfSome result (λ asked. AreTwoNames account converted)
+    → IfSome result (λ asked. AsksConvert words (convert_request asked))
+asks_convert words account converted None form are names_are = tt
+asks_convert words account converted (Some asked) form are names_are = record {
+  form = form ∙ ap (λ name. codes "convert" ∷ name ∷ converted ∷ []) (sym are.0) ∙ ap (λ name. codes "convert" ∷ asked.account.now ∷ name ∷ []) (sym are.1);
+  names = subst (λ name. AreTwoNames name asked.converted.now) (sym are.0) (subst (AreTwoNames account) (sym are.1) names_are);
 }
 
 -- four names are two that are read with the one that is written, and the account with it

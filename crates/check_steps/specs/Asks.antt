@@ -1,11 +1,14 @@
 -- What the words of the command line ask for, as a command.
 use Rattle.std.specs.Prelude.{ℕ, List}
-use Rattle.check_steps.specs.Words.{AsksCheck, AsksInfo, AsksMake, AsksMatch, AsksRestore, AsksTrial, MatchRequest, MakeRequest, RestoreRequest}
+use Rattle.check_steps.specs.Words.{AsksCheck, AsksConvert, AsksInfo, AsksMake, AsksMatch, AsksRestore, AsksTrial, AsksTrim}
+use Rattle.check_steps.specs.Words.{ConvertRequest, MatchRequest, MakeRequest, RestoreRequest, TrimRequest}
+use Rattle.check_steps.specs.declared.words.Convert.{Convert as ConvertWords}
 use Rattle.check_steps.specs.declared.words.Match.{Match as MatchWords}
 use Rattle.check_steps.specs.declared.words.Make.{Make as MakeWords}
 use Rattle.check_steps.specs.declared.words.Restore.{Restore as RestoreWords}
+use Rattle.check_steps.specs.declared.words.Trim.{Trim as TrimWords}
 use Rattle.check_steps.specs.declared.words.Command.{Command}
-use Rattle.check_steps.specs.declared.words.Command.TheVariants.{Check, Restore, Match, Info, Make, Trial}
+use Rattle.check_steps.specs.declared.words.Command.TheVariants.{Check, Restore, Trim, Convert, Match, Info, Make, Trial}
 
 -- what the words of a match ask for
 abbrev pub match_request : MatchWords → MatchRequest
@@ -26,6 +29,19 @@ restore_request words = record {
   restored = words.restored.now;
 }
 
+-- what the words of a trim ask for
+abbrev pub trim_request : TrimWords → TrimRequest
+trim_request words = record {
+  first = words.first.now;
+  second = words.second.now;
+  account = words.account.now;
+  trimmed = words.trimmed.now;
+}
+
+-- what the words of a convert ask for
+abbrev pub convert_request : ConvertWords → ConvertRequest
+convert_request words = record { account = words.account.now; converted = words.converted.now }
+
 -- what the words of a make ask for
 abbrev pub make_request : MakeWords → MakeRequest
 make_request words = record { number = words.number; first = words.first.now; second = words.second.now }
@@ -34,6 +50,8 @@ make_request words = record { number = words.number; first = words.first.now; se
 abbrev pub Ask : List (List ℕ) → Command → Type 0
 Ask words (Check check) = AsksCheck words check.first.now check.second.now check.account.now
 Ask words (Restore restore_words) = AsksRestore words (restore_request restore_words)
+Ask words (Trim trim_words) = AsksTrim words (trim_request trim_words)
+Ask words (Convert convert_words) = AsksConvert words (convert_request convert_words)
 Ask words (Match match_words) = AsksMatch words (match_request match_words)
 Ask words (Info info) = AsksInfo words info.file.now info.budget
 Ask words (Make make_words) = AsksMake words (make_request make_words)

@@ -1,5 +1,6 @@
 -- What reading a file whole does.
-use Rattle.std.specs.Prelude.{◌≡◌, ℕ, ◌+◌, ◌<◌, ◌≤◌, Bool, IsTrue, List, ◌++◌, length, Option, None, Some, Result, Err, IfOk, OnOk}
+use Rattle.std.specs.Prelude.{◌≡◌, ℕ, ◌+◌, ◌<◌, ◌≤◌, Bool, IsTrue, List, ◌++◌, length, Option, None, Some, Result, Err, IfOk, OnOk, Vec}
+use Rattle.std.specs.declared.alloc.Global.{Global}
 use Rattle.shelf_core.specs.Fault.{NoCallFollows, Rose}
 use Rattle.shelf_core.specs.State.{ShelfState, Closed, Reading}
 use Rattle.check_steps.specs.declared.files.File.{File}
@@ -31,6 +32,32 @@ pub record ReadsFile (tells : Bool) (limit : ℕ) (held : Option (List ℕ)) (ol
   pub closed : OnOk result (new.mode ≡ Closed)
   pub found : IsTrue tells → IfOk result (Tells limit held)
   pub short : IfOk result (IsWithin limit)
+  pub clean : OnOk result (new.faults ≡ old.faults)
+  pub last : NoCallFollows old new
+  pub failed : result ≡ Err ReadFault → Rose old.faults new.faults
+
+-- what was read, if anything, is what stands under the name
+abbrev pub IsContent : Option (List ℕ) → Option (Vec ℕ Global) → Type 0
+IsContent held None = held ≡ None
+IsContent held (Some bytes) = held ≡ Some bytes.items
+
+-- Reading the open file, of so many bytes, to its end, and closing it.
+pub record ReadsOpen (tells : Bool) (size : ℕ) (old new : ShelfState) (result : Result (Vec ℕ Global) ReadStop) : Type 0 where
+  pub files : (n : List ℕ) → new.held n ≡ old.held n
+  pub closed : OnOk result (new.mode ≡ Closed)
+  pub bytes : IsTrue tells → IfOk result (λ bytes. bytes.items ≡ old.unread)
+  pub size_is : IfOk result (λ bytes. length bytes.items ≡ size)
+  pub clean : OnOk result (new.faults ≡ old.faults)
+  pub last : NoCallFollows old new
+  pub failed : result ≡ Err ReadFault → Rose old.faults new.faults
+
+-- Reading whole what stands under a name, however long it is.
+pub record ReadsWhole (tells : Bool) (held : Option (List ℕ)) (old new : ShelfState)
+    (result : Result (Option (Vec ℕ Global)) ReadStop) : Type 0 where
+  -- no file changes, and none is open after an answer
+  pub files : (n : List ℕ) → new.held n ≡ old.held n
+  pub closed : OnOk result (new.mode ≡ Closed)
+  pub found : IsTrue tells → IfOk result (IsContent held)
   pub clean : OnOk result (new.faults ≡ old.faults)
   pub last : NoCallFollows old new
   pub failed : result ≡ Err ReadFault → Rose old.faults new.faults

@@ -13,7 +13,7 @@ use Rattle.check_steps.specs.Lines.{HasMatching}
 use Rattle.check_steps.specs.declared.outcome.Which.TheVariants.{Account}
 use Rattle.check_steps.specs.declared.outcome.Outcome.{Outcome}
 use Rattle.check_steps.specs.declared.outcome.Outcome.TheVariants.{AcceptedMatch, AcceptedRefusal, Rejected, Matched, NoMatching, Usage, Absent, Informed, Made}
-use Rattle.check_steps.specs.declared.outcome.Outcome.TheVariants.{Restored}
+use Rattle.check_steps.specs.declared.outcome.Outcome.TheVariants.{Restored, Trimmed, Converted}
 use Rattle.check_steps.specs.declared.outcome.Outcome.TheVariants.{Tried, ReadFault, WriteFault}
 use Rattle.check_steps.specs.declared.files.ReadStop.{ReadStop}
 use Rattle.check_steps.specs.declared.files.ReadStop.TheVariants as stop
@@ -51,6 +51,8 @@ pub record IsJudged (outcome : Outcome) : Type 0 where
   pub no_match : outcome ≢ NoMatching
   pub no_pair : outcome ≢ Made
   pub no_netlist : (gates : ℕ) → outcome ≢ Restored gates
+  pub untrimmed : (before after : ℕ) → outcome ≢ Trimmed before after
+  pub unconverted : (from to records : ℕ) → outcome ≢ Converted from to records
   pub no_trial : (number : ℕ) (account : List ℕ) → outcome ≢ Tried number account
   pub unmatched : (matching : Matching) → outcome ≢ Matched matching
 

@@ -11,7 +11,8 @@ use Rattle.check_steps.specs.declared.outcome.Which.{Which}
 use Rattle.check_steps.specs.declared.outcome.Which.TheVariants.{First, Second, Account}
 use Rattle.check_steps.specs.declared.outcome.Outcome.{Outcome}
 use Rattle.check_steps.specs.declared.outcome.Outcome.TheVariants.{AcceptedMatch, AcceptedRefusal, Rejected, Matched, NoMatching, Spent, Usage, Absent}
-use Rattle.check_steps.specs.declared.outcome.Outcome.TheVariants.{TooLarge, Malformed, Informed, Made, Restored, Tried, ReadFault, WriteFault, Memory}
+use Rattle.check_steps.specs.declared.outcome.Outcome.TheVariants.{TooLarge, Malformed, Informed, Made, Restored, Trimmed, Converted}
+use Rattle.check_steps.specs.declared.outcome.Outcome.TheVariants.{Tried, ReadFault, WriteFault, Memory}
 
 -- the word for a file
 abbrev pub file_word : Which → List ℕ
@@ -24,6 +25,14 @@ file_word Account = codes "account"
 abbrev pub tried_line : ℕ → List ℕ
 tried_line number = codes "trial " ++ decimal number ++ codes " matched accepted 64 32 2000" ++ 10 ∷ []
 
+-- the line of an account that was trimmed: how many records it had, and how many are left
+abbrev pub trimmed_line : ℕ → ℕ → List ℕ
+trimmed_line before after = codes "trimmed " ++ decimal before ++ 32 ∷ decimal after ++ 10 ∷ []
+
+-- the line of an account that was converted: the version that it had, the one that it has, and how many records it had
+abbrev pub converted_line : ℕ → ℕ → ℕ → List ℕ
+converted_line from to records = codes "converted " ++ decimal from ++ 32 ∷ decimal to ++ 32 ∷ decimal records ++ 10 ∷ []
+
 -- the line that names an outcome; a failed write has none, and what is known of a netlist is more than a line
 abbrev pub line_of : Outcome → List ℕ
 line_of (AcceptedMatch matching) = codes "accepted match" ++ 10 ∷ []
@@ -35,6 +44,8 @@ line_of (Spent ledger) = codes "spent " ++ decimal (learned_in ledger) ++ 10 ∷
 line_of Informed = []
 line_of Made = codes "made 64 32 2000" ++ 10 ∷ []
 line_of (Restored gates) = codes "restored " ++ decimal gates ++ 10 ∷ []
+line_of (Trimmed before after) = trimmed_line before after
+line_of (Converted from to records) = converted_line from to records
 line_of (Tried number account) = tried_line number
 line_of Usage = codes "usage" ++ 10 ∷ []
 line_of (Absent file) = codes "absent " ++ file_word file ++ 10 ∷ []

@@ -14,8 +14,8 @@ use Rattle.check_steps.specs.Ends.{EndsAt}
 use Rattle.check_steps.specs.Lines.{IsOneLine}
 use Rattle.check_steps.specs.declared.outcome.Which.{Which}
 use Rattle.check_steps.specs.declared.outcome.Outcome.{Outcome}
-use Rattle.check_steps.specs.declared.outcome.Outcome.TheVariants.{AcceptedRefusal, NoMatching, Usage, Malformed, Made, Restored, Tried, ReadFault, WriteFault}
-use Rattle.check_steps.specs.declared.outcome.Outcome.TheVariants.{Memory}
+use Rattle.check_steps.specs.declared.outcome.Outcome.TheVariants.{AcceptedRefusal, NoMatching, Usage, Malformed, Made, Restored, Trimmed, Converted}
+use Rattle.check_steps.specs.declared.outcome.Outcome.TheVariants.{Tried, ReadFault, WriteFault, Memory}
 
 -- an outcome that ends a run early: it has a line, and is no answer and none of the words alone
 pub record IsEarly (outcome : Outcome) : Type 0 where
@@ -24,6 +24,8 @@ pub record IsEarly (outcome : Outcome) : Type 0 where
   pub no_match : outcome ≢ NoMatching
   pub no_pair : outcome ≢ Made
   pub no_netlist : (gates : ℕ) → outcome ≢ Restored gates
+  pub untrimmed : (before after : ℕ) → outcome ≢ Trimmed before after
+  pub unconverted : (from to records : ℕ) → outcome ≢ Converted from to records
   pub no_trial : (number : ℕ) (account : List ℕ) → outcome ≢ Tried number account
   pub asked : outcome ≢ Usage
 

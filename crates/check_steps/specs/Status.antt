@@ -2,7 +2,8 @@
 use Rattle.std.specs.Prelude.{ℕ}
 use Rattle.check_steps.specs.declared.outcome.Outcome.{Outcome}
 use Rattle.check_steps.specs.declared.outcome.Outcome.TheVariants.{AcceptedMatch, AcceptedRefusal, Rejected, Matched, NoMatching, Spent, Usage, Absent}
-use Rattle.check_steps.specs.declared.outcome.Outcome.TheVariants.{TooLarge, Malformed, Informed, Made, Restored, Tried, ReadFault, WriteFault, Memory}
+use Rattle.check_steps.specs.declared.outcome.Outcome.TheVariants.{TooLarge, Malformed, Informed, Made, Restored, Trimmed, Converted}
+use Rattle.check_steps.specs.declared.outcome.Outcome.TheVariants.{Tried, ReadFault, WriteFault, Memory}
 
 -- 0 says a match, or that the work is done; 1 that there is no match; from 2 on, why there is no answer
 abbrev pub status_of : Outcome → ℕ
@@ -14,6 +15,8 @@ status_of NoMatching = 1
 status_of Informed = 0
 status_of Made = 0
 status_of (Restored gates) = 0
+status_of (Trimmed before after) = 0
+status_of (Converted from to records) = 0
 status_of (Tried number account) = 0
 status_of (Spent ledger) = 3
 status_of Usage = 4

@@ -75,6 +75,35 @@ pub record AsksRestore (words : List (List ℕ)) (request : RestoreRequest) : Ty
   pub form : words ≡ codes "restore" ∷ request.first ∷ request.second ∷ request.account ∷ request.restored ∷ []
   pub names : AreFourNames request.first request.second request.account request.restored
 
+-- What `trim` is asked for: the account of two netlists without what its conclusion doesn't rest on, in a file that is
+-- written.
+pub record TrimRequest : Type 0 where
+  pub first : List ℕ
+  pub second : List ℕ
+  pub account : List ℕ
+  pub trimmed : List ℕ
+
+-- `trim FIRST SECOND OLD NEW`
+pub record AsksTrim (words : List (List ℕ)) (request : TrimRequest) : Type 0 where
+  pub form : words ≡ codes "trim" ∷ request.first ∷ request.second ∷ request.account ∷ request.trimmed ∷ []
+  pub names : AreFourNames request.first request.second request.account request.trimmed
+
+-- Names of two files, of which one is written, or both are: neither is empty, and they differ.
+pub record AreTwoNames (first second : List ℕ) : Type 0 where
+  pub first_named : first ≢ []
+  pub second_named : second ≢ []
+  pub apart : second ≢ first
+
+-- What `convert` is asked for: an account in the other version, in a file that is written.
+pub record ConvertRequest : Type 0 where
+  pub account : List ℕ
+  pub converted : List ℕ
+
+-- `convert OLD NEW`
+pub record AsksConvert (words : List (List ℕ)) (request : ConvertRequest) : Type 0 where
+  pub form : words ≡ codes "convert" ∷ request.account ∷ request.converted ∷ []
+  pub names : AreTwoNames request.account request.converted
+
 -- `match FIRST SECOND ACCOUNT [BUDGET [SEED]]`
 pub record AsksMatch (words : List (List ℕ)) (sought : MatchRequest) : Type 0 where
   pub numbers : List (List ℕ)
@@ -92,12 +121,6 @@ HaveInfoForm words file budget =
 pub record AsksInfo (words : List (List ℕ)) (file : List ℕ) (budget : ℕ) : Type 0 where
   pub form : HaveInfoForm words file budget
   pub named : file ≢ []
-
--- Names of two files that are written: neither is empty, and they differ.
-pub record AreTwoNames (first second : List ℕ) : Type 0 where
-  pub first_named : first ≢ []
-  pub second_named : second ≢ []
-  pub apart : second ≢ first
 
 -- What `make` is asked for: the pair of a number, in two files.
 pub record MakeRequest : Type 0 where
@@ -135,11 +158,15 @@ ReadFiles words =
     ((first second account : List ℕ) × NameThree words first second account)
     ⊎ ((file : List ℕ) × (budget : ℕ) × AsksInfo words file budget)
     ⊎ ((request : RestoreRequest) × AsksRestore words request)
+    ⊎ ((request : TrimRequest) × AsksTrim words request)
+    ⊎ ((request : ConvertRequest) × AsksConvert words request)
 
 -- words of no form that is known
 pub record AskNothing (words : List (List ℕ)) : Type 0 where
   pub no_check : (first second account : List ℕ) → AsksCheck words first second account → ⊥
   pub no_restore : (request : RestoreRequest) → AsksRestore words request → ⊥
+  pub no_trim : (request : TrimRequest) → AsksTrim words request → ⊥
+  pub no_convert : (request : ConvertRequest) → AsksConvert words request → ⊥
   pub no_match : (sought : MatchRequest) → AsksMatch words sought → ⊥
   pub no_info : (file : List ℕ) (budget : ℕ) → AsksInfo words file budget → ⊥
   pub no_make : (request : MakeRequest) → AsksMake words request → ⊥

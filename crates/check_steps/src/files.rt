@@ -3,7 +3,7 @@
 ghost use Rattle.std.specs.Prelude.{◌≡◌, ℕ, ◌<◌, ◌≤◌, List, IsTrue, IfOk, OnOk, Some, Err, length, replicate};
 ghost use Rattle.shelf_core.specs.Fault.{NoCallFollows, Rose};
 ghost use Rattle.shelf_core.specs.State.{Closed, Reading};
-ghost use Rattle.check_steps.specs.Files.{HasUnread, ReadsFile, ReadsPiece};
+ghost use Rattle.check_steps.specs.Files.{HasUnread, ReadsFile, ReadsOpen, ReadsPiece, ReadsWhole};
 
 use shelf_core::{Shelf, ShelfStop};
 use std::alloc::{AllocError, Global};
@@ -71,7 +71,22 @@ pub fn read_file<S: Shelf>(
     }
 }
 
-/// Reads the open file, of `size` bytes, and closes it.
+/// Reads a file whole, however long it is: a number of 64 bits counts its bytes.
+pub fn read_whole<S: Shelf>(
+    alloc: Global,
+    shelf: &mut S,
+    name: &str,
+) -> Result<Option<Vec<u8>>, ReadStop>
+    requires { (S.state shelf.old).mode ≡ Closed }
+    ensures { ReadsWhole S.tells ((S.state shelf.old).held name.now) (S.state shelf.old) (S.state shelf.new) result }
+{
+    match shelf.open(name)? {
+        None => Ok(None),
+        Some(size) => Ok(Some(read_to_end(alloc, shelf, size)?)),
+    }
+}
+
+/// Reads the open file, of `size` bytes, if they aren't too many, and closes it.
 fn read_open<S: Shelf>(
     alloc: Global,
     shelf: &mut S,
@@ -86,10 +101,18 @@ fn read_open<S: Shelf>(
         shelf.close()?;
         return Ok(File::TooLong);
     }
+    Ok(File::Bytes(read_to_end(alloc, shelf, size)?))
+}
+
+/// Reads the open file, of `size` bytes, and closes it.
+fn read_to_end<S: Shelf>(alloc: Global, shelf: &mut S, size: u64) -> Result<Vec<u8>, ReadStop>
+    requires { HasUnread S.tells (S.state shelf.old) size }
+    ensures { ReadsOpen S.tells size (S.state shelf.old) (S.state shelf.new) result }
+{
     let mut piece = zeros(alloc, PIECE)?;
     let bytes = read_rest(alloc, shelf, &mut piece, size)?;
     shelf.close()?;
-    Ok(File::Bytes(bytes))
+    Ok(bytes)
 }
 
 /// Reads what is unread of the open file, piece by piece.

@@ -11,11 +11,11 @@ mod report;
 mod words;
 
 pub use checking::{Judgement, check_files, judge_files};
-pub use files::{File, PIECE, ReadStop, read_file, zeros};
+pub use files::{File, PIECE, ReadStop, read_file, read_whole, zeros};
 pub use netlists::{NETLIST_LIMIT, read_netlist};
 pub use outcome::{Ending, Outcome, Which};
 pub use report::{report_line, report_named};
 pub use words::{
-    Check, Command, DEFAULT_BUDGET, DEFAULT_SEED, Info, MOST_DIGITS, Make, Match, Restore, Trial,
-    command_asked,
+    Check, Command, Convert, DEFAULT_BUDGET, DEFAULT_SEED, Info, MOST_DIGITS, Make, Match, Restore,
+    Trial, Trim, command_asked,
 };

@@ -47,6 +47,19 @@ pub enum Outcome {
     Restored {
         gates: u64,
     },
+    /// The account was written without the records that its conclusion doesn't rest on: how many it had, and how many
+    /// are left.
+    Trimmed {
+        before: u64,
+        after: u64,
+    },
+    /// The account was written in the other version: the version that it had, the one that it has, and how many records
+    /// it had.
+    Converted {
+        from: u8,
+        to: u8,
+        records: u64,
+    },
     /// A match of the pair of netlists that the number gives was found, and the account of it was accepted.
     Tried {
         number: u64,
@@ -83,9 +96,9 @@ pub struct Ending {
 }
 
 impl Outcome {
-    /// The exit status of the program: 0 a match, a report or netlists, 1 no match, 2 an account rejected, 3 a spent
-    /// budget, 4 words of no known form, 5 a file that isn't there or isn't a netlist, 6 a fault of the outside, 7 no
-    /// memory.
+    /// The exit status of the program: 0 a match, a report or files that were written, 1 no match, 2 an account
+    /// rejected, 3 a spent budget, 4 words of no known form, 5 a file that isn't there or isn't a netlist, 6 a fault of
+    /// the outside, 7 no memory.
     pub fn status(&self) -> u8
         ensures { result ≡ status_of self.now }
     {
@@ -98,6 +111,8 @@ impl Outcome {
             Outcome::Informed => 0,
             Outcome::Made => 0,
             Outcome::Restored { .. } => 0,
+            Outcome::Trimmed { .. } => 0,
+            Outcome::Converted { .. } => 0,
             Outcome::Tried { .. } => 0,
             Outcome::Spent(_) => 3,
             Outcome::Usage => 4,

@@ -3,7 +3,7 @@
 ghost use Rattle.std.specs.Prelude.{◌≡◌, [], ◌∷◌, ◌++◌, OnOk, IfOk, codes};
 ghost use Rattle.std.specs.Fmt.{decimal};
 ghost use Rattle.port_report.specs.Reports.{names_of};
-ghost use Rattle.check_steps.specs.Lines.{file_word, line_of, report_on, tried_line};
+ghost use Rattle.check_steps.specs.Lines.{converted_line, file_word, line_of, report_on, tried_line, trimmed_line};
 ghost use Rattle.check_steps.specs.Judged.{IsMatchIfAny};
 
 use crate::outcome::{Outcome, Which};
@@ -53,6 +53,8 @@ fn put_line(outcome: &Outcome, out: &mut Vec<u8>) -> Result<(), AllocError>
         Outcome::Informed => Ok(()),
         Outcome::Made => out.extend_from_slice(b"made 64 32 2000\n"),
         Outcome::Restored { gates } => put_count(b"restored ", *gates, out),
+        Outcome::Trimmed { before, after } => put_trimmed(*before, *after, out),
+        Outcome::Converted { from, to, records } => put_converted(*from, *to, *records, out),
         Outcome::Tried { number, .. } => put_tried(*number, out),
         Outcome::Usage => out.extend_from_slice(b"usage\n"),
         Outcome::Absent(which) => put_file(b"absent ", *which, out),
@@ -70,6 +72,31 @@ fn put_count(what: &[u8], count: u64, out: &mut Vec<u8>) -> Result<(), AllocErro
 {
     out.extend_from_slice(what)?;
     put_decimal(count, out)?;
+    out.extend_from_slice(b"\n")
+}
+
+// Writes the line of an account that was trimmed: how many records it had, and how many are left.
+fn put_trimmed(before: u64, after: u64, out: &mut Vec<u8>) -> Result<(), AllocError>
+    ensures { OnOk result (out.new.items ≡ out.old.items ++ trimmed_line before after) }
+{
+    out.extend_from_slice(b"trimmed ")?;
+    put_decimal(before, out)?;
+    out.extend_from_slice(b" ")?;
+    put_decimal(after, out)?;
+    out.extend_from_slice(b"\n")
+}
+
+// Writes the line of an account that was converted: the version that it had, the one that it has, and how many records
+// it had.
+fn put_converted(from: u8, to: u8, records: u64, out: &mut Vec<u8>) -> Result<(), AllocError>
+    ensures { OnOk result (out.new.items ≡ out.old.items ++ converted_line from to records) }
+{
+    out.extend_from_slice(b"converted ")?;
+    put_decimal(u64::from(from), out)?;
+    out.extend_from_slice(b" ")?;
+    put_decimal(u64::from(to), out)?;
+    out.extend_from_slice(b" ")?;
+    put_decimal(records, out)?;
     out.extend_from_slice(b"\n")
 }
 

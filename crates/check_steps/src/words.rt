@@ -1,10 +1,12 @@
 //! The words of the command line.
 
 ghost use Rattle.std.specs.Prelude.{◌≡◌, ◌≢◌, ◌⊎◌, ℕ, [], ◌↔◌, IsTrue, List, map, IfSome, IfNone, string_bytes};
-ghost use Rattle.check_steps.specs.Asks.{Ask, match_request, make_request, restore_request};
+ghost use Rattle.check_steps.specs.Asks.{Ask, convert_request, match_request, make_request};
+ghost use Rattle.check_steps.specs.Asks.{restore_request, trim_request};
 ghost use Rattle.check_steps.specs.Words.{AreBudgetAndSeed, AreFourNames, AreNames, AreTwoNames, AskNothing, AsksCheck};
-ghost use Rattle.check_steps.specs.Words.{AsksInfo, AsksMake, AsksMatch, AsksRestore, AsksTrial, IsNumber};
-ghost use Rattle.check_steps.specs.Words.{MatchRequest, MakeRequest, RestoreRequest};
+ghost use Rattle.check_steps.specs.Words.{AsksConvert, AsksInfo, AsksMake, AsksMatch, AsksRestore, AsksTrial, AsksTrim};
+ghost use Rattle.check_steps.specs.Words.{ConvertRequest, MatchRequest, MakeRequest, RestoreRequest, TrimRequest};
+ghost use Rattle.check_steps.specs.Words.{IsNumber};
 
 use text_core::{Cursor, decimal};
 
@@ -40,6 +42,28 @@ pub struct Restore<'a> {
     pub account: &'a str,
     /// The file that is written.
     pub restored: &'a str,
+}
+
+/// The files of an account that is trimmed.
+#[derive(Clone, Copy, Debug)]
+pub struct Trim<'a> {
+    /// The first netlist.
+    pub first: &'a str,
+    /// The second netlist.
+    pub second: &'a str,
+    /// The account: that a matching is a match, or that none is, and the proof.
+    pub account: &'a str,
+    /// The file that is written.
+    pub trimmed: &'a str,
+}
+
+/// The files of an account that is converted.
+#[derive(Clone, Copy, Debug)]
+pub struct Convert<'a> {
+    /// The account.
+    pub account: &'a str,
+    /// The file that is written.
+    pub converted: &'a str,
 }
 
 /// The netlists of which a match is sought.
@@ -91,6 +115,10 @@ pub enum Command<'a> {
     Check(Check<'a>),
     /// The second of two netlists with the first one's ports, by an account of a match.
     Restore(Restore<'a>),
+    /// The account of two netlists without what its conclusion doesn't rest on.
+    Trim(Trim<'a>),
+    /// An account in the other version.
+    Convert(Convert<'a>),
     /// A match of two netlists, or that there is none.
     Match(Match<'a>),
     /// What each output of a netlist depends on, and how.
@@ -111,6 +139,12 @@ pub fn command_asked(words: &[String]) -> Option<Command<'_>>
     }
     if let Some(asked) = restore_asked(words) {
         return Some(Command::Restore(asked));
+    }
+    if let Some(asked) = trim_asked(words) {
+        return Some(Command::Trim(asked));
+    }
+    if let Some(asked) = convert_asked(words) {
+        return Some(Command::Convert(asked));
     }
     if let Some(asked) = match_asked(words) {
         return Some(Command::Match(asked));
@@ -189,6 +223,73 @@ fn restore_of<'a>(
         account,
         restored,
     })
+}
+
+/// What the words ask to trim: `trim`, and four names that aren't empty, the last of which is none of the others.
+fn trim_asked(words: &[String]) -> Option<Trim<'_>>
+    ensures asked { IfSome result (λ asked. AsksTrim (map string_bytes words.now) (trim_request asked)) }
+    ensures not_asked { IfNone result ((request : TrimRequest) → AsksTrim (map string_bytes words.now) request → ⊥) }
+{
+    match words {
+        [command, first, second, account, trimmed] if command.as_str() == "trim" => trim_of(
+            first.as_str(),
+            second.as_str(),
+            account.as_str(),
+            trimmed.as_str(),
+        ),
+        _ => None,
+    }
+}
+
+/// What four names ask to trim.
+fn trim_of<'a>(
+    first: &'a str,
+    second: &'a str,
+    account: &'a str,
+    trimmed: &'a str,
+) -> Option<Trim<'a>>
+    ensures some { IfSome result (λ asked. (asked.first.now ≡ first.now)
+        × (asked.second.now ≡ second.now)
+        × (asked.account.now ≡ account.now)
+        × (asked.trimmed.now ≡ trimmed.now)) }
+    ensures apart { IfSome result (λ asked. AreFourNames first.now second.now account.now trimmed.now) }
+    ensures none { IfNone result (AreFourNames first.now second.now account.now trimmed.now → ⊥) }
+{
+    if !are_four_names(first, second, account, trimmed) {
+        return None;
+    }
+    Some(Trim {
+        first,
+        second,
+        account,
+        trimmed,
+    })
+}
+
+/// What the words ask to convert: `convert`, and two names that aren't empty and differ.
+fn convert_asked(words: &[String]) -> Option<Convert<'_>>
+    ensures asked { IfSome result (λ asked. AsksConvert (map string_bytes words.now) (convert_request asked)) }
+    ensures not_asked { IfNone result
+        ((request : ConvertRequest) → AsksConvert (map string_bytes words.now) request → ⊥) }
+{
+    match words {
+        [command, account, converted] if command.as_str() == "convert" => {
+            convert_of(account.as_str(), converted.as_str())
+        }
+        _ => None,
+    }
+}
+
+/// What two names ask to convert.
+fn convert_of<'a>(account: &'a str, converted: &'a str) -> Option<Convert<'a>>
+    ensures some { IfSome result (λ asked. (asked.account.now ≡ account.now) × (asked.converted.now ≡ converted.now)) }
+    ensures apart { IfSome result (λ asked. AreTwoNames account.now converted.now) }
+    ensures none { IfNone result (AreTwoNames account.now converted.now → ⊥) }
+{
+    if !are_two_names(account, converted) {
+        return None;
+    }
+    Some(Convert { account, converted })
 }
 
 /// Whether four names aren't empty, and the last one is none of the others.

@@ -73,6 +73,10 @@ fn name_of(words: &[String], which: Which) -> Option<&str> {
         (Command::Restore(asked), Which::First) => Some(asked.first),
         (Command::Restore(asked), Which::Second) => Some(asked.second),
         (Command::Restore(asked), Which::Account) => Some(asked.account),
+        (Command::Trim(asked), Which::First) => Some(asked.first),
+        (Command::Trim(asked), Which::Second) => Some(asked.second),
+        (Command::Trim(asked), Which::Account) => Some(asked.account),
+        (Command::Convert(asked), Which::Account) => Some(asked.account),
         (Command::Info(info), Which::First) => Some(info.file),
         _ => None,
     }

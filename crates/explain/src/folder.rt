@@ -56,6 +56,8 @@ pub fn written_names(words: &[String]) -> [Option<&str>; 2] {
     match command_asked(words) {
         Some(Command::Match(asked)) => [Some(asked.account), None],
         Some(Command::Restore(asked)) => [Some(asked.restored), None],
+        Some(Command::Trim(asked)) => [Some(asked.trimmed), None],
+        Some(Command::Convert(asked)) => [Some(asked.converted), None],
         Some(Command::Make(asked)) => [Some(asked.first), Some(asked.second)],
         _ => [None, None],
     }

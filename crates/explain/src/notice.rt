@@ -8,6 +8,8 @@ pub(crate) const FORMS: &str = "\
 npnp match FIRST SECOND ACCOUNT [BUDGET [SEED]]
 npnp check FIRST SECOND ACCOUNT
 npnp restore FIRST SECOND ACCOUNT NEW
+npnp trim FIRST SECOND OLD NEW
+npnp convert OLD NEW
 npnp info FILE [BUDGET]
 npnp make NUMBER FIRST SECOND
 npnp trial NUMBER
@@ -21,9 +23,11 @@ FIRST, SECOND and FILE are netlists, BLIF or AIGER (text or binary). `match` loo
 port of
 FIRST its partner in SECOND, plain or inverted. It prints `matched` and the port table, or `no matching`, and writes
 ACCOUNT, which proves either. `check` tests such an account, whoever wrote it. Where it proves a match, `restore` writes
-NEW, as binary AIGER: the gates of SECOND with the ports of FIRST, with their names. `info` prints supports, unateness
-and symmetries. `make` writes the pair of netlists that NUMBER gives, FIRST as binary AIGER and SECOND as BLIF: they
-match. `trial` makes it in memory, looks for its match and checks the account.
+NEW, as binary AIGER: the gates of SECOND with the ports of FIRST, with their names. `trim` tests the account OLD, and
+writes NEW: OLD as text, without what its conclusion doesn't rest on. `convert` writes NEW: the account OLD in the other
+version, 1 (text) or 2 (bytes). `info` prints supports, unateness and symmetries. `make` writes the pair of netlists
+that NUMBER gives, FIRST as binary AIGER and SECOND as BLIF: they match. `trial` makes it in memory, looks for its match
+and checks the account.
 
 BUDGET  how many clauses may be learned, by default 1000000000
 SEED    chooses the vectors that are simulated, by default 1
@@ -31,7 +35,7 @@ NUMBER  gives the pair of netlists
 All three are 1 to 20 decimal digits, below 18446744073709551616.
 
 status  the report begins with
-0       `matched`, `accepted match`, `restored`, the rows of `info`, `made` or `trial`
+0       `matched`, `accepted match`, `restored`, `trimmed`, `converted`, the rows of `info`, `made` or `trial`
 1       `no matching` or `accepted refusal`
 2       `rejected`: a line of the account is wrong
 3       `spent`: the budget was spent before the answer

@@ -15,6 +15,7 @@ pub enum Slot {
     Number,
     Budget,
     Seed,
+    Old,
     New,
 }
 
@@ -29,6 +30,7 @@ impl fmt::Display for Slot {
             Slot::Number => "NUMBER",
             Slot::Budget => "BUDGET",
             Slot::Seed => "SEED",
+            Slot::Old => "OLD",
             Slot::New => "NEW",
         })
     }
@@ -56,6 +58,12 @@ const CHECK: &[Slot] = &[Slot::First, Slot::Second, Slot::Account];
 /// The words after `restore`: those of a check, and the file that is written.
 const RESTORE: &[Slot] = &[Slot::First, Slot::Second, Slot::Account, Slot::New];
 
+/// The words after `trim`: those of a check, and the file that is written.
+const TRIM: &[Slot] = &[Slot::First, Slot::Second, Slot::Old, Slot::New];
+
+/// The words after `convert`: an account, and the file that is written.
+const CONVERT: &[Slot] = &[Slot::Old, Slot::New];
+
 /// The words after `info`, of which BUDGET may be left out.
 const INFO: &[Slot] = &[Slot::File, Slot::Budget];
 
@@ -71,6 +79,8 @@ fn form_of(command: &str) -> Option<CommandForm> {
         "match" => (MATCH, 3),
         "check" => (CHECK, 3),
         "restore" => (RESTORE, 4),
+        "trim" => (TRIM, 4),
+        "convert" => (CONVERT, 2),
         "info" => (INFO, 1),
         "make" => (MAKE, 3),
         "trial" => (TRIAL, 1),
@@ -206,6 +216,15 @@ fn same_file<'a>(command: &str, operands: &[String]) -> Option<WordFault<'a>> {
             ];
             same_as(Slot::New, new.as_str(), &others)
         }
+        ("trim", [first, second, old, new]) => {
+            let others = [
+                (Slot::First, first.as_str()),
+                (Slot::Second, second.as_str()),
+                (Slot::Old, old.as_str()),
+            ];
+            same_as(Slot::New, new.as_str(), &others)
+        }
+        ("convert", [old, new]) => same_as(Slot::New, new.as_str(), &[(Slot::Old, old.as_str())]),
         ("make", [_, first, second]) => {
             same_as(
                 Slot::Second,

@@ -18,6 +18,9 @@ ghost use Rattle.run_steps.specs.Outcomes.{FollowsWords, IsAskedOf, IsDecided, I
 ghost use Rattle.run_steps.specs.Outcomes.{IsSettled};
 ghost use Rattle.run_steps.specs.Outcomes.{IsSoundAnswer, IsSpentOn, IsReported, Leaves, LeavesFiles, MayBeCut};
 ghost use Rattle.run_steps.specs.Restore.{AsChecked, HasRestored, IsRestorable, NamesRestored};
+ghost use Rattle.run_steps.specs.Trim.{AsRead, HasTrimmed, IsAskedToTrim, IsOfTrim, IsTrimmedTo, NamesTrimmed};
+ghost use Rattle.run_steps.specs.Convert.{HasConverted, IsAskedToConvert, IsConvertedTo, IsIllFormed, IsOfConvert};
+ghost use Rattle.run_steps.specs.Convert.{LacksOld, NamesConverted};
 ghost use Rattle.run_steps.specs.Report.{IsReport};
 ghost use Rattle.check_steps.specs.Lines.{line_of};
 ghost use Rattle.run_steps.specs.Steps.{Decides, SaysLine, PutsText, WritesPart};
@@ -30,8 +33,9 @@ use crate::matching::match_files;
 use crate::trying::try_pair;
 use account_check::Verdict;
 pub use check_steps::Ending;
-use check_steps::{Command, Outcome, check_files, command_asked, report_line};
+use check_steps::{Command, Outcome, Which, check_files, command_asked, report_line};
 use restore_steps::restore_files;
+use rewrite_steps::{convert_files, trim_files};
 use run_steps::make_files;
 use shelf_core::{Shelf, ShelfStop, Sink};
 use std::alloc::Global;
@@ -54,6 +58,12 @@ const OUT_OF_MEMORY: &[u8] = b"out of memory\n";
 /// - `restore FIRST SECOND ACCOUNT NEW`: where ACCOUNT proves a match of the netlists FIRST and SECOND, as a check by
 ///   these names would say, NEW is written, in the binary form of AIGER: SECOND's gates with FIRST's ports, with
 ///   their names and in their order. The name NEW is none of the others.
+/// - `trim FIRST SECOND OLD NEW`: where OLD is an account of the netlists FIRST and SECOND that is accepted, as a check
+///   by these names would say, NEW is written: OLD as text, without the records that its conclusion doesn't rest on.
+///   The name NEW is none of the others.
+/// - `convert OLD NEW`: where OLD is an account, in the text or in the binary form, without a fault of form, NEW is
+///   written: the same records in the other form, the binary one with drops of facts and bans that no later record
+///   names. The two names differ.
 /// - `info FILE [BUDGET]`: FILE is a netlist. Its supports, unateness and symmetries are decided; at most BUDGET
 ///   clauses are learned for that, by default 1,000,000,000.
 /// - `make NUMBER FIRST SECOND`: the pair of netlists that NUMBER gives is made, and written to the files FIRST, in the
@@ -62,9 +72,9 @@ const OUT_OF_MEMORY: &[u8] = b"out of memory\n";
 ///   budget and seed, and the account of the match is checked. No file is read or written.
 ///
 /// The files are opened in this order, each read and closed before the next. A netlist of more than 67,108,864
-/// bytes is closed unread. The account of a match is written once its answer is known: its lines in pieces of 65,536
-/// bytes, and its last line by itself. The files of a pair, and a netlist that is restored, are written one after the
-/// other in such pieces. After a failure no further call of the shelf is made.
+/// bytes is closed unread. An account is written once it is known: its records in pieces of 65,536 bytes, and its
+/// last one by itself. The files of a pair, and a netlist that is restored, are written one after the other in such
+/// pieces. After a failure no further call of the shelf is made.
 ///
 /// The sink gets what the run is at, and gets the report at the end.
 ///
@@ -99,7 +109,8 @@ pub fn run<S: Shelf, K: Sink>(
 
     // Where no call failed and memory did not run out, the words and the files decide the outcome: an account that is
     // accepted, or its first bad record; a netlist that isn't there, is too large, or is malformed, and where. For
-    // `restore` the first three files decide as for a check of them, but for an accepted match.
+    // `restore` and `trim` the first three files decide as for a check of them, but for an account that is accepted: of
+    // a match, or any. For `convert` a bad record is one that has a fault of form.
     ensures accepted { IsTrue S.tells → IsDecided result → (matching : Matching)
         → ((result ≡ Outcome.AcceptedMatch matching)
         ↔ IsAccepted (S.state shelf.old).held (bytes_of words.now) (Verdict.Match matching)) }
@@ -109,20 +120,20 @@ pub fn run<S: Shelf, K: Sink>(
         (bytes_of words.now)) }
     ensures rejected { IsTrue S.tells → IsDecided result → (line : ℕ) (why : Reason)
         → ((result ≡ Outcome.Rejected line why)
-        ↔ AsChecked (λ checked. IsRejected (S.state shelf.old).held checked line why)
-        (bytes_of words.now)) }
+        ↔ (AsRead (λ checked. IsRejected (S.state shelf.old).held checked line why) (bytes_of words.now)
+        ⊎ IsIllFormed (S.state shelf.old).held (bytes_of words.now) line why)) }
     ensures absent { IsTrue S.tells → IsDecided result → (which : AnyFile)
         → ((result ≡ Outcome.Absent which)
-        ↔ AsChecked (λ checked. IsAbsent (S.state shelf.old).held checked which)
-        (bytes_of words.now)) }
+        ↔ (AsRead (λ checked. IsAbsent (S.state shelf.old).held checked which) (bytes_of words.now)
+        ⊎ ((which ≡ Which.Account) × LacksOld (S.state shelf.old).held (bytes_of words.now)))) }
     ensures too_large { IsTrue S.tells → IsDecided result → (which : AnyFile)
         → ((result ≡ Outcome.TooLarge which)
-        ↔ AsChecked (λ checked. EndsEarly (S.state shelf.old).held checked (Outcome.TooLarge which))
+        ↔ AsRead (λ checked. EndsEarly (S.state shelf.old).held checked (Outcome.TooLarge which))
         (bytes_of words.now)) }
     ensures malformed { IsTrue S.tells → IsDecided result
         → (which : AnyFile) (kind : NetKind) (at : ℕ)
         → ((result ≡ Outcome.Malformed which kind at)
-        ↔ AsChecked
+        ↔ AsRead
         (λ checked. EndsEarly (S.state shelf.old).held checked (Outcome.Malformed which kind at))
         (bytes_of words.now)) }
 
@@ -158,6 +169,28 @@ pub fn run<S: Shelf, K: Sink>(
     ensures restored_file { IsTrue S.tells → (gates : ℕ) → result ≡ Outcome.Restored gates
         → HasRestored (S.state shelf.old).held (S.state shelf.new).held (bytes_of words.now) gates }
 
+    // An account is trimmed exactly where the words ask for it and a check by the first three names accepts it, unless
+    // a fault came or memory ran out. The new file has what is left of it then: each record is one on which the
+    // conclusion rests, and a check accepts it with the same answer.
+    ensures trimmed { IsTrue S.tells → IsDecided result → (before after : ℕ)
+        → ((result ≡ Outcome.Trimmed before after)
+        ↔ IsTrimmedTo (S.state shelf.old).held (bytes_of words.now) before after) }
+    ensures trims { IsTrue S.tells → IsDecided result
+        → IsAskedToTrim (S.state shelf.old).held (bytes_of words.now) → IsOfTrim result }
+    ensures trimmed_file { IsTrue S.tells → (before after : ℕ) → result ≡ Outcome.Trimmed before after
+        → HasTrimmed (S.state shelf.old).held (S.state shelf.new).held (bytes_of words.now) before after }
+
+    // An account is converted exactly where the words ask for it and it has no fault of form, unless a fault came or
+    // memory ran out. The new file has it in the other version then: the same records, drops aside, which prove what
+    // they did.
+    ensures converted { IsTrue S.tells → IsDecided result → (from to records : ℕ)
+        → ((result ≡ Outcome.Converted from to records)
+        ↔ IsConvertedTo (S.state shelf.old).held (bytes_of words.now) from to records) }
+    ensures converts { IsTrue S.tells → IsDecided result
+        → IsAskedToConvert (S.state shelf.old).held (bytes_of words.now) → IsOfConvert result }
+    ensures converted_file { IsTrue S.tells → (from to records : ℕ) → result ≡ Outcome.Converted from to records
+        → HasConverted (S.state shelf.old).held (S.state shelf.new).held (bytes_of words.now) from to records }
+
     // A pair was tried only where its number is that of the words and the account, which the outcome has, is accepted
     // for it: it proves a matching that is a match. Nothing else comes of a trial, but that the budget is spent on the
     // pair.
@@ -187,13 +220,16 @@ pub fn run<S: Shelf, K: Sink>(
     ensures no_put_follows { NoPutFollows (K.state out.old) (K.state out.new) }
 
     // No file changes but the account of a match, and that one only where there is an answer, the two files of a pair,
-    // and that of a netlist which is restored. A failed write or running out of memory may leave a first part of an
-    // account that is accepted, of a netlist that is restored, or of the pair's first netlist, and only where that is
-    // whole a part of the second.
+    // that of a netlist which is restored, and that of an account which is trimmed or converted. A failed write or
+    // running out of memory may leave a first part of an account that is accepted, of a netlist that is restored, of an
+    // account that is trimmed or converted, or of the pair's first netlist, and only where that is whole a part of the
+    // second.
     ensures files { IsTrue S.tells → (name : List ℕ)
         → (NamesAccount (bytes_of words.now) name → ⊥)
         → (NamesPair (bytes_of words.now) name → ⊥)
         → (NamesRestored (bytes_of words.now) name → ⊥)
+        → (NamesTrimmed (bytes_of words.now) name → ⊥)
+        → (NamesConverted (bytes_of words.now) name → ⊥)
         → (S.state shelf.new).held name ≡ (S.state shelf.old).held name }
     ensures kept { IsTrue S.tells → LeavesFiles result → (name : List ℕ)
         → (S.state shelf.new).held name ≡ (S.state shelf.old).held name }
@@ -229,6 +265,8 @@ fn answer<S: Shelf, W: Watch>(alloc: Global, words: &[String], shelf: &mut S, wa
         → (NamesAccount (bytes_of words.now) name → ⊥)
         → (NamesPair (bytes_of words.now) name → ⊥)
         → (NamesRestored (bytes_of words.now) name → ⊥)
+        → (NamesTrimmed (bytes_of words.now) name → ⊥)
+        → (NamesConverted (bytes_of words.now) name → ⊥)
         → (S.state shelf.new).held name ≡ (S.state shelf.old).held name }
     ensures left { IsTrue S.tells
         → Leaves (S.state shelf.old).held (S.state shelf.new).held (bytes_of words.now) result.outcome }
@@ -267,6 +305,8 @@ fn follow<S: Shelf, W: Watch>(
     match command {
         Command::Check(check) => check_files(alloc, check, shelf, watch),
         Command::Restore(asked) => restore_files(alloc, asked, shelf, watch),
+        Command::Trim(asked) => trim_files(alloc, asked, shelf, watch),
+        Command::Convert(asked) => convert_files(alloc, asked, shelf),
         Command::Match(asked) => match_files(alloc, asked, shelf, watch),
         Command::Info(info) => inform(alloc, info, shelf, watch),
         Command::Make(asked) => make_files(alloc, asked, shelf),

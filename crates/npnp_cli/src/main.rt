@@ -71,6 +71,8 @@ fn account_read(words: &[String]) -> Option<&str> {
     match command_asked(words)? {
         Command::Check(check) => Some(check.account),
         Command::Restore(asked) => Some(asked.account),
+        Command::Trim(asked) => Some(asked.account),
+        Command::Convert(asked) => Some(asked.account),
         _ => None,
     }
 }

@@ -76,7 +76,7 @@ module _ (tells : Bool) (asked : RestoreWords) (old now : ShelfState) (answer : 
       let judged = judges.judged in
       record {
         files = λ t n unwritten. judges.files n;
-        left = λ t words asks. subst (Leaves old.held now.held words) (sym is) (leaves old.held now.held words answer.outcome judged.unmatched judged.no_match judged.no_pair judged.no_netlist judges.files);
+        left = λ t words asks. subst (Leaves old.held now.held words) (sym is) (leaves old.held now.held words answer.outcome judged.unmatched judged.no_match judged.no_pair judged.no_netlist judged.untrimmed judged.unconverted judges.files);
         right = λ t words asks. subst (IsRight old.held words) (sym is) (checked_right other t words asks);
         by_words = λ words asks. subst (FollowsWords words) (sym is) (follows_files words answer.outcome (reads asked words asks) judged.no_pair judged.no_trial);
         sound = λ t words asks. subst (IsSoundAnswer old.held words) (sym is) (sound_answer other t words asks);
@@ -155,7 +155,7 @@ module _ (tells : Bool) (asked : RestoreWords) (old now : ShelfState) (answer : 
       let name = asked.restored.now in
       elim (restores.part t) [
         | inl same ↦ inl (λ n. everywhere old.held new.held name (λ m other. restores.others t m other ∙ judges.files m) (same ∙ judges.files name) n (bytes_eq n name) refl)
-        | inr (restored, ported, first_part) ↦ inr (inr (inr (record {
+        | inr (restored, ported, first_part) ↦ inr (inr (inr (inl (record {
           request = restore_request asked;
           asks = asks;
           first = netlist_of judges.first.circuit answer.first;
@@ -167,7 +167,7 @@ module _ (tells : Bool) (asked : RestoreWords) (old now : ShelfState) (answer : 
           restored = is_restored (old.held asked.first.now) (old.held asked.second.now) judges.first.circuit answer.first answer.second restored (judges.first.held t) judges.first.computes (second_netlist t) ported;
           count = first_part.0;
           part = first_part.1;
-        })))
+        }))))
       ]
 
   pub restores_decides : (new : ShelfState) (result : Result Ending Outcome) → Restores tells answer.first answer.second asked.restored.now now new result → Decides tells (asked_restore asked) old new result

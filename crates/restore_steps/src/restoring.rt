@@ -1,9 +1,8 @@
 //! A netlist with the ports of another one that it matches, written to a file.
 
-ghost use Rattle.std.specs.Prelude.{◌≡◌, IfOk, IfErr};
+ghost use Rattle.std.specs.Prelude.{◌≡◌, IfOk};
 ghost use Rattle.circuits.specs.Matches.{IsMatchOfFunctions};
 ghost use Rattle.shelf_core.specs.State.{Closed};
-ghost use Rattle.check_steps.specs.Lines.{line_of};
 ghost use Rattle.run_steps.specs.Commands.{asked_restore};
 ghost use Rattle.run_steps.specs.Steps.{Decides};
 ghost use Rattle.restore_steps.specs.Restoring.{HasFirstPorts, Restores};
@@ -14,7 +13,7 @@ use net_core::Matching;
 use net_file::Named;
 use net_print::AigParts;
 use port_moves::restored;
-use run_steps::write_named;
+use run_steps::{reported, write_named};
 use shelf_core::Shelf;
 use std::alloc::{AllocError, Global};
 use watch_core::Watch;
@@ -48,19 +47,6 @@ pub fn restore_files<S: Shelf, W: Watch>(
         }
         other => reported(alloc, other),
     }
-}
-
-/// The end of a run by a verdict that its line says.
-fn reported(alloc: Global, verdict: Outcome) -> Result<Ending, Outcome>
-    ensures same { IfOk result (λ ending. ending.outcome ≡ verdict) }
-    ensures line { IfOk result (λ ending. ending.report.items ≡ line_of verdict) }
-    ensures memory { IfErr result (λ outcome. outcome ≡ Outcome.Memory) }
-{
-    let report = report_line(alloc, &verdict)?;
-    Ok(Ending {
-        outcome: verdict,
-        report,
-    })
 }
 
 /// Writes the second of two netlists with the first one's ports, by a match of them. The error is that memory ran

@@ -1,5 +1,5 @@
 -- The words and the files determine what is answered.
-use Rattle.std.proofs.Common.{◌≡◌, ◌≢◌, ℕ, ◌↔◌, ◌⊎◌, inl, inr, Bool, IsTrue, List, [], length, get_or, Option, None, Some, Result, Ok, Err, refl, sym, ◌∙◌, ap, subst, arith}
+use Rattle.std.proofs.Common.{◌≡◌, ◌≢◌, ℕ, ◌↔◌, ◌⊎◌, inl, inr, zero, suc, Bool, IsTrue, List, [], length, get_or, Option, None, Some, Result, Ok, Err, refl, sym, ◌∙◌, ap, subst, arith}
 use Rattle.shelf_core.specs.Fault.{NoCallFollows, Rose}
 use Rattle.circuits.specs.Levels.{IsOrderOf}
 use Rattle.circuits.specs.Netlists.{Net}
@@ -14,7 +14,16 @@ use Rattle.account_check.specs.declared.verdict.Why.{Why}
 use Rattle.account_check.proofs.VerdictLemmas.{one_rejection, one_proved, never_both}
 use Rattle.check_steps.specs.Circuits.{IsCircuit, IsCircuitFault}
 use Rattle.query_core.specs.Ledgers.{Ledgered}
-use Rattle.check_steps.specs.Words.{AsksCheck, AsksInfo, AsksMatch, AsksRestore, AskNothing, NameThree, ReadFiles, MatchRequest, RestoreRequest, check_words}
+use Rattle.account_file.specs.declared.fault.RecordFault.{RecordFault}
+use Rattle.account_check.specs.declared.verdict.Why.TheVariants.{Form}
+use Rattle.account_trim.specs.declared.trimming.Trimmed.{Trimmed as Left}
+use Rattle.account_trim.specs.Trims.{IsTrimmed}
+use Rattle.account_trim.proofs.OutcomeLemmas.{one_trimmed}
+use Rattle.account_convert.specs.declared.conversion.Converted.{Converted as Other}
+use Rattle.account_convert.specs.Conversions.{IsConverted, IsFaultAt}
+use Rattle.account_convert.proofs.LawLemmas.{converted_or_fault, one_converted, one_fault_at}
+use Rattle.check_steps.specs.Words.{AsksCheck, AsksConvert, AsksInfo, AsksMatch, AsksRestore, AsksTrim, AskNothing, NameThree, ReadFiles}
+use Rattle.check_steps.specs.Words.{ConvertRequest, MatchRequest, RestoreRequest, TrimRequest, check_words}
 use Rattle.run_steps.specs.Match.{HasNoMatch, IsAskedToMatch, IsMatchFound, IsSought, IsSpentOnTwo}
 use Rattle.circuits.specs.Matches.{AreNpnpEqual}
 use Rattle.check_steps.specs.Check.{HasAccount, IsAccepted, IsRejected, LacksAccount}
@@ -22,6 +31,10 @@ use Rattle.check_steps.specs.Held.{Netlist, HasNetlist, HasGraph, HasNetFault, H
 use Rattle.check_steps.specs.Ends.{EndsAt, EndsEarly, IsAbsent}
 use Rattle.run_steps.specs.Outcomes.{FollowsWords, IsAskedOf, IsSpentOn, IsOfOne, IsOfMatch, IsRight, IsDecided, IsSoundAnswer, IsReported, Leaves}
 use Rattle.run_steps.specs.Restore.{AsChecked, IsRestorable}
+use Rattle.run_steps.specs.Trim.{AsRead, IsAskedToTrim, IsOfTrim, IsTrimmedTo}
+use Rattle.run_steps.specs.Convert.{IsAskedToConvert, IsConvertedTo, IsIllFormed, IsOfConvert, LacksOld}
+use Rattle.account_file.specs.Accounts.{HasFormFault}
+use Rattle.account_file.proofs.VersionLemmas.{account_or_fault}
 use Rattle.shelf_core.specs.State.{ShelfState}
 use Rattle.run_steps.specs.Report.{IsReport}
 use Rattle.check_steps.specs.Reading.{IsEarly, IsOfReading}
@@ -34,7 +47,10 @@ use Rattle.run_steps.proofs.OutcomeLemmas.{of_unwritten}
 use Rattle.check_steps.specs.declared.outcome.Which.{Which}
 use Rattle.check_steps.specs.declared.outcome.Which.TheVariants.{First, Second, Account}
 use Rattle.check_steps.specs.declared.outcome.Outcome.{Outcome}
-use Rattle.check_steps.specs.declared.outcome.Outcome.TheVariants.{AcceptedMatch, AcceptedRefusal, Rejected, Matched, NoMatching, Spent, Usage, Absent, TooLarge, Malformed, Informed, Made, Restored, Tried, ReadFault, WriteFault, Memory}
+use Rattle.check_steps.specs.declared.outcome.Outcome.TheVariants.{AcceptedMatch, AcceptedRefusal, Rejected, Matched, NoMatching, Spent, Usage, Absent}
+use Rattle.check_steps.specs.declared.outcome.Outcome.TheVariants.{TooLarge, Malformed, Informed, Made, Restored, Trimmed, Converted, Tried, ReadFault, WriteFault, Memory}
+use Rattle.run_steps.proofs.FormLemmas.{convert_or_check, convert_or_info, convert_or_match, convert_or_restore, convert_or_trim}
+use Rattle.run_steps.proofs.FormLemmas.{check_of_trim, trim_or_check, trim_or_info, trim_or_match, trim_or_restore}
 use Rattle.run_steps.proofs.FormLemmas.{names_one, file_named, sought_one, check_of_restore, check_or_info, match_or_info, check_or_match, read_or_make, read_or_trial, reads_of, restore_or_check, restore_or_info, restore_or_match}
 use Rattle.check_steps.specs.Asks.{Ask}
 use Rattle.check_steps.specs.Checks.{Checks, IsOfCheck, IsSound}
@@ -114,31 +130,35 @@ graph_one content a b one other =
     let acyclic = circuit_acyclic bytes one.netlist.circuit one.netlist.input_names one.netlist.output_names one.holds.is in
     one_order one.netlist.circuit a b acyclic one.numbered (subst (λ circuit. IsOrderOf circuit b) (sym e) other.numbered)
 
--- what a run says of two graphs and of what an account of them proves
-abbrev pub Telling : Type 0
-Telling = Graphs → Verdict → Outcome
+-- How a run ends that judges an account of two graphs which proves this, by its command: 0 is a check, 1 restores a netlist,
+-- and any other number trims the account.
+abbrev pub Tells : ℕ → Graphs → List ℕ → Verdict → Outcome → Type 0
+Tells zero graphs account (verdict.Match matching) o = o ≡ AcceptedMatch matching
+Tells zero graphs account verdict.None o = o ≡ AcceptedRefusal
+Tells (suc zero) graphs account (verdict.Match matching) o = o ≡ Restored (length graphs.second.gates)
+Tells (suc zero) graphs account verdict.None o = o ≡ AcceptedRefusal
+Tells (suc (suc k)) graphs account proved o = (left : Left) × IsTrimmed graphs account left × (o ≡ Trimmed left.before left.after)
 
--- how the check of an account ends that proves this
-abbrev pub accepted_as : Graphs → Verdict → Outcome
-accepted_as graphs (verdict.Match matching) = AcceptedMatch matching
-accepted_as graphs verdict.None = AcceptedRefusal
-
--- and how a run ends that is to restore a netlist by it
-abbrev pub restored_as : Graphs → Verdict → Outcome
-restored_as graphs (verdict.Match matching) = Restored (length graphs.second.gates)
-restored_as graphs verdict.None = AcceptedRefusal
+told_once : (k : ℕ) (graphs : Graphs) (account : List ℕ) (proved : Verdict) (a b : Outcome) → Tells k graphs account proved a → Tells k graphs account proved b → a ≡ b
+told_once zero graphs account (verdict.Match matching) a b e e' = e ∙ sym e'
+told_once zero graphs account verdict.None a b e e' = e ∙ sym e'
+told_once (suc zero) graphs account (verdict.Match matching) a b e e' = e ∙ sym e'
+told_once (suc zero) graphs account verdict.None a b e e' = e ∙ sym e'
+told_once (suc (suc k)) graphs account proved a b (one, is, e) (other, is', e') =
+    let same = one_trimmed graphs account one other is is' in
+    e ∙ (ap (λ before. Trimmed before one.after) same.0 ∙ (ap (Trimmed other.before) same.1 ∙ sym e'))
 
 -- what the account's bytes answer
-abbrev pub IsAnswer : Telling → Graphs → List ℕ → Outcome → Type 0
-IsAnswer telling graphs account o =
-    ((proved : Verdict) × (o ≡ telling graphs proved) × Proves graphs account proved)
+abbrev pub IsAnswer : ℕ → Graphs → List ℕ → Outcome → Type 0
+IsAnswer k graphs account o =
+    ((proved : Verdict) × Tells k graphs account proved o × Proves graphs account proved)
     ⊎ ((line : ℕ) × (why : Why) × (o ≡ Rejected line why) × IsBadAt graphs account line why)
 
-answer_one : (telling : Telling) (graphs : Graphs) (account : List ℕ) (a b : Outcome) → IsAnswer telling graphs account a → IsAnswer telling graphs account b → a ≡ b
-answer_one telling graphs account a b one other =
+answer_one : (k : ℕ) (graphs : Graphs) (account : List ℕ) (a b : Outcome) → IsAnswer k graphs account a → IsAnswer k graphs account b → a ≡ b
+answer_one k graphs account a b one other =
     elim one [
       | inl (proved, e, proves) ↦ elim other [
-        | inl (proved', e', proves') ↦ e ∙ ap (telling graphs) (one_proved graphs account proved proved' proves proves') ∙ sym e'
+        | inl (proved', e', proves') ↦ told_once k graphs account proved a b e (subst (λ p. Tells k graphs account p b) (one_proved graphs account proved' proved proves' proves) e')
         | inr (line, why, e', bad) ↦ absurd (never_both graphs account proved line why proves bad)
       ]
       | inr (line, why, e, bad) ↦ elim other [
@@ -147,12 +167,31 @@ answer_one telling graphs account a b one other =
       ]
     ]
 
+-- what the bytes of an account answer that is to be converted
+abbrev pub IsOtherAnswer : List ℕ → Outcome → Type 0
+IsOtherAnswer account o =
+    ((new : Other) × IsConverted account new × (o ≡ Converted new.from new.to new.records))
+    ⊎ ((line : ℕ) × (fault : RecordFault) × (o ≡ Rejected line (Form fault)) × IsFaultAt account line fault)
+
+other_answer_one : (account : List ℕ) (a b : Outcome) → IsOtherAnswer account a → IsOtherAnswer account b → a ≡ b
+other_answer_one account a b one other =
+    elim one [
+      | inl (new, is, e) ↦ elim other [
+        | inl (new', is', e') ↦ let same = one_converted account new new' is is' in let f = same.0 in let t = same.1 in let r = same.2 in cc
+        | inr (line, fault, e', wrong) ↦ absurd (converted_or_fault account new line fault is wrong)
+      ]
+      | inr (line, fault, e, wrong) ↦ elim other [
+        | inl (new, is, e') ↦ absurd (converted_or_fault account new line fault is wrong)
+        | inr (line', fault', e', wrong') ↦ let same = one_fault_at account line line' fault fault' wrong wrong' in let l = same.0 in let w = same.1 in cc
+      ]
+    ]
+
 -- the outcome is what the words say, or what the files under their names say
 
-abbrev pub SaysAccount : Telling → (List ℕ → Option (List ℕ)) → List ℕ → List ℕ → List ℕ → Outcome → Type 0
-SaysAccount telling held first second account o =
+abbrev pub SaysAccount : ℕ → (List ℕ → Option (List ℕ)) → List ℕ → List ℕ → List ℕ → Outcome → Type 0
+SaysAccount k held first second account o =
     ((o ≡ Absent Account) × (held account ≡ None))
-    ⊎ ((graphs : Graphs) × HasGraph (held first) graphs.first × HasGraph (held second) graphs.second × (bytes : List ℕ) × (held account ≡ Some bytes) × IsAnswer telling graphs bytes o)
+    ⊎ ((graphs : Graphs) × HasGraph (held first) graphs.first × HasGraph (held second) graphs.second × (bytes : List ℕ) × (held account ≡ Some bytes) × IsAnswer k graphs bytes o)
 
 -- a file ends the run, or it is a netlist, and this is said
 abbrev pub SaysFile : Which → Option (List ℕ) → (Outcome → Type 0) → Outcome → Type 0
@@ -161,8 +200,8 @@ SaysFile file content says o = IsEnd file content o ⊎ ((f : Netlist) × HasNet
 abbrev pub SaysTwo : (List ℕ → Option (List ℕ)) → List ℕ → List ℕ → (Outcome → Type 0) → Outcome → Type 0
 SaysTwo held first second says o = SaysFile First (held first) (SaysFile Second (held second) says) o
 
-abbrev pub SaysThree : Telling → (List ℕ → Option (List ℕ)) → List ℕ → List ℕ → List ℕ → Outcome → Type 0
-SaysThree telling held first second account o = SaysTwo held first second (SaysAccount telling held first second account) o
+abbrev pub SaysThree : ℕ → (List ℕ → Option (List ℕ)) → List ℕ → List ℕ → List ℕ → Outcome → Type 0
+SaysThree k held first second account o = SaysTwo held first second (SaysAccount k held first second account) o
 
 abbrev pub request_of : List ℕ → List ℕ → List ℕ → List ℕ → RestoreRequest
 request_of first second account restored = record { first = first; second = second; account = account; restored = restored }
@@ -170,15 +209,30 @@ request_of first second account restored = record { first = first; second = seco
 named_restore : (words : List (List ℕ)) (request : RestoreRequest) → AsksRestore words request → AsksRestore words (request_of request.first request.second request.account request.restored)
 named_restore words request asks = record { form = asks.form; names = asks.names }
 
--- the words ask for a check by an account, or for a netlist to be restored by one
-abbrev pub JudgeBy : List (List ℕ) → Telling → List ℕ → List ℕ → List ℕ → Type 0
-JudgeBy words telling first second account =
-    (AsksCheck words first second account × (telling ≡ accepted_as))
-    ⊎ ((restored : List ℕ) × AsksRestore words (request_of first second account restored) × (telling ≡ restored_as))
+abbrev pub trim_of : List ℕ → List ℕ → List ℕ → List ℕ → TrimRequest
+trim_of first second account trimmed = record { first = first; second = second; account = account; trimmed = trimmed }
+
+named_trim : (words : List (List ℕ)) (request : TrimRequest) → AsksTrim words request → AsksTrim words (trim_of request.first request.second request.account request.trimmed)
+named_trim words request asks = record { form = asks.form; names = asks.names }
+
+-- the words ask for a check by an account, for a netlist to be restored by one, or for one to be trimmed
+abbrev pub JudgeBy : List (List ℕ) → ℕ → List ℕ → List ℕ → List ℕ → Type 0
+JudgeBy words k first second account =
+    (AsksCheck words first second account × (k ≡ 0))
+    ⊎ ((restored : List ℕ) × AsksRestore words (request_of first second account restored) × (k ≡ 1))
+    ⊎ ((trimmed : List ℕ) × AsksTrim words (trim_of first second account trimmed) × (k ≡ 2))
 
 abbrev pub SaysCheck : (List ℕ → Option (List ℕ)) → List (List ℕ) → Outcome → Type 0
 SaysCheck held words o =
-    (telling : Telling) × (first : List ℕ) × (second : List ℕ) × (account : List ℕ) × JudgeBy words telling first second account × SaysThree telling held first second account o
+    (k : ℕ) × (first : List ℕ) × (second : List ℕ) × (account : List ℕ) × JudgeBy words k first second account × SaysThree k held first second account o
+
+-- what is said of an account that is to be converted
+abbrev pub SaysOld : (List ℕ → Option (List ℕ)) → List ℕ → Outcome → Type 0
+SaysOld held account o =
+    ((o ≡ Absent Account) × (held account ≡ None)) ⊎ ((bytes : List ℕ) × (held account ≡ Some bytes) × IsOtherAnswer bytes o)
+
+abbrev pub SaysConvert : (List ℕ → Option (List ℕ)) → List (List ℕ) → Outcome → Type 0
+SaysConvert held words o = (request : ConvertRequest) × AsksConvert words request × SaysOld held request.account o
 
 abbrev pub SaysMatch : (List ℕ → Option (List ℕ)) → List (List ℕ) → Outcome → Type 0
 SaysMatch held words o = (sought : MatchRequest) × AsksMatch words sought × SaysTwo held sought.first sought.second IsOfMatch o
@@ -188,7 +242,7 @@ SaysInfo held words o = (file : List ℕ) × (budget : ℕ) × AsksInfo words fi
 
 abbrev pub Says : (List ℕ → Option (List ℕ)) → List (List ℕ) → Outcome → Type 0
 Says held words o =
-    ((o ≡ Usage) × AskNothing words) ⊎ SaysCheck held words o ⊎ SaysMatch held words o ⊎ SaysInfo held words o
+    ((o ≡ Usage) × AskNothing words) ⊎ SaysCheck held words o ⊎ SaysMatch held words o ⊎ SaysInfo held words o ⊎ SaysConvert held words o
 
 -- one outcome, or both are of one netlist, or of two of which a match is sought
 abbrev pub AreAlike : Outcome → Outcome → Type 0
@@ -197,8 +251,8 @@ AreAlike a b = (a ≡ b) ⊎ (IsOfOne a × IsOfOne b) ⊎ (IsOfMatch a × IsOfMa
 graphs_same : (a b : Graphs) → a.first ≡ b.first → a.second ≡ b.second → a ≡ b
 graphs_same a b e f = λ i. record { first = e i; second = f i }
 
-account_one : (telling : Telling) (held : List ℕ → Option (List ℕ)) (first second account : List ℕ) (a b : Outcome) → SaysAccount telling held first second account a → SaysAccount telling held first second account b → a ≡ b
-account_one telling held first second account a b one other =
+account_one : (k : ℕ) (held : List ℕ → Option (List ℕ)) (first second account : List ℕ) (a b : Outcome) → SaysAccount k held first second account a → SaysAccount k held first second account b → a ≡ b
+account_one k held first second account a b one other =
     elim one [
       | inl (e, none) ↦ elim other [
         | inl (e', none') ↦ e ∙ sym e'
@@ -209,7 +263,7 @@ account_one telling held first second account a b one other =
         | inr (graphs', f', g', bytes', there', answer') ↦
             let same = graphs_same graphs' graphs (graph_one (held first) graphs'.first graphs.first f' f) (graph_one (held second) graphs'.second graphs.second g' g) in
             let text : bytes' ≡ bytes = cc in
-            answer_one telling graphs bytes a b answer (subst (λ t. IsAnswer telling graphs t b) text (subst (λ two. IsAnswer telling two bytes' b) same answer'))
+            answer_one k graphs bytes a b answer (subst (λ t. IsAnswer k graphs t b) text (subst (λ two. IsAnswer k two bytes' b) same answer'))
       ]
     ]
 
@@ -271,44 +325,79 @@ follows_nothing words nothing = record {
 }
 
 -- the words name three files to be judged in one way
-abbrev AreSameJudged : Telling → List ℕ → List ℕ → List ℕ → Telling → List ℕ → List ℕ → List ℕ → Type 0
+abbrev AreSameJudged : ℕ → List ℕ → List ℕ → List ℕ → ℕ → List ℕ → List ℕ → List ℕ → Type 0
 AreSameJudged k f g t k' f' g' t' = (k' ≡ k) × (f' ≡ f) × (g' ≡ g) × (t' ≡ t)
 
 abbrev word_at : ℕ → List (List ℕ) → List ℕ
 word_at place words = get_or words place []
 
-judged_one : (words : List (List ℕ)) (k : Telling) (f g t : List ℕ) (k' : Telling) (f' g' t' : List ℕ) → JudgeBy words k f g t → JudgeBy words k' f' g' t' → AreSameJudged k f g t k' f' g' t'
+judged_one : (words : List (List ℕ)) (k : ℕ) (f g t : List ℕ) (k' : ℕ) (f' g' t' : List ℕ) → JudgeBy words k f g t → JudgeBy words k' f' g' t' → AreSameJudged k f g t k' f' g' t'
 judged_one words k f g t k' f' g' t' one other =
     elim one [
       | inl (asks, is) ↦ elim other [
         | inl (asks', is') ↦ let e = names_one words f g t f' g' t' asks asks' in (is' ∙ sym is, e.0, e.1, e.2)
-        | inr (r, asks', is') ↦ absurd (restore_or_check words (request_of f' g' t' r) f g t asks' asks)
+        | inr (inl (r, asks', is')) ↦ absurd (restore_or_check words (request_of f' g' t' r) f g t asks' asks)
+        | inr (inr (r, asks', is')) ↦ absurd (trim_or_check words (trim_of f' g' t' r) f g t asks' asks)
       ]
-      | inr (r, asks, is) ↦ elim other [
+      | inr (inl (r, asks, is)) ↦ elim other [
         | inl (asks', is') ↦ absurd (restore_or_check words (request_of f g t r) f' g' t' asks asks')
-        | inr (r', asks', is') ↦ let same = sym asks'.form ∙ asks.form in (is' ∙ sym is, ap (word_at 1) same, ap (word_at 2) same, ap (word_at 3) same)
+        | inr (inl (r', asks', is')) ↦ let same = sym asks'.form ∙ asks.form in (is' ∙ sym is, ap (word_at 1) same, ap (word_at 2) same, ap (word_at 3) same)
+        | inr (inr (r', asks', is')) ↦ absurd (trim_or_restore words (trim_of f' g' t' r') (request_of f g t r) asks' asks)
+      ]
+      | inr (inr (r, asks, is)) ↦ elim other [
+        | inl (asks', is') ↦ absurd (trim_or_check words (trim_of f g t r) f' g' t' asks asks')
+        | inr (inl (r', asks', is')) ↦ absurd (trim_or_restore words (trim_of f g t r) (request_of f' g' t' r') asks asks')
+        | inr (inr (r', asks', is')) ↦ let same = sym asks'.form ∙ asks.form in (is' ∙ sym is, ap (word_at 1) same, ap (word_at 2) same, ap (word_at 3) same)
       ]
     ]
 
-judged_or_nothing : (words : List (List ℕ)) (k : Telling) (f g t : List ℕ) → JudgeBy words k f g t → AskNothing words → ⊥
+judged_or_nothing : (words : List (List ℕ)) (k : ℕ) (f g t : List ℕ) → JudgeBy words k f g t → AskNothing words → ⊥
 judged_or_nothing words k f g t judge nothing =
     elim judge [
       | inl (asks, is) ↦ nothing.no_check f g t asks
-      | inr (r, asks, is) ↦ nothing.no_restore (request_of f g t r) asks
+      | inr (inl (r, asks, is)) ↦ nothing.no_restore (request_of f g t r) asks
+      | inr (inr (r, asks, is)) ↦ nothing.no_trim (trim_of f g t r) asks
     ]
 
-judged_or_match : (words : List (List ℕ)) (k : Telling) (f g t : List ℕ) (sought : MatchRequest) → JudgeBy words k f g t → AsksMatch words sought → ⊥
+judged_or_match : (words : List (List ℕ)) (k : ℕ) (f g t : List ℕ) (sought : MatchRequest) → JudgeBy words k f g t → AsksMatch words sought → ⊥
 judged_or_match words k f g t sought judge asked =
     elim judge [
       | inl (asks, is) ↦ check_or_match words f g t sought asks asked
-      | inr (r, asks, is) ↦ restore_or_match words (request_of f g t r) sought asks asked
+      | inr (inl (r, asks, is)) ↦ restore_or_match words (request_of f g t r) sought asks asked
+      | inr (inr (r, asks, is)) ↦ trim_or_match words (trim_of f g t r) sought asks asked
     ]
 
-judged_or_info : (words : List (List ℕ)) (k : Telling) (f g t file : List ℕ) (budget : ℕ) → JudgeBy words k f g t → AsksInfo words file budget → ⊥
+judged_or_info : (words : List (List ℕ)) (k : ℕ) (f g t file : List ℕ) (budget : ℕ) → JudgeBy words k f g t → AsksInfo words file budget → ⊥
 judged_or_info words k f g t file budget judge asked =
     elim judge [
       | inl (asks, is) ↦ check_or_info words f g t file budget asks asked
-      | inr (r, asks, is) ↦ restore_or_info words (request_of f g t r) file budget asks asked
+      | inr (inl (r, asks, is)) ↦ restore_or_info words (request_of f g t r) file budget asks asked
+      | inr (inr (r, asks, is)) ↦ trim_or_info words (trim_of f g t r) file budget asks asked
+    ]
+
+judged_or_convert : (words : List (List ℕ)) (k : ℕ) (f g t : List ℕ) (request : ConvertRequest) → JudgeBy words k f g t → AsksConvert words request → ⊥
+judged_or_convert words k f g t request judge asked =
+    elim judge [
+      | inl (asks, is) ↦ convert_or_check words request f g t asked asks
+      | inr (inl (r, asks, is)) ↦ convert_or_restore words request (request_of f g t r) asked asks
+      | inr (inr (r, asks, is)) ↦ convert_or_trim words request (trim_of f g t r) asked asks
+    ]
+
+convert_one : (held : List ℕ → Option (List ℕ)) (words : List (List ℕ)) (a b : Outcome) → SaysConvert held words a → SaysConvert held words b → a ≡ b
+convert_one held words a b (request, asks, says) (other, asks', says') =
+    let same : other.account ≡ request.account = ap (word_at 1) (sym asks'.form ∙ asks.form) in
+    let also : SaysOld held request.account b = subst (λ name. SaysOld held name b) same says' in
+    elim says [
+      | inl (e, none) ↦ elim also [
+        | inl (e', none') ↦ e ∙ sym e'
+        | inr (bytes, there, answer) ↦ cc
+      ]
+      | inr (bytes, there, answer) ↦ elim also [
+        | inl (e, none) ↦ cc
+        | inr (bytes', there', answer') ↦
+            let text : bytes' ≡ bytes = cc in
+            other_answer_one bytes a b answer (subst (λ t. IsOtherAnswer t b) text answer')
+      ]
     ]
 
 check_one : (held : List ℕ → Option (List ℕ)) (words : List (List ℕ)) (a b : Outcome) → SaysCheck held words a → SaysCheck held words b → a ≡ b
@@ -337,25 +426,36 @@ says_one held words a b one other =
         | inl (e', nothing') ↦ inl (e ∙ sym e')
         | inr (inl (k, f, g, t, judge, says)) ↦ absurd (judged_or_nothing words k f g t judge nothing)
         | inr (inr (inl (sought, asks, says))) ↦ absurd (nothing.no_match sought asks)
-        | inr (inr (inr (file, budget, asks, says))) ↦ absurd (nothing.no_info file budget asks)
+        | inr (inr (inr (inl (file, budget, asks, says)))) ↦ absurd (nothing.no_info file budget asks)
+        | inr (inr (inr (inr (request, asks, says)))) ↦ absurd (nothing.no_convert request asks)
       ]
       | inr (inl (k, f, g, t, judge, says)) ↦ elim other [
         | inl (e', nothing) ↦ absurd (judged_or_nothing words k f g t judge nothing)
         | inr (inl other') ↦ inl (check_one held words a b (k, f, g, t, judge, says) other')
         | inr (inr (inl (sought, asks', says'))) ↦ absurd (judged_or_match words k f g t sought judge asks')
-        | inr (inr (inr (file, budget, asks', says'))) ↦ absurd (judged_or_info words k f g t file budget judge asks')
+        | inr (inr (inr (inl (file, budget, asks', says')))) ↦ absurd (judged_or_info words k f g t file budget judge asks')
+        | inr (inr (inr (inr (request, asks', says')))) ↦ absurd (judged_or_convert words k f g t request judge asks')
       ]
       | inr (inr (inl (sought, asks, says))) ↦ elim other [
         | inl (e', nothing) ↦ absurd (nothing.no_match sought asks)
         | inr (inl (k, f, g, t, judge, says')) ↦ absurd (judged_or_match words k f g t sought judge asks)
         | inr (inr (inl other')) ↦ elim (match_one held words a b (sought, asks, says) other') [ inl same ↦ inl same | inr both ↦ inr (inr both) ]
-        | inr (inr (inr (file, budget, asks', says'))) ↦ absurd (match_or_info words sought file budget asks asks')
+        | inr (inr (inr (inl (file, budget, asks', says')))) ↦ absurd (match_or_info words sought file budget asks asks')
+        | inr (inr (inr (inr (request, asks', says')))) ↦ absurd (convert_or_match words request sought asks' asks)
       ]
-      | inr (inr (inr (file, budget, asks, says))) ↦ elim other [
+      | inr (inr (inr (inl (file, budget, asks, says)))) ↦ elim other [
         | inl (e', nothing) ↦ absurd (nothing.no_info file budget asks)
         | inr (inl (k, f, g, t, judge, says')) ↦ absurd (judged_or_info words k f g t file budget judge asks)
         | inr (inr (inl (sought, asks', says'))) ↦ absurd (match_or_info words sought file budget asks' asks)
-        | inr (inr (inr other')) ↦ elim (info_one held words a b (file, budget, asks, says) other') [ inl same ↦ inl same | inr both ↦ inr (inl both) ]
+        | inr (inr (inr (inl other'))) ↦ elim (info_one held words a b (file, budget, asks, says) other') [ inl same ↦ inl same | inr both ↦ inr (inl both) ]
+        | inr (inr (inr (inr (request, asks', says')))) ↦ absurd (convert_or_info words request file budget asks' asks)
+      ]
+      | inr (inr (inr (inr (request, asks, says)))) ↦ elim other [
+        | inl (e', nothing) ↦ absurd (nothing.no_convert request asks)
+        | inr (inl (k, f, g, t, judge, says')) ↦ absurd (judged_or_convert words k f g t request judge asks)
+        | inr (inr (inl (sought, asks', says'))) ↦ absurd (convert_or_match words request sought asks asks')
+        | inr (inr (inr (inl (file, budget, asks', says')))) ↦ absurd (convert_or_info words request file budget asks asks')
+        | inr (inr (inr (inr other'))) ↦ inl (convert_one held words a b (request, asks, says) other')
       ]
     ]
 
@@ -370,69 +470,85 @@ says_early held words o decided early =
       | inl at ↦
           let end = end_of First (held at.first_name) o decided at.ends in
           elim at.asks [
-            | inl asks ↦ inr (inl (accepted_as, at.first_name, at.second_name, at.account_name, inl (asks, refl), inl end))
+            | inl asks ↦ inr (inl (0, at.first_name, at.second_name, at.account_name, inl (asks, refl), inl end))
             | inr (budget, seed, asks) ↦ inr (inr (inl (named at.first_name at.second_name at.account_name budget seed, asks, inl end)))
           ]
       | inr (inl at) ↦
           let end = end_of Second (held at.second_name) o decided at.ends in
           elim at.asks [
-            | inl asks ↦ inr (inl (accepted_as, at.first_name, at.second_name, at.account_name, inl (asks, refl), inr (at.first, at.first_held, inl end)))
+            | inl asks ↦ inr (inl (0, at.first_name, at.second_name, at.account_name, inl (asks, refl), inr (at.first, at.first_held, inl end)))
             | inr (budget, seed, asks) ↦ inr (inr (inl (named at.first_name at.second_name at.account_name budget seed, asks, inr (at.first, at.first_held, inl end))))
           ]
-      | inr (inr at) ↦ inr (inr (inr (at.file_name, at.budget, at.asks, inl (end_of First (held at.file_name) o decided at.ends))))
+      | inr (inr at) ↦ inr (inr (inr (inl (at.file_name, at.budget, at.asks, inl (end_of First (held at.file_name) o decided at.ends)))))
     ]
 
-says_answer : (held : List ℕ → Option (List ℕ)) (words : List (List ℕ)) (graphs : Graphs) (bytes : List ℕ) (o : Outcome) → HasAccount held words graphs bytes → IsAnswer accepted_as graphs bytes o → Says held words o
+says_answer : (held : List ℕ → Option (List ℕ)) (words : List (List ℕ)) (graphs : Graphs) (bytes : List ℕ) (o : Outcome) → HasAccount held words graphs bytes → IsAnswer 0 graphs bytes o → Says held words o
 says_answer held words graphs bytes o has answer =
-    inr (inl (accepted_as, has.first_name, has.second_name, has.account_name, inl (has.asks, refl), inr (has.first_held.netlist, has.first_held.holds, inr (has.second_held.netlist, has.second_held.holds, inr (graphs, has.first_held, has.second_held, bytes, has.there, answer)))))
+    inr (inl (0, has.first_name, has.second_name, has.account_name, inl (has.asks, refl), inr (has.first_held.netlist, has.first_held.holds, inr (has.second_held.netlist, has.second_held.holds, inr (graphs, has.first_held, has.second_held, bytes, has.there, answer)))))
 
 says_absent : (held : List ℕ → Option (List ℕ)) (words : List (List ℕ)) (which : Which) → which ≡ Account → LacksAccount held words → Says held words (Absent which)
 says_absent held words which e lacks =
-    inr (inl (accepted_as, lacks.asked.first_name, lacks.asked.second_name, lacks.account_name, inl (lacks.asked.asks, refl), inr (lacks.first, lacks.asked.first_held, inr (lacks.second, lacks.asked.second_held, inl (ap Absent e, lacks.absent)))))
+    inr (inl (0, lacks.asked.first_name, lacks.asked.second_name, lacks.account_name, inl (lacks.asked.asks, refl), inr (lacks.first, lacks.asked.first_held, inr (lacks.second, lacks.asked.second_held, inl (ap Absent e, lacks.absent)))))
 
 says_of : (held : List ℕ → Option (List ℕ)) (words : List (List ℕ)) (o : Outcome) → IsAskedOf held words → IsOfOne o → Says held words o
-says_of held words o asked one = inr (inr (inr (asked.file_name, asked.budget, asked.asks, inr (asked.netlist, asked.there, one))))
+says_of held words o asked one = inr (inr (inr (inl (asked.file_name, asked.budget, asked.asks, inr (asked.netlist, asked.there, one)))))
 
 says_match : (held : List ℕ → Option (List ℕ)) (words : List (List ℕ)) (first second : Netlist) (o : Outcome) → IsSought held words first second → IsOfMatch o → Says held words o
 says_match held words first second o is of_match =
     inr (inr (inl (is.sought, is.asks, inr (first, is.first_held, inr (second, is.second_held, of_match)))))
 
--- what an account says of a check, but that there is a match, it says of a netlist that is to be restored
+-- What an account says of a check it says of another command too, where that tells this outcome as the check does: a
+-- restore all but a match, and a trim what isn't accepted.
 
-answer_too : (graphs : Graphs) (bytes : List ℕ) (o : Outcome) → ((matching : Matching) → o ≢ AcceptedMatch matching) → (proved : Verdict) → o ≡ accepted_as graphs proved → Proves graphs bytes proved → IsAnswer restored_as graphs bytes o
-answer_too graphs bytes o other (verdict.Match matching) e proves = absurd (other matching e)
-answer_too graphs bytes o other verdict.None e proves = inl (verdict.None, e, proves)
+abbrev IsToldToo : ℕ → Outcome → Type 0
+IsToldToo k o = (graphs : Graphs) (account : List ℕ) (proved : Verdict) → Tells 0 graphs account proved o → Tells k graphs account proved o
 
-account_too : (held : List ℕ → Option (List ℕ)) (f g t : List ℕ) (o : Outcome) → ((matching : Matching) → o ≢ AcceptedMatch matching) → SaysAccount accepted_as held f g t o → SaysAccount restored_as held f g t o
-account_too held f g t o other says =
+restore_too : (o : Outcome) → ((matching : Matching) → o ≢ AcceptedMatch matching) → IsToldToo 1 o
+restore_too o other graphs account (verdict.Match matching) e = absurd (other matching e)
+restore_too o other graphs account verdict.None e = e
+
+trim_too : (o : Outcome) → ((matching : Matching) → o ≢ AcceptedMatch matching) → o ≢ AcceptedRefusal → IsToldToo 2 o
+trim_too o other no_refusal graphs account (verdict.Match matching) e = absurd (other matching e)
+trim_too o other no_refusal graphs account verdict.None e = absurd (no_refusal e)
+
+account_too : (k : ℕ) (held : List ℕ → Option (List ℕ)) (f g t : List ℕ) (o : Outcome) → IsToldToo k o → SaysAccount 0 held f g t o → SaysAccount k held f g t o
+account_too k held f g t o too says =
     elim says [
       | inl absent ↦ inl absent
-      | inr (graphs, first, second, bytes, there, inl (proved, e, proves)) ↦ inr (graphs, first, second, bytes, there, answer_too graphs bytes o other proved e proves)
+      | inr (graphs, first, second, bytes, there, inl (proved, e, proves)) ↦ inr (graphs, first, second, bytes, there, inl (proved, too graphs bytes proved e, proves))
       | inr (graphs, first, second, bytes, there, inr bad) ↦ inr (graphs, first, second, bytes, there, inr bad)
     ]
 
-three_too : (held : List ℕ → Option (List ℕ)) (f g t : List ℕ) (o : Outcome) → ((matching : Matching) → o ≢ AcceptedMatch matching) → SaysThree accepted_as held f g t o → SaysThree restored_as held f g t o
-three_too held f g t o other says =
+three_too : (k : ℕ) (held : List ℕ → Option (List ℕ)) (f g t : List ℕ) (o : Outcome) → IsToldToo k o → SaysThree 0 held f g t o → SaysThree k held f g t o
+three_too k held f g t o too says =
     elim says [
       | inl end ↦ inl end
       | inr (first, there, inl end) ↦ inr (first, there, inl end)
-      | inr (first, there, inr (second, also, account)) ↦ inr (first, there, inr (second, also, account_too held f g t o other account))
+      | inr (first, there, inr (second, also, account)) ↦ inr (first, there, inr (second, also, account_too k held f g t o too account))
     ]
 
--- what the words of a check say, words that ask for a netlist to be restored say too
-says_restore : (held : List ℕ → Option (List ℕ)) (words : List (List ℕ)) (request : RestoreRequest) (o : Outcome) → AsksRestore words request → ((matching : Matching) → o ≢ AcceptedMatch matching) → Says held (check_words request.first request.second request.account) o → Says held words o
-says_restore held words request o asks other says =
-    let checked = check_words request.first request.second request.account in
-    let check = check_of_restore words request asks in
+-- what the words of a check say, words that ask for another command by the same names say too
+says_by : (held : List ℕ → Option (List ℕ)) (words : List (List ℕ)) (k : ℕ) (f g t : List ℕ) (o : Outcome) → JudgeBy words k f g t → AsksCheck (check_words f g t) f g t → IsToldToo k o → Says held (check_words f g t) o → Says held words o
+says_by held words k f g t o by check too says =
+    let checked = check_words f g t in
     elim says [
-      | inl (e, nothing) ↦ absurd (nothing.no_check request.first request.second request.account check)
-      | inr (inl (k, f, g, t, judge, fact)) ↦
-          let e = judged_one checked accepted_as request.first request.second request.account k f g t (inl (check, refl)) judge in
-          let same : SaysThree accepted_as held request.first request.second request.account o = subst (λ n. SaysThree n held request.first request.second request.account o) e.0 (subst (λ n. SaysThree k held n request.second request.account o) e.1 (subst (λ n. SaysThree k held f n request.account o) e.2 (subst (λ n. SaysThree k held f g n o) e.3 fact))) in
-          inr (inl (restored_as, request.first, request.second, request.account, inr (request.restored, named_restore words request asks, refl), three_too held request.first request.second request.account o other same))
-      | inr (inr (inl (sought, asks', fact))) ↦ absurd (check_or_match checked request.first request.second request.account sought check asks')
-      | inr (inr (inr (file, budget, asks', fact))) ↦ absurd (check_or_info checked request.first request.second request.account file budget check asks')
+      | inl (e, nothing) ↦ absurd (nothing.no_check f g t check)
+      | inr (inl (k', f', g', t', judge, fact)) ↦
+          let e = judged_one checked 0 f g t k' f' g' t' (inl (check, refl)) judge in
+          let same : SaysThree 0 held f g t o = subst (λ n. SaysThree n held f g t o) e.0 (subst (λ n. SaysThree k' held n g t o) e.1 (subst (λ n. SaysThree k' held f' n t o) e.2 (subst (λ n. SaysThree k' held f' g' n o) e.3 fact))) in
+          inr (inl (k, f, g, t, by, three_too k held f g t o too same))
+      | inr (inr (inl (sought, asks', fact))) ↦ absurd (check_or_match checked f g t sought check asks')
+      | inr (inr (inr (inl (file, budget, asks', fact)))) ↦ absurd (check_or_info checked f g t file budget check asks')
+      | inr (inr (inr (inr (request, asks', fact)))) ↦ absurd (convert_or_check checked request f g t asks' check)
     ]
+
+says_restore : (held : List ℕ → Option (List ℕ)) (words : List (List ℕ)) (request : RestoreRequest) (o : Outcome) → AsksRestore words request → ((matching : Matching) → o ≢ AcceptedMatch matching) → Says held (check_words request.first request.second request.account) o → Says held words o
+says_restore held words request o asks other =
+    says_by held words 1 request.first request.second request.account o (inr (inl (request.restored, named_restore words request asks, refl))) (check_of_restore words request asks) (restore_too o other)
+
+says_trim : (held : List ℕ → Option (List ℕ)) (words : List (List ℕ)) (request : TrimRequest) (o : Outcome) → AsksTrim words request → ((matching : Matching) → o ≢ AcceptedMatch matching) → o ≢ AcceptedRefusal → Says held (check_words request.first request.second request.account) o → Says held words o
+says_trim held words request o asks other no_refusal =
+    says_by held words 2 request.first request.second request.account o (inr (inr (request.trimmed, named_trim words request asks, refl))) (check_of_trim words request asks) (trim_too o other no_refusal)
 
 -- so what is right as checked is said
 says_checked : (held : List ℕ → Option (List ℕ)) (words : List (List ℕ)) (o : Outcome) (P : List (List ℕ) → Type 0) → ((checked : List (List ℕ)) → P checked → Says held checked o) → ((matching : Matching) → o ≢ AcceptedMatch matching) → AsChecked P words → Says held words o
@@ -442,17 +558,51 @@ says_checked held words o P each other right =
       | inr (request, asks, is) ↦ says_restore held words request o asks other (each (check_words request.first request.second request.account) is)
     ]
 
--- a netlist is restored by an account that a check accepts
+says_read : (held : List ℕ → Option (List ℕ)) (words : List (List ℕ)) (o : Outcome) (P : List (List ℕ) → Type 0) → ((checked : List (List ℕ)) → P checked → Says held checked o) → ((matching : Matching) → o ≢ AcceptedMatch matching) → o ≢ AcceptedRefusal → AsRead P words → Says held words o
+says_read held words o P each other no_refusal right =
+    elim right [
+      | inl is ↦ says_checked held words o P each other is
+      | inr (request, asks, is) ↦ says_trim held words request o asks other no_refusal (each (check_words request.first request.second request.account) is)
+    ]
+
+-- an account of these three names that is accepted is told by the command that names them
+says_told : (held : List ℕ → Option (List ℕ)) (words : List (List ℕ)) (k : ℕ) (f g t : List ℕ) (o : Outcome) (proved : Verdict) → JudgeBy words k f g t → AsksCheck (check_words f g t) f g t → (is : IsAccepted held (check_words f g t) proved) → Tells k is.graphs is.account proved o → Says held words o
+says_told held words k f g t o proved by check is tells =
+    let has = is.has in
+    let graphs = is.graphs in
+    let e = names_one (check_words f g t) f g t has.first_name has.second_name has.account_name check has.asks in
+    let first = subst (λ name. HasGraph (held name) graphs.first) e.0 has.first_held in
+    let second = subst (λ name. HasGraph (held name) graphs.second) e.1 has.second_held in
+    let there = subst (λ name. held name ≡ Some is.account) e.2 has.there in
+    inr (inl (k, f, g, t, by, inr (first.netlist, first.holds, inr (second.netlist, second.holds, inr (graphs, first, second, is.account, there, inl (proved, tells, is.accepted))))))
+
 says_restored : (held : List ℕ → Option (List ℕ)) (words : List (List ℕ)) (gates : ℕ) → IsRestorable held words gates → Says held words (Restored gates)
 says_restored held words gates is =
     let request = is.request in
-    let has = is.accepted.has in
-    let graphs = is.accepted.graphs in
-    let e = names_one (check_words request.first request.second request.account) request.first request.second request.account has.first_name has.second_name has.account_name (check_of_restore words request is.asks) has.asks in
-    let first = subst (λ name. HasGraph (held name) graphs.first) e.0 has.first_held in
-    let second = subst (λ name. HasGraph (held name) graphs.second) e.1 has.second_held in
-    let there = subst (λ name. held name ≡ Some is.accepted.account) e.2 has.there in
-    inr (inl (restored_as, request.first, request.second, request.account, inr (request.restored, named_restore words request is.asks, refl), inr (first.netlist, first.holds, inr (second.netlist, second.holds, inr (graphs, first, second, is.accepted.account, there, inl (verdict.Match is.matching, ap Restored is.gates_are, is.accepted.accepted))))))
+    says_told held words 1 request.first request.second request.account (Restored gates) (verdict.Match is.matching) (inr (inl (request.restored, named_restore words request is.asks, refl))) (check_of_restore words request is.asks) is.accepted (ap Restored is.gates_are)
+
+says_trimmed : (held : List ℕ → Option (List ℕ)) (words : List (List ℕ)) (before after : ℕ) → IsTrimmedTo held words before after → Says held words (Trimmed before after)
+says_trimmed held words before after trim =
+    let request = trim.is.request in
+    says_told held words 2 request.first request.second request.account (Trimmed before after) trim.is.told (inr (inr (request.trimmed, named_trim words request trim.is.asks, refl))) (check_of_trim words request trim.is.asks) trim.is.accepted
+    (trim.trimmed, trim.is.is, ap (λ n. Trimmed n after) trim.before_is ∙ ap (Trimmed trim.trimmed.before) trim.after_is)
+
+-- and so are an account that is converted, its first fault of form, and that there is none
+
+says_converted : (held : List ℕ → Option (List ℕ)) (words : List (List ℕ)) (from to records : ℕ) → IsConvertedTo held words from to records → Says held words (Converted from to records)
+says_converted held words from to records is =
+    let f = is.from_is in
+    let t = is.to_is in
+    let r = is.records_are in
+    let told : Converted from to records ≡ Converted is.converted.from is.converted.to is.converted.records = cc in
+    inr (inr (inr (inr (is.is.request, is.is.asks, inr (is.is.account, is.is.there, inl (is.converted, is.is.is, told))))))
+
+says_ill : (held : List ℕ → Option (List ℕ)) (words : List (List ℕ)) (line : ℕ) (why : Why) → IsIllFormed held words line why → Says held words (Rejected line why)
+says_ill held words line why is =
+    inr (inr (inr (inr (is.request, is.asks, inr (is.account, is.there, inr (line, is.fault, ap (Rejected line) is.why_is, is.first))))))
+
+says_no_old : (held : List ℕ → Option (List ℕ)) (words : List (List ℕ)) (which : Which) → which ≡ Account → LacksOld held words → Says held words (Absent which)
+says_no_old held words which e lacks = inr (inr (inr (inr (lacks.request, lacks.asks, inl (ap Absent e, lacks.absent)))))
 
 -- a budget is spent on a file that is a netlist, or on two
 asked_of_spent : (held : List ℕ → Option (List ℕ)) (words : List (List ℕ)) (ledger : Ledgered) → IsSpentOn held words ledger → IsAskedOf held words
@@ -477,7 +627,10 @@ says held words (AcceptedMatch matching) reads decided right = says_answer held 
 says held words AcceptedRefusal reads decided right =
     says_checked held words AcceptedRefusal (λ checked. IsAccepted held checked verdict.None) (λ checked is. says_answer held checked is.graphs is.account AcceptedRefusal is.has (inl (verdict.None, refl, is.accepted))) (λ matching e. cc) right
 says held words (Rejected line why) reads decided right =
-    says_checked held words (Rejected line why) (λ checked. IsRejected held checked line why) (λ checked is. says_answer held checked is.graphs is.account (Rejected line why) is.has (inr (line, why, refl, is.rejected))) (λ matching e. cc) right
+    elim right [
+      | inl read ↦ says_read held words (Rejected line why) (λ checked. IsRejected held checked line why) (λ checked is. says_answer held checked is.graphs is.account (Rejected line why) is.has (inr (line, why, refl, is.rejected))) (λ matching e. cc) (λ e. cc) read
+      | inr ill ↦ says_ill held words line why ill
+    ]
 says held words (Matched matching) reads decided right = says_match held words right.first right.second (Matched matching) right.files (inl (matching, refl))
 says held words NoMatching reads decided right = says_match held words right.first right.second NoMatching right.files (inr (inl refl))
 says held words (Spent ledger) reads decided right =
@@ -489,14 +642,19 @@ says held words (Spent ledger) reads decided right =
 says held words Informed reads decided right = says_of held words Informed right (inl refl)
 says held words Made reads decided right = absurd (read_or_make words reads right)
 says held words (Restored gates) reads decided right = says_restored held words gates right
+says held words (Trimmed before after) reads decided right = says_trimmed held words before after right
+says held words (Converted from to records) reads decided right = says_converted held words from to records right
 says held words (Tried number account) reads decided right = absurd (read_or_trial words number reads right.asks)
 says held words Usage reads decided right = inl (refl, right)
 says held words (Absent which) reads decided right =
-    says_checked held words (Absent which) (λ checked. IsAbsent held checked which) (λ checked is. elim is [ inl early ↦ says_early held checked (Absent which) decided early | inr (e, lacks) ↦ says_absent held checked which e lacks ]) (λ matching e. cc) right
+    elim right [
+      | inl read ↦ says_read held words (Absent which) (λ checked. IsAbsent held checked which) (λ checked is. elim is [ inl early ↦ says_early held checked (Absent which) decided early | inr (e, lacks) ↦ says_absent held checked which e lacks ]) (λ matching e. cc) (λ e. cc) read
+      | inr (e, lacks) ↦ says_no_old held words which e lacks
+    ]
 says held words (TooLarge which) reads decided right =
-    says_checked held words (TooLarge which) (λ checked. EndsEarly held checked (TooLarge which)) (λ checked is. says_early held checked (TooLarge which) decided is) (λ matching e. cc) right
+    says_read held words (TooLarge which) (λ checked. EndsEarly held checked (TooLarge which)) (λ checked is. says_early held checked (TooLarge which) decided is) (λ matching e. cc) (λ e. cc) right
 says held words (Malformed which kind at) reads decided right =
-    says_checked held words (Malformed which kind at) (λ checked. EndsEarly held checked (Malformed which kind at)) (λ checked is. says_early held checked (Malformed which kind at) decided is) (λ matching e. cc) right
+    says_read held words (Malformed which kind at) (λ checked. EndsEarly held checked (Malformed which kind at)) (λ checked is. says_early held checked (Malformed which kind at) decided is) (λ matching e. cc) (λ e. cc) right
 says held words ReadFault reads decided right = absurd (decided.read refl)
 says held words WriteFault reads decided right = absurd (decided.reported.written refl)
 says held words Memory reads decided right = absurd (decided.reported.room refl)
@@ -507,10 +665,10 @@ says held words Memory reads decided right = absurd (decided.reported.room refl)
 right_of_check : (held : List ℕ → Option (List ℕ)) (words : List (List ℕ)) (o : Outcome) → IsOfCheck held words o → IsRight held words o
 right_of_check held words (AcceptedMatch matching) is = is
 right_of_check held words AcceptedRefusal is = inl is
-right_of_check held words (Rejected line why) is = inl is
-right_of_check held words (Absent which) is = inl is
-right_of_check held words (TooLarge which) is = inl is
-right_of_check held words (Malformed which kind at) is = inl is
+right_of_check held words (Rejected line why) is = inl (inl (inl is))
+right_of_check held words (Absent which) is = inl (inl (inl is))
+right_of_check held words (TooLarge which) is = inl (inl is)
+right_of_check held words (Malformed which kind at) is = inl (inl is)
 right_of_check held words ReadFault is = tt
 right_of_check held words Memory is = tt
 right_of_check held words other is = absurd is
@@ -519,13 +677,25 @@ right_of_check held words other is = absurd is
 pub right_of_restore : (held : List ℕ → Option (List ℕ)) (words : List (List ℕ)) (request : RestoreRequest) (o : Outcome) → AsksRestore words request → ((matching : Matching) → o ≢ AcceptedMatch matching) → IsOfCheck held (check_words request.first request.second request.account) o → IsRight held words o
 right_of_restore held words request (AcceptedMatch matching) asks other is = absurd (other matching refl)
 right_of_restore held words request AcceptedRefusal asks other is = inr (request, asks, is)
-right_of_restore held words request (Rejected line why) asks other is = inr (request, asks, is)
-right_of_restore held words request (Absent which) asks other is = inr (request, asks, is)
-right_of_restore held words request (TooLarge which) asks other is = inr (request, asks, is)
-right_of_restore held words request (Malformed which kind at) asks other is = inr (request, asks, is)
+right_of_restore held words request (Rejected line why) asks other is = inl (inl (inr (request, asks, is)))
+right_of_restore held words request (Absent which) asks other is = inl (inl (inr (request, asks, is)))
+right_of_restore held words request (TooLarge which) asks other is = inl (inr (request, asks, is))
+right_of_restore held words request (Malformed which kind at) asks other is = inl (inr (request, asks, is))
 right_of_restore held words request ReadFault asks other is = tt
 right_of_restore held words request Memory asks other is = tt
 right_of_restore held words request o asks other is = absurd is
+
+-- and for words that ask for an account to be trimmed, but that it is accepted
+pub right_of_trim : (held : List ℕ → Option (List ℕ)) (words : List (List ℕ)) (request : TrimRequest) (o : Outcome) → AsksTrim words request → ((matching : Matching) → o ≢ AcceptedMatch matching) → o ≢ AcceptedRefusal → IsOfCheck held (check_words request.first request.second request.account) o → IsRight held words o
+right_of_trim held words request (AcceptedMatch matching) asks other no_refusal is = absurd (other matching refl)
+right_of_trim held words request AcceptedRefusal asks other no_refusal is = absurd (no_refusal refl)
+right_of_trim held words request (Rejected line why) asks other no_refusal is = inl (inr (request, asks, is))
+right_of_trim held words request (Absent which) asks other no_refusal is = inl (inr (request, asks, is))
+right_of_trim held words request (TooLarge which) asks other no_refusal is = inr (request, asks, is)
+right_of_trim held words request (Malformed which kind at) asks other no_refusal is = inr (request, asks, is)
+right_of_trim held words request ReadFault asks other no_refusal is = tt
+right_of_trim held words request Memory asks other no_refusal is = tt
+right_of_trim held words request o asks other no_refusal is = absurd is
 
 pub right_at_first : (held : List ℕ → Option (List ℕ)) (words : List (List ℕ)) (f g t : List ℕ) → NameThree words f g t → (o : Outcome) → EndsAt First (held f) o → IsRight held words o
 right_at_first held words f g t asks o ends = right_of_check held words o (at_first held words f g t asks o ends)
@@ -556,6 +726,8 @@ IsExact (AcceptedMatch matching) = Unit {0}
 IsExact AcceptedRefusal = Unit {0}
 IsExact (Rejected line why) = Unit {0}
 IsExact (Restored gates) = Unit {0}
+IsExact (Trimmed before after) = Unit {0}
+IsExact (Converted from to records) = Unit {0}
 IsExact (Absent which) = Unit {0}
 IsExact (TooLarge which) = Unit {0}
 IsExact (Malformed which kind at) = Unit {0}
@@ -580,24 +752,56 @@ account_reads held words graphs account has = inl (has.first_name, has.second_na
 
 -- words that ask for a netlist to be restored name files too
 checked_reads : (P : List (List ℕ) → Type 0) (words : List (List ℕ)) → (P words → ReadFiles words) → AsChecked P words → ReadFiles words
-checked_reads P words reads right = elim right [ inl is ↦ reads is | inr (request, asks, is) ↦ inr (inr (request, asks)) ]
+checked_reads P words reads right = elim right [ inl is ↦ reads is | inr (request, asks, is) ↦ inr (inr (inl (request, asks))) ]
+
+read_reads : (P : List (List ℕ) → Type 0) (words : List (List ℕ)) → (P words → ReadFiles words) → AsRead P words → ReadFiles words
+read_reads P words reads right = elim right [ inl is ↦ checked_reads P words reads is | inr (request, asks, is) ↦ inr (inr (inr (inl (request, asks)))) ]
+
+convert_reads : (words : List (List ℕ)) (request : ConvertRequest) → AsksConvert words request → ReadFiles words
+convert_reads words request asks = inr (inr (inr (inr (request, asks))))
 
 -- where such an outcome is right the words name files
 exact_reads : (held : List ℕ → Option (List ℕ)) (words : List (List ℕ)) (o : Outcome) → IsExact o → IsRight held words o → ReadFiles words
 exact_reads held words (AcceptedMatch matching) exact right = account_reads held words right.graphs right.account right.has
 exact_reads held words AcceptedRefusal exact right = checked_reads (λ checked. IsAccepted held checked verdict.None) words (λ is. account_reads held words is.graphs is.account is.has) right
-exact_reads held words (Rejected line why) exact right = checked_reads (λ checked. IsRejected held checked line why) words (λ is. account_reads held words is.graphs is.account is.has) right
-exact_reads held words (Restored gates) exact right = inr (inr (right.request, right.asks))
-exact_reads held words (Absent which) exact right = checked_reads (λ checked. IsAbsent held checked which) words (λ is. elim is [
-  | inl early ↦ early_reads held words (Absent which) early
-  | inr (e, lacks) ↦ inl (lacks.asked.first_name, lacks.asked.second_name, lacks.account_name, inl lacks.asked.asks)
-]) right
-exact_reads held words (TooLarge which) exact right = checked_reads (λ checked. EndsEarly held checked (TooLarge which)) words (λ is. early_reads held words (TooLarge which) is) right
-exact_reads held words (Malformed which kind at) exact right = checked_reads (λ checked. EndsEarly held checked (Malformed which kind at)) words (λ is. early_reads held words (Malformed which kind at) is) right
+exact_reads held words (Rejected line why) exact right = elim right [
+  | inl read ↦ read_reads (λ checked. IsRejected held checked line why) words (λ is. account_reads held words is.graphs is.account is.has) read
+  | inr ill ↦ convert_reads words ill.request ill.asks
+]
+exact_reads held words (Restored gates) exact right = inr (inr (inl (right.request, right.asks)))
+exact_reads held words (Trimmed before after) exact right = inr (inr (inr (inl (right.is.request, right.is.asks))))
+exact_reads held words (Converted from to records) exact right = convert_reads words right.is.request right.is.asks
+exact_reads held words (Absent which) exact right = elim right [
+  | inl read ↦ read_reads (λ checked. IsAbsent held checked which) words (λ is. elim is [
+    | inl early ↦ early_reads held words (Absent which) early
+    | inr (e, lacks) ↦ inl (lacks.asked.first_name, lacks.asked.second_name, lacks.account_name, inl lacks.asked.asks)
+  ]) read
+  | inr (e, lacks) ↦ convert_reads words lacks.request lacks.asks
+]
+exact_reads held words (TooLarge which) exact right = read_reads (λ checked. EndsEarly held checked (TooLarge which)) words (λ is. early_reads held words (TooLarge which) is) right
+exact_reads held words (Malformed which kind at) exact right = read_reads (λ checked. EndsEarly held checked (Malformed which kind at)) words (λ is. early_reads held words (Malformed which kind at) is) right
 exact_reads held words other exact right = absurd exact
 
 sought_reads : (held : List ℕ → Option (List ℕ)) (words : List (List ℕ)) (first second : Netlist) → IsSought held words first second → ReadFiles words
 sought_reads held words first second is = inl (is.sought.first, is.sought.second, is.sought.account, inr (is.sought.budget, is.sought.seed, is.asks))
+
+-- an account that is accepted is trimmed, and one without a fault of form is converted: nothing else is said of it
+
+trimmed_of : (held : List ℕ → Option (List ℕ)) (words : List (List ℕ)) (o : Outcome) (k : ℕ) (f g t : List ℕ) (graphs : Graphs) (account : List ℕ) (told : Verdict)
+    → k ≡ 2 → HasGraph (held f) graphs.first → HasGraph (held g) graphs.second → held t ≡ Some account → Proves graphs account told → SaysThree k held f g t o → IsOfTrim o
+trimmed_of held words o k f g t graphs account told is first second there proves says =
+    elim says [
+      | inl end ↦ absurd (end_or_netlist First (held f) o first.netlist end first.holds)
+      | inr (one, at, inl end) ↦ absurd (end_or_netlist Second (held g) o second.netlist end second.holds)
+      | inr (one, at, inr (two, also, inl (e, none))) ↦ cc
+      | inr (one, at, inr (two, also, inr (graphs', first', second', bytes, there', answer))) ↦
+          let same = graphs_same graphs' graphs (graph_one (held f) graphs'.first graphs.first first' first) (graph_one (held g) graphs'.second graphs.second second' second) in
+          let text : bytes ≡ account = cc in
+          elim (subst (λ n. IsAnswer n graphs account o) is (subst (λ b. IsAnswer k graphs b o) text (subst (λ two. IsAnswer k two bytes o) same answer))) [
+            | inl (proved, (left, of, e), shown) ↦ (left.before, left.after, e)
+            | inr (line, why, e, bad) ↦ absurd (never_both graphs account told line why proves bad)
+          ]
+    ]
 
 -- The outcome of a run that was asked to say a right one is exactly what the words and the files say.
 module _ (held : List ℕ → Option (List ℕ)) (words : List (List ℕ)) (asked answer : Outcome) (right : IsRight held words asked) (same : IsReported answer → answer ≡ asked) (decided : IsDecided answer) where
@@ -636,6 +840,45 @@ module _ (held : List ℕ → Option (List ℕ)) (words : List (List ℕ)) (aske
     | inr (inr both) ↦ both.0
   ]
 
+  pub of_trim : IsAskedToTrim held words → IsOfTrim answer
+  of_trim asked =
+      let request = asked.request in
+      let check = check_of_trim words request asked.asks in
+      let is = asked.accepted in
+      let e = names_one (check_words request.first request.second request.account) request.first request.second request.account is.has.first_name is.has.second_name is.has.account_name check is.has.asks in
+      let by : JudgeBy words 2 request.first request.second request.account = inr (inr (request.trimmed, named_trim words request asked.asks, refl)) in
+      elim (stays_said (inr (inr (inr (inl (request, asked.asks)))))) [
+        | inl (same, nothing) ↦ absurd (nothing.no_trim request asked.asks)
+        | inr (inl (k, f, g, t, judge, says)) ↦
+            let names = judged_one words k f g t 2 request.first request.second request.account judge by in
+            trimmed_of held words answer k f g t is.graphs is.account asked.told (sym names.0)
+            (subst (λ name. HasGraph (held name) is.graphs.first) (e.0 ∙ names.1) is.has.first_held)
+            (subst (λ name. HasGraph (held name) is.graphs.second) (e.1 ∙ names.2) is.has.second_held)
+            (subst (λ name. held name ≡ Some is.account) (e.2 ∙ names.3) is.has.there)
+            is.accepted says
+        | inr (inr (inl (sought, asks, says))) ↦ absurd (trim_or_match words request sought asked.asks asks)
+        | inr (inr (inr (inl (file, budget, asks, says)))) ↦ absurd (trim_or_info words request file budget asked.asks asks)
+        | inr (inr (inr (inr (other, asks, says)))) ↦ absurd (convert_or_trim words other request asks asked.asks)
+      ]
+
+  pub of_convert : IsAskedToConvert held words → IsOfConvert answer
+  of_convert asked =
+      elim (stays_said (convert_reads words asked.request asked.asks)) [
+        | inl (same, nothing) ↦ absurd (nothing.no_convert asked.request asked.asks)
+        | inr (inl (k, f, g, t, judge, says)) ↦ absurd (judged_or_convert words k f g t asked.request judge asked.asks)
+        | inr (inr (inl (sought, asks, says))) ↦ absurd (convert_or_match words asked.request sought asked.asks asks)
+        | inr (inr (inr (inl (file, budget, asks, says)))) ↦ absurd (convert_or_info words asked.request file budget asked.asks asks)
+        | inr (inr (inr (inr (other, asks, says)))) ↦
+            let same : other.account ≡ asked.request.account = ap (word_at 1) (sym asks.form ∙ asked.asks.form) in
+            elim (subst (λ name. SaysOld held name answer) same says) [
+              | inl (e, none) ↦ let there = asked.there in cc
+              | inr (bytes, there, inl (new, is, e)) ↦ (new.from, new.to, new.records, e)
+              | inr (bytes, there, inr (line, fault, e, wrong)) ↦
+                  let text : bytes ≡ asked.account = let there' = asked.there in cc in
+                  absurd (account_or_fault asked.account asked.records wrong.before fault asked.formed (subst (λ b. HasFormFault b wrong.before fault) text wrong.has))
+            ]
+      ]
+
   pub exactly_none : ((ledger : Ledgered) → answer ≢ Spent ledger) → (answer ≡ NoMatching) ↔ HasNoMatch held words
   exactly_none unspent = (
     λ is. subst (IsRight held words) is stays_right,
@@ -663,18 +906,20 @@ reached other is = record { read = λ e. cc; reported = record { written = λ e.
 pub reported_read : IsReported ReadFault
 reported_read = record { written = λ e. cc; room = λ e. cc }
 
--- where no file changes, each outcome that is neither of a match nor a pair nor a netlist that is restored leaves what it says
-pub leaves : (before after : List ℕ → Option (List ℕ)) (words : List (List ℕ)) (o : Outcome) → ((matching : Matching) → o ≢ Matched matching) → o ≢ NoMatching → o ≢ Made → ((gates : ℕ) → o ≢ Restored gates) → ((n : List ℕ) → after n ≡ before n) → Leaves before after words o
-leaves before after words (Matched matching) unmatched no_match no_pair no_netlist same = absurd (unmatched matching refl)
-leaves before after words NoMatching unmatched no_match no_pair no_netlist same = absurd (no_match refl)
-leaves before after words Made unmatched no_match no_pair no_netlist same = absurd (no_pair refl)
-leaves before after words (Restored gates) unmatched no_match no_pair no_netlist same = absurd (no_netlist gates refl)
-leaves before after words WriteFault unmatched no_match no_pair no_netlist same = inl same
-leaves before after words Memory unmatched no_match no_pair no_netlist same = inl same
-leaves before after words other unmatched no_match no_pair no_netlist same = same
+-- where no file changes, each outcome that isn't of a file that is written leaves what it says
+pub leaves : (before after : List ℕ → Option (List ℕ)) (words : List (List ℕ)) (o : Outcome) → ((matching : Matching) → o ≢ Matched matching) → o ≢ NoMatching → o ≢ Made → ((gates : ℕ) → o ≢ Restored gates) → ((count left : ℕ) → o ≢ Trimmed count left) → ((from to records : ℕ) → o ≢ Converted from to records) → ((n : List ℕ) → after n ≡ before n) → Leaves before after words o
+leaves before after words (Matched matching) unmatched no_match no_pair no_netlist untrimmed unconverted same = absurd (unmatched matching refl)
+leaves before after words NoMatching unmatched no_match no_pair no_netlist untrimmed unconverted same = absurd (no_match refl)
+leaves before after words Made unmatched no_match no_pair no_netlist untrimmed unconverted same = absurd (no_pair refl)
+leaves before after words (Restored gates) unmatched no_match no_pair no_netlist untrimmed unconverted same = absurd (no_netlist gates refl)
+leaves before after words (Trimmed count left) unmatched no_match no_pair no_netlist untrimmed unconverted same = absurd (untrimmed count left refl)
+leaves before after words (Converted from to records) unmatched no_match no_pair no_netlist untrimmed unconverted same = absurd (unconverted from to records refl)
+leaves before after words WriteFault unmatched no_match no_pair no_netlist untrimmed unconverted same = inl same
+leaves before after words Memory unmatched no_match no_pair no_netlist untrimmed unconverted same = inl same
+leaves before after words other unmatched no_match no_pair no_netlist untrimmed unconverted same = same
 
 pub leaves_early : (before after : List ℕ → Option (List ℕ)) (words : List (List ℕ)) (o : Outcome) → IsEarly o → ((n : List ℕ) → after n ≡ before n) → Leaves before after words o
-leaves_early before after words o early same = leaves before after words o (λ matching e. early.line.unmatched matching (inr e)) early.no_match early.no_pair early.no_netlist same
+leaves_early before after words o early same = leaves before after words o (λ matching e. early.line.unmatched matching (inr e)) early.no_match early.no_pair early.no_netlist early.untrimmed early.unconverted same
 
 -- the files were read up to an outcome that ends the run
 pub stopped : (tells : Bool) (command : Command) (old new : ShelfState) (result : Result Ending Outcome) (o : Outcome) → IsReadingCommand command → result ≡ Err o → ((n : List ℕ) → new.held n ≡ old.held n) → (IsTrue tells → (words : List (List ℕ)) → Ask words command → IsRight old.held words o) → IsOfReading o → NoCallFollows old new → (o ≡ ReadFault → Rose old.faults new.faults) → Decides tells command old new result
@@ -708,7 +953,7 @@ check_decides tells command check old new result is checks =
     decides : (result : Result Ending Outcome) → Checks tells check old new result → Decides tells (asked_check check) old new result
     decides (Ok ending) checks = record {
       files = λ t n other. checks.files n;
-      left = λ t words asks. leaves old.held new.held words ending.outcome checks.judged.unmatched checks.judged.no_match checks.judged.no_pair checks.judged.no_netlist checks.files;
+      left = λ t words asks. leaves old.held new.held words ending.outcome checks.judged.unmatched checks.judged.no_match checks.judged.no_pair checks.judged.no_netlist checks.judged.untrimmed checks.judged.unconverted checks.files;
       right = λ t words asks. right_of_check old.held words ending.outcome (checks.right t words asks);
       by_words = λ words asks. follows_files words ending.outcome (reads_of words (asked_check check) tt asks) checks.judged.no_pair checks.judged.no_trial;
       sound = λ t words asks. sound_answer old.held words ending.outcome (checks.sound t words asks);

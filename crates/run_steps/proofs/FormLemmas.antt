@@ -1,10 +1,11 @@
 -- Words have one form, and one reading in it.
-use Rattle.std.proofs.Common.{◌≡◌, ℕ, ◌⊎◌, inl, inr, List, [], length, get_or, refl, sym, ◌∙◌, ap, arith}
-use Rattle.check_steps.specs.Words.{AskForPair, AsksCheck, AsksInfo, AsksMatch, AsksRestore, AsksTrial, AskNothing, ReadFiles, MatchRequest, RestoreRequest, check_words}
-use Rattle.check_steps.specs.Asks.{Ask, match_request, make_request, restore_request}
+use Rattle.std.proofs.Common.{◌≡◌, ℕ, ◌<◌, ◌⊎◌, inl, inr, List, [], length, get_or, refl, sym, ◌∙◌, ap, arith}
+use Rattle.check_steps.specs.Words.{AskForPair, AsksCheck, AsksConvert, AsksInfo, AsksMatch, AsksRestore, AsksTrial, AsksTrim, AskNothing, ReadFiles}
+use Rattle.check_steps.specs.Words.{ConvertRequest, MatchRequest, RestoreRequest, TrimRequest, check_words}
+use Rattle.check_steps.specs.Asks.{Ask, convert_request, match_request, make_request, restore_request, trim_request}
 use Rattle.run_steps.specs.Commands.{IsReadingCommand, IsTrialCommand}
 use Rattle.check_steps.specs.declared.words.Command.{Command}
-use Rattle.check_steps.specs.declared.words.Command.TheVariants.{Check, Restore, Match, Info, Make, Trial}
+use Rattle.check_steps.specs.declared.words.Command.TheVariants.{Check, Restore, Trim, Convert, Match, Info, Make, Trial}
 
 pub names_one : (words : List (List ℕ)) (f g t f' g' t' : List ℕ) → AsksCheck words f g t → AsksCheck words f' g' t' → (f' ≡ f) × (g' ≡ g) × (t' ≡ t)
 names_one words f g t f' g' t' one other = let e = one.form in let e' = other.form in (cc, cc, cc)
@@ -64,46 +65,100 @@ restore_or_match words request sought restore asks =
     let is : 114 ≡ 109 = sym (ap letter restore.form) ∙ ap letter asks.form in
     omega (arith, is)
 
--- words that ask for a pair or for a trial name no file that is read: each form has another third letter
+pub trim_or_check : (words : List (List ℕ)) (request : TrimRequest) (f g t : List ℕ) → AsksTrim words request → AsksCheck words f g t → ⊥
+trim_or_check words request f g t trim check = omega (arith, ap length trim.form, ap length check.form)
 
-abbrev third : List (List ℕ) → ℕ
-third words = get_or (get_or words 0 []) 2 0
+pub trim_or_info : (words : List (List ℕ)) (request : TrimRequest) (file : List ℕ) (budget : ℕ) → AsksTrim words request → AsksInfo words file budget → ⊥
+trim_or_info words request file budget trim info =
+    elim info.form [
+      | inl (form, is) ↦ omega (arith, ap length trim.form, ap length form)
+      | inr (word, form, is) ↦ omega (arith, ap length trim.form, ap length form)
+    ]
 
-third_of_read : (words : List (List ℕ)) → ReadFiles words → (third words ≡ 101) ⊎ (third words ≡ 116) ⊎ (third words ≡ 102) ⊎ (third words ≡ 115)
-third_of_read words reads =
+pub convert_or_check : (words : List (List ℕ)) (request : ConvertRequest) (f g t : List ℕ) → AsksConvert words request → AsksCheck words f g t → ⊥
+convert_or_check words request f g t convert check = omega (arith, ap length convert.form, ap length check.form)
+
+pub convert_or_restore : (words : List (List ℕ)) (request : ConvertRequest) (restored : RestoreRequest) → AsksConvert words request → AsksRestore words restored → ⊥
+convert_or_restore words request restored convert restore = omega (arith, ap length convert.form, ap length restore.form)
+
+pub convert_or_trim : (words : List (List ℕ)) (request : ConvertRequest) (trimmed : TrimRequest) → AsksConvert words request → AsksTrim words trimmed → ⊥
+convert_or_trim words request trimmed convert trim = omega (arith, ap length convert.form, ap length trim.form)
+
+-- commands by the fourth letter of the first word: `check` and `match` have the same, and no others
+
+abbrev fourth : List (List ℕ) → ℕ
+fourth words = get_or (get_or words 0 []) 3 0
+
+fourth_of_info : (words : List (List ℕ)) (file : List ℕ) (budget : ℕ) → AsksInfo words file budget → fourth words ≡ 111
+fourth_of_info words file budget info = elim info.form [ inl (form, is) ↦ ap fourth form | inr (word, form, is) ↦ ap fourth form ]
+
+pub trim_or_restore : (words : List (List ℕ)) (request : TrimRequest) (restored : RestoreRequest) → AsksTrim words request → AsksRestore words restored → ⊥
+trim_or_restore words request restored trim restore =
+    let is : 109 ≡ 116 = sym (ap fourth trim.form) ∙ ap fourth restore.form in
+    omega (arith, is)
+
+pub trim_or_match : (words : List (List ℕ)) (request : TrimRequest) (sought : MatchRequest) → AsksTrim words request → AsksMatch words sought → ⊥
+trim_or_match words request sought trim asks =
+    let is : 109 ≡ 99 = sym (ap fourth trim.form) ∙ ap fourth asks.form in
+    omega (arith, is)
+
+pub convert_or_match : (words : List (List ℕ)) (request : ConvertRequest) (sought : MatchRequest) → AsksConvert words request → AsksMatch words sought → ⊥
+convert_or_match words request sought convert asks =
+    let is : 118 ≡ 99 = sym (ap fourth convert.form) ∙ ap fourth asks.form in
+    omega (arith, is)
+
+pub convert_or_info : (words : List (List ℕ)) (request : ConvertRequest) (file : List ℕ) (budget : ℕ) → AsksConvert words request → AsksInfo words file budget → ⊥
+convert_or_info words request file budget convert info =
+    let is : 118 ≡ 111 = sym (ap fourth convert.form) ∙ fourth_of_info words file budget info in
+    omega (arith, is)
+
+-- words that ask for a pair or for a trial name no file that is read
+
+abbrev IsFourthOfRead : ℕ → Type 0
+IsFourthOfRead letter = (letter ≡ 99) ⊎ (letter ≡ 111) ⊎ (letter ≡ 116) ⊎ (letter ≡ 109) ⊎ (letter ≡ 118)
+
+fourth_of_read : (words : List (List ℕ)) → ReadFiles words → IsFourthOfRead (fourth words)
+fourth_of_read words reads =
     elim reads [
-      | inl (first, second, account, inl asks) ↦ inl (ap third asks.form)
-      | inl (first, second, account, inr (budget, seed, asks)) ↦ inr (inl (ap third asks.form))
-      | inr (inl (file, budget, asks)) ↦ elim asks.form [
-        | inl (form, is) ↦ inr (inr (inl (ap third form)))
-        | inr (word, form, is) ↦ inr (inr (inl (ap third form)))
+      | inl (first, second, account, inl asks) ↦ inl (ap fourth asks.form)
+      | inl (first, second, account, inr (budget, seed, asks)) ↦ inl (ap fourth asks.form)
+      | inr (inl (file, budget, asks)) ↦ inr (inl (fourth_of_info words file budget asks))
+      | inr (inr (inl (request, asks))) ↦ inr (inr (inl (ap fourth asks.form)))
+      | inr (inr (inr (inl (request, asks)))) ↦ inr (inr (inr (inl (ap fourth asks.form))))
+      | inr (inr (inr (inr (request, asks)))) ↦ inr (inr (inr (inr (ap fourth asks.form))))
+    ]
+
+-- a letter of no such command
+other_letter : (letter other : ℕ) → IsFourthOfRead letter → letter ≡ other → (other < 99) ⊎ ((99 < other) × (other < 109)) → ⊥
+other_letter letter other read is apart =
+    elim apart [
+      | inl low ↦ elim read [
+        | inl e ↦ omega (arith, e, is, low)
+        | inr (inl e) ↦ omega (arith, e, is, low)
+        | inr (inr (inl e)) ↦ omega (arith, e, is, low)
+        | inr (inr (inr (inl e))) ↦ omega (arith, e, is, low)
+        | inr (inr (inr (inr e))) ↦ omega (arith, e, is, low)
       ]
-      | inr (inr (request, asks)) ↦ inr (inr (inr (ap third asks.form)))
+      | inr (over, under) ↦ elim read [
+        | inl e ↦ omega (arith, e, is, over)
+        | inr (inl e) ↦ omega (arith, e, is, under)
+        | inr (inr (inl e)) ↦ omega (arith, e, is, under)
+        | inr (inr (inr (inl e))) ↦ omega (arith, e, is, under)
+        | inr (inr (inr (inr e))) ↦ omega (arith, e, is, under)
+      ]
     ]
 
 pub read_or_make : (words : List (List ℕ)) → ReadFiles words → AskForPair words → ⊥
 read_or_make words reads (request, make) =
-    let is : third words ≡ 107 = ap third make.form in
-    elim (third_of_read words reads) [
-      | inl e ↦ omega (arith, e, is)
-      | inr (inl e) ↦ omega (arith, e, is)
-      | inr (inr (inl e)) ↦ omega (arith, e, is)
-      | inr (inr (inr e)) ↦ omega (arith, e, is)
-    ]
+    other_letter (fourth words) 101 (fourth_of_read words reads) (ap fourth make.form) (inr (omega arith, omega arith))
 
 pub read_or_trial : (words : List (List ℕ)) (number : ℕ) → ReadFiles words → AsksTrial words number → ⊥
 read_or_trial words number reads trial =
-    let is : third words ≡ 105 = ap third trial.form in
-    elim (third_of_read words reads) [
-      | inl e ↦ omega (arith, e, is)
-      | inr (inl e) ↦ omega (arith, e, is)
-      | inr (inr (inl e)) ↦ omega (arith, e, is)
-      | inr (inr (inr e)) ↦ omega (arith, e, is)
-    ]
+    other_letter (fourth words) 97 (fourth_of_read words reads) (ap fourth trial.form) (inl (omega arith))
 
 pub make_or_trial : (words : List (List ℕ)) (number : ℕ) → AskForPair words → AsksTrial words number → ⊥
 make_or_trial words number (request, make) trial =
-    let is : 107 ≡ 105 = sym (ap third make.form) ∙ ap third trial.form in
+    let is : 101 ≡ 97 = sym (ap fourth make.form) ∙ ap fourth trial.form in
     omega (arith, is)
 
 -- a command that reads names files
@@ -111,7 +166,9 @@ pub reads_of : (words : List (List ℕ)) (command : Command) → IsReadingComman
 reads_of words (Check check) is asks = inl (check.first.now, check.second.now, check.account.now, inl asks)
 reads_of words (Match sought) is asks = inl (sought.first.now, sought.second.now, sought.account.now, inr (sought.budget, sought.seed, asks))
 reads_of words (Info info) is asks = inr (inl (info.file.now, info.budget, asks))
-reads_of words (Restore asked) is asks = inr (inr (restore_request asked, asks))
+reads_of words (Restore asked) is asks = inr (inr (inl (restore_request asked, asks)))
+reads_of words (Trim asked) is asks = inr (inr (inr (inl (trim_request asked, asks))))
+reads_of words (Convert asked) is asks = inr (inr (inr (inr (convert_request asked, asks))))
 reads_of words (Make asked) is asks = absurd is
 reads_of words (Trial trial) is asks = absurd is
 
@@ -120,6 +177,8 @@ pub trial_command : (words : List (List ℕ)) (command : Command) (number : ℕ)
 trial_command words (Check check) number asks trial = absurd (read_or_trial words number (reads_of words (Check check) tt asks) trial)
 trial_command words (Match sought) number asks trial = absurd (read_or_trial words number (reads_of words (Match sought) tt asks) trial)
 trial_command words (Restore asked) number asks trial = absurd (read_or_trial words number (reads_of words (Restore asked) tt asks) trial)
+trial_command words (Trim asked) number asks trial = absurd (read_or_trial words number (reads_of words (Trim asked) tt asks) trial)
+trial_command words (Convert asked) number asks trial = absurd (read_or_trial words number (reads_of words (Convert asked) tt asks) trial)
 trial_command words (Info info) number asks trial = absurd (read_or_trial words number (reads_of words (Info info) tt asks) trial)
 trial_command words (Make asked) number asks trial = absurd (make_or_trial words number (make_request asked, asks) trial)
 trial_command words (Trial tried) number asks trial = tt
@@ -128,6 +187,8 @@ trial_command words (Trial tried) number asks trial = tt
 pub known_form : (words : List (List ℕ)) (command : Command) → Ask words command → AskNothing words → ⊥
 known_form words (Check check) asks nothing = nothing.no_check check.first.now check.second.now check.account.now asks
 known_form words (Restore asked) asks nothing = nothing.no_restore (restore_request asked) asks
+known_form words (Trim asked) asks nothing = nothing.no_trim (trim_request asked) asks
+known_form words (Convert asked) asks nothing = nothing.no_convert (convert_request asked) asks
 known_form words (Match sought) asks nothing = nothing.no_match (match_request sought) asks
 known_form words (Info info) asks nothing = nothing.no_info info.file.now info.budget asks
 known_form words (Make asked) asks nothing = nothing.no_make (make_request asked) asks
@@ -145,6 +206,15 @@ check_of words sought asks = record {
 -- and of what names a netlist to be restored
 pub check_of_restore : (words : List (List ℕ)) (request : RestoreRequest) → AsksRestore words request → AsksCheck (check_words request.first request.second request.account) request.first request.second request.account
 check_of_restore words request asks = record {
+  form = refl;
+  first_named = asks.names.first_named;
+  second_named = asks.names.second_named;
+  account_named = asks.names.account_named;
+}
+
+-- and of what names an account to be trimmed
+pub check_of_trim : (words : List (List ℕ)) (request : TrimRequest) → AsksTrim words request → AsksCheck (check_words request.first request.second request.account) request.first request.second request.account
+check_of_trim words request asks = record {
   form = refl;
   first_named = asks.names.first_named;
   second_named = asks.names.second_named;

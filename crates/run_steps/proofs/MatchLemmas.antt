@@ -15,8 +15,10 @@ use Rattle.check_steps.specs.Held.{HasGraph}
 use Rattle.run_steps.specs.Match.{HasPart, IsProved, IsSought, NamesAccount}
 use Rattle.run_steps.specs.Make.{HasMadePair, HasPartOfPair, NamesPair, WriteFiles}
 use Rattle.run_steps.specs.Restore.{HasPartOfRestored, HasRestored, NamesRestored}
+use Rattle.run_steps.specs.Trim.{HasPartOfTrimmed, HasTrimmed, NamesTrimmed}
+use Rattle.run_steps.specs.Convert.{HasConverted, HasPartOfConverted, NamesConverted}
 use Rattle.run_steps.specs.Outcomes.{FollowsWords, IsRight, IsSoundAnswer, Leaves, LeavesFiles, MayBeCut}
-use Rattle.check_steps.specs.Asks.{Ask, match_request, make_request, restore_request}
+use Rattle.check_steps.specs.Asks.{Ask, convert_request, match_request, make_request, restore_request, trim_request}
 use Rattle.run_steps.specs.Commands.{IsWritingCommand, IsNotWritten, asked_match}
 use Rattle.run_steps.specs.Steps.{Decides, Finds, IsAnswered, IsCutOf, IsEnding, IsStopOfMatch, IsStopWithin}
 use Rattle.check_steps.specs.Reading.{IsEarly, IsReadFrom, netlist_of}
@@ -24,10 +26,10 @@ use Rattle.check_steps.specs.Judged.{graphs_of}
 use Rattle.check_steps.specs.Words.{AsksMatch, ReadFiles, check_words}
 use Rattle.check_steps.specs.declared.words.Match.{Match as MatchWords}
 use Rattle.check_steps.specs.declared.words.Command.{Command}
-use Rattle.check_steps.specs.declared.words.Command.TheVariants.{Restore, Match, Make}
+use Rattle.check_steps.specs.declared.words.Command.TheVariants.{Restore, Trim, Convert, Match, Make}
 use Rattle.check_steps.specs.declared.outcome.Ending.{Ending}
 use Rattle.check_steps.specs.declared.outcome.Outcome.{Outcome}
-use Rattle.check_steps.specs.declared.outcome.Outcome.TheVariants.{Matched, NoMatching, Informed, Made, Restored, ReadFault, WriteFault, Memory}
+use Rattle.check_steps.specs.declared.outcome.Outcome.TheVariants.{Matched, NoMatching, Informed, Made, Restored, Trimmed, Converted, ReadFault, WriteFault, Memory}
 use Rattle.run_steps.proofs.CheckLemmas.{follows_files, follows_unwritten, leaves_early}
 use Rattle.run_steps.proofs.PartLemmas.{whole_by_end}
 use Rattle.run_steps.proofs.OutcomeLemmas.{early_unwritten, no_fault, of_answer, of_stop, of_unwritten, stop_line}
@@ -71,6 +73,28 @@ part_of_restored before after words gates is = record {
   part = is.there ∙ ap Some (sym (take_all (length is.bytes) is.bytes (omega arith)));
 }
 
+-- a whole account that is trimmed or converted is its first part
+
+part_of_trimmed : (held held_now : List ℕ → Option (List ℕ)) (words : List (List ℕ)) (before after : ℕ) → HasTrimmed held held_now words before after → HasPartOfTrimmed held held_now words
+part_of_trimmed held held_now words before after is =
+    let bytes = is.trim.trimmed.bytes.items in
+    record {
+      trimmed = is.trim.trimmed;
+      is = is.trim.is;
+      count = length bytes;
+      part = is.there ∙ ap Some (sym (take_all (length bytes) bytes (omega arith)));
+    }
+
+part_of_converted : (before after : List ℕ → Option (List ℕ)) (words : List (List ℕ)) (from to records : ℕ) → HasConverted before after words from to records → HasPartOfConverted before after words
+part_of_converted before after words from to records is =
+    let bytes = is.conversion.converted.bytes in
+    record {
+      converted = is.conversion.converted;
+      is = is.conversion.is;
+      count = length bytes;
+      part = is.there ∙ ap Some (sym (take_all (length bytes) bytes (omega arith)));
+    }
+
 -- a whole pair is its first part
 part_of_pair : (before after : List ℕ → Option (List ℕ)) (words : List (List ℕ)) → HasMadePair after words → HasPartOfPair before after words
 part_of_pair before after words is =
@@ -87,7 +111,9 @@ pub may_be_cut : (before after : List ℕ → Option (List ℕ)) (words : List (
 may_be_cut before after words (Matched matching) left = inr (inl (part_of after words (verdict.Match matching) left))
 may_be_cut before after words NoMatching left = inr (inl (part_of after words verdict.None left))
 may_be_cut before after words Made left = inr (inr (inl (part_of_pair before after words left)))
-may_be_cut before after words (Restored gates) left = inr (inr (inr (part_of_restored before after words gates left)))
+may_be_cut before after words (Restored gates) left = inr (inr (inr (inl (part_of_restored before after words gates left))))
+may_be_cut before after words (Trimmed count rest) left = inr (inr (inr (inr (inl (part_of_trimmed before after words count rest left)))))
+may_be_cut before after words (Converted from to records) left = inr (inr (inr (inr (inr (part_of_converted before after words from to records left)))))
 may_be_cut before after words WriteFault left = left
 may_be_cut before after words Memory left = left
 may_be_cut before after words other left = inl left
@@ -97,21 +123,27 @@ kept before after words (Matched matching) none left = absurd (none.unmatched ma
 kept before after words NoMatching none left = absurd (none.no_refusal refl)
 kept before after words Made none left = absurd (none.no_pair refl)
 kept before after words (Restored gates) none left = absurd (none.no_netlist gates refl)
+kept before after words (Trimmed count rest) none left = absurd (none.untrimmed count rest refl)
+kept before after words (Converted from to records) none left = absurd (none.unconverted from to records refl)
 kept before after words WriteFault none left = absurd (none.reported.written refl)
 kept before after words Memory none left = absurd (none.reported.room refl)
 kept before after words other none left = left
 
--- a name that is neither the account of a match nor a file of a pair nor a netlist's that is restored isn't written
-pub not_written : (words : List (List ℕ)) (command : Command) (name : List ℕ) → Ask words command → (NamesAccount words name → ⊥) → (NamesPair words name → ⊥) → (NamesRestored words name → ⊥) → IsNotWritten command name
-not_written words (Match asked) name asks other apart unrestored = λ same. other (match_request asked, asks, same)
-not_written words (Make asked) name asks other apart unrestored = (λ same. apart (make_request asked, asks, inl same), λ same. apart (make_request asked, asks, inr same))
-not_written words (Restore asked) name asks other apart unrestored = λ same. unrestored (restore_request asked, asks, same)
-not_written words other name asks apart apart_pair unrestored = tt
+-- a name that is none of those that a command writes isn't written
+pub not_written : (words : List (List ℕ)) (command : Command) (name : List ℕ) → Ask words command → (NamesAccount words name → ⊥) → (NamesPair words name → ⊥) → (NamesRestored words name → ⊥) → (NamesTrimmed words name → ⊥) → (NamesConverted words name → ⊥) → IsNotWritten command name
+not_written words (Match asked) name asks other apart unrestored untrimmed unconverted = λ same. other (match_request asked, asks, same)
+not_written words (Make asked) name asks other apart unrestored untrimmed unconverted = (λ same. apart (make_request asked, asks, inl same), λ same. apart (make_request asked, asks, inr same))
+not_written words (Restore asked) name asks other apart unrestored untrimmed unconverted = λ same. unrestored (restore_request asked, asks, same)
+not_written words (Trim asked) name asks other apart unrestored untrimmed unconverted = λ same. untrimmed (trim_request asked, asks, same)
+not_written words (Convert asked) name asks other apart unrestored untrimmed unconverted = λ same. unconverted (convert_request asked, asks, same)
+not_written words command name asks other apart unrestored untrimmed unconverted = tt
 
 pub writes_of : (words : List (List ℕ)) (command : Command) → Ask words command → IsWritingCommand command → WriteFiles words
 writes_of words (Match asked) asks is = inl (match_request asked, asks)
 writes_of words (Make asked) asks is = inr (inl (make_request asked, asks))
-writes_of words (Restore asked) asks is = inr (inr (restore_request asked, asks))
+writes_of words (Restore asked) asks is = inr (inr (inl (restore_request asked, asks)))
+writes_of words (Trim asked) asks is = inr (inr (inr (inl (trim_request asked, asks))))
+writes_of words (Convert asked) asks is = inr (inr (inr (inr (convert_request asked, asks))))
 writes_of words other asks is = absurd is
 
 -- where one name holds what it held, and so do all others, nothing changed

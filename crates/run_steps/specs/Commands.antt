@@ -1,13 +1,15 @@
 -- What the words of the command line ask for, as a command, and what a command does with files.
 use Rattle.std.specs.Prelude.{◌≢◌, ℕ, List}
 use Rattle.check_steps.specs.declared.words.Check.{Check as CheckWords}
+use Rattle.check_steps.specs.declared.words.Convert.{Convert as ConvertWords}
 use Rattle.check_steps.specs.declared.words.Info.{Info as InfoWords}
 use Rattle.check_steps.specs.declared.words.Match.{Match as MatchWords}
 use Rattle.check_steps.specs.declared.words.Make.{Make as MakeWords}
 use Rattle.check_steps.specs.declared.words.Restore.{Restore as RestoreWords}
 use Rattle.check_steps.specs.declared.words.Trial.{Trial as TrialWords}
+use Rattle.check_steps.specs.declared.words.Trim.{Trim as TrimWords}
 use Rattle.check_steps.specs.declared.words.Command.{Command}
-use Rattle.check_steps.specs.declared.words.Command.TheVariants.{Check, Restore, Match, Info, Make, Trial}
+use Rattle.check_steps.specs.declared.words.Command.TheVariants.{Check, Restore, Trim, Convert, Match, Info, Make, Trial}
 
 -- to check an account of two netlists
 abbrev pub asked_check : CheckWords → Command
@@ -16,6 +18,14 @@ asked_check check = Check check
 -- to write the second of two netlists with the first one's ports
 abbrev pub asked_restore : RestoreWords → Command
 asked_restore restore_words = Restore restore_words
+
+-- to write an account without the records that its conclusion doesn't rest on
+abbrev pub asked_trim : TrimWords → Command
+asked_trim trim_words = Trim trim_words
+
+-- to write an account in the other version
+abbrev pub asked_convert : ConvertWords → Command
+asked_convert convert_words = Convert convert_words
 
 -- to seek a match of two netlists, and to write its account
 abbrev pub asked_match : MatchWords → Command
@@ -36,6 +46,8 @@ asked_trial trial = Trial trial
 -- a command writes no file of this name
 abbrev pub IsNotWritten : Command → List ℕ → Type 0
 IsNotWritten (Restore restore_words) name = name ≢ restore_words.restored.now
+IsNotWritten (Trim trim_words) name = name ≢ trim_words.trimmed.now
+IsNotWritten (Convert convert_words) name = name ≢ convert_words.converted.now
 IsNotWritten (Match match_words) name = name ≢ match_words.account.now
 IsNotWritten (Make make_words) name = (name ≢ make_words.first.now) × (name ≢ make_words.second.now)
 IsNotWritten other name = Unit {0}
@@ -43,6 +55,8 @@ IsNotWritten other name = Unit {0}
 -- a command writes a file
 abbrev pub IsWritingCommand : Command → Type 0
 IsWritingCommand (Restore restore_words) = Unit {0}
+IsWritingCommand (Trim trim_words) = Unit {0}
+IsWritingCommand (Convert convert_words) = Unit {0}
 IsWritingCommand (Match match_words) = Unit {0}
 IsWritingCommand (Make make_words) = Unit {0}
 IsWritingCommand other = ⊥
@@ -51,6 +65,8 @@ IsWritingCommand other = ⊥
 abbrev pub IsReadingCommand : Command → Type 0
 IsReadingCommand (Check check) = Unit {0}
 IsReadingCommand (Restore restore_words) = Unit {0}
+IsReadingCommand (Trim trim_words) = Unit {0}
+IsReadingCommand (Convert convert_words) = Unit {0}
 IsReadingCommand (Match match_words) = Unit {0}
 IsReadingCommand (Info info) = Unit {0}
 IsReadingCommand (Make make_words) = ⊥

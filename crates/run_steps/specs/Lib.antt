@@ -1,4 +1,5 @@
 pub mod Commands
+pub mod Convert
 pub mod Info
 pub mod Make
 pub mod Match
@@ -8,8 +9,11 @@ pub mod Restore
 pub mod Steps
 pub mod Stops
 pub mod Trial
+pub mod Trim
 pub mod Writing
 pub use Rattle.account_check.specs.Verdicts
+pub use Rattle.account_convert.specs.Conversions
+pub use Rattle.account_trim.specs.Trims
 pub use Rattle.account_write.specs.Records
 pub use Rattle.aiger_reader.specs.Aiger
 pub use Rattle.check_steps.specs.Asks

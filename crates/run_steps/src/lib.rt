@@ -1,10 +1,11 @@
-//! The steps of a run that ask no search, beside those of a check: an answer's account and a pair of netlists, written.
+//! The steps of a run that ask no search, beside those of a check: an answer's account, a pair of
+//! netlists, or another text, written.
 #![tactic(auto)]
 
 mod concluding;
 mod making;
 mod writing;
 
-pub use concluding::conclude;
-pub use making::{make_files, write_named};
-pub use writing::{write_account, write_text};
+pub use concluding::{conclude, reported};
+pub use making::{make_files, write_named, write_named_with_end};
+pub use writing::{write_account, write_text, write_with_end};

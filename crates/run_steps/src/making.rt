@@ -1,6 +1,6 @@
 //! The pair of netlists that a number gives, written to two files.
 
-ghost use Rattle.std.specs.Prelude.{◌≡◌, IfOk};
+ghost use Rattle.std.specs.Prelude.{◌≡◌, ◌++◌, IfOk};
 ghost use Rattle.net_print.specs.BlifLines.{blif_text};
 ghost use Rattle.net_print.specs.Files.{aig_text};
 ghost use Rattle.shelf_core.specs.State.{Closed};
@@ -9,7 +9,7 @@ ghost use Rattle.run_steps.specs.Steps.{Decides, WritesPair, WritesText};
 ghost use Rattle.run_steps.specs.Commands.{asked_make};
 
 use crate::concluding::unwritten;
-use crate::write_text;
+use crate::{write_text, write_with_end};
 use check_steps::{Ending, Make, Outcome, report_line};
 use gen_pair::{GenPair, make};
 use net_core::Graphs;
@@ -75,6 +75,23 @@ pub fn write_named<S: Shelf, P: Parts>(
     ensures { WritesText S.tells name.now (P.left text.old) (S.state shelf.old) (S.state shelf.new) result }
 {
     match write_text(alloc, shelf, name, text) {
+        Ok(()) => Ok(()),
+        Err(stop) => Err(unwritten(stop)),
+    }
+}
+
+/// Writes a text and its end under a name, the end by itself, or says how the run ends without them.
+pub fn write_named_with_end<S: Shelf, P: Parts>(
+    alloc: Global,
+    shelf: &mut S,
+    name: &str,
+    text: &mut P,
+    end: &[u8],
+) -> Result<(), Outcome>
+    requires { (S.state shelf.old).mode ≡ Closed }
+    ensures { WritesText S.tells name.now (P.left text.old ++ end.now) (S.state shelf.old) (S.state shelf.new) result }
+{
+    match write_with_end(alloc, shelf, name, text, end) {
         Ok(()) => Ok(()),
         Err(stop) => Err(unwritten(stop)),
     }

@@ -1,6 +1,6 @@
 //! Texts that are printed part by part, written to a shelf.
 
-ghost use Rattle.std.specs.Prelude.{◌≡◌, ◌≤◌, [], OnOk, drop, vec_len};
+ghost use Rattle.std.specs.Prelude.{◌≡◌, ◌≤◌, [], ◌++◌, OnOk, drop, vec_len};
 ghost use Rattle.account_write.specs.Records.{account_of, records_of};
 ghost use Rattle.shelf_core.specs.State.{Closed, Writing};
 ghost use Rattle.run_steps.specs.Writing.{WritesFile, WritesOn};
@@ -26,8 +26,26 @@ pub fn write_account<S: Shelf>(
     ensures { WritesFile S.tells name.now (account_of (records_of account.now))
         (S.state shelf.old) (S.state shelf.new) result }
 {
+    let mut lines = account.lines();
+    write_with_end(alloc, shelf, name, &mut lines, last_line())
+}
+
+/// Writes a text and its end under a name, in place of what stands under the name: the text in pieces, and the end by
+/// itself. After a refusal no further call is made.
+pub fn write_with_end<S: Shelf, P: Parts>(
+    alloc: Global,
+    shelf: &mut S,
+    name: &str,
+    text: &mut P,
+    end: &[u8],
+) -> Result<(), ShelfStop>
+    requires { (S.state shelf.old).mode ≡ Closed }
+    ensures writes { WritesFile S.tells name.now (P.left text.old ++ end.now)
+        (S.state shelf.old) (S.state shelf.new) result }
+    ensures closed { OnOk result ((S.state shelf.new).mode ≡ Closed) }
+{
     shelf.create(name)?;
-    append_account(alloc, shelf, account)?;
+    append_with_end(alloc, shelf, text, end)?;
     shelf.close()
 }
 
@@ -47,18 +65,18 @@ pub fn write_text<S: Shelf, P: Parts>(
     shelf.close()
 }
 
-/// Writes an account to the open file.
-fn append_account<S: Shelf>(
+/// Writes a text and its end to the open file.
+fn append_with_end<S: Shelf, P: Parts>(
     alloc: Global,
     shelf: &mut S,
-    account: &Account,
+    text: &mut P,
+    end: &[u8],
 ) -> Result<(), ShelfStop>
     requires { (S.state shelf.old).mode ≡ Writing }
-    ensures { WritesOn S.tells (account_of (records_of account.now)) [] (S.state shelf.old) (S.state shelf.new) result }
+    ensures { WritesOn S.tells (P.left text.old ++ end.now) [] (S.state shelf.old) (S.state shelf.new) result }
 {
-    let mut lines = account.lines();
-    append_text(alloc, shelf, &mut lines)?;
-    shelf.append(last_line())
+    append_text(alloc, shelf, text)?;
+    shelf.append(end)
 }
 
 /// Writes a text to the open file in pieces. It is never whole in memory: parts of it are printed until a piece stands

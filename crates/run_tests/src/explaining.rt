@@ -330,7 +330,7 @@ fn changes_no_file(rt: HostRuntime) -> Result<(), Fail> {
 }
 
 /// Words of no form, and what is told of them before the forms.
-static USAGE: [(&[&str], &str); 16] = [
+static USAGE: [(&[&str], &str); 20] = [
     (&[], "no command is given"),
     (&["mach", "A", "B", "t"], "`mach` is no command"),
     (&["ma\x1btch"], "`ma?tch` is no command"),
@@ -364,6 +364,16 @@ static USAGE: [(&[&str], &str); 16] = [
     (
         &["restore", "A", "B", "t", "t"],
         "NEW is the same word as ACCOUNT, and would be written over it",
+    ),
+    (&["trim", "A", "B", "t"], "NEW is missing"),
+    (
+        &["trim", "A", "B", "t", "t"],
+        "NEW is the same word as OLD, and would be written over it",
+    ),
+    (&["convert"], "OLD is missing"),
+    (
+        &["convert", "t", "t"],
+        "NEW is the same word as OLD, and would be written over it",
     ),
 ];
 

@@ -60,3 +60,13 @@ pub(crate) const AND_XOR: &[u8] = b"npnp 1\n\
       ban : cover out 0 / 0 / 0 1\n\
       none ban 2\n\
       end\n";
+
+/// That the netlists have other numbers of ports.
+pub(crate) const NONE_PORTS: &[u8] = b"npnp 1\nnone ports\nend\n";
+
+/// The wire rises with its input, and constant 0 doesn't: each way to pair the inputs and the outputs is excluded.
+pub(crate) const ZERO_WIRE: &[u8] =
+    b"npnp 1\nfails b 0 down 0 =1\nholds a 0 down 0\nl : 0 1\nban i0+0 o0+0 : mismatch 0 1\n\
+      ban i0-0 o0+0 : vector 0 =0\nban i0+0 o0-0 : vector 0 =0\nban i0-0 o0-0 : mismatch 0 1\n\
+      ban o0+0 : cover in 0 / 0 / 0 1\nban o0-0 : cover in 0 / 0 / 2 3\nban : cover out 0 / 0 / 4 5\nnone ban 6\n\
+      end\n";

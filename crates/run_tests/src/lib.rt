@@ -20,6 +20,8 @@ mod refusals;
 #[cfg(test)]
 mod restores;
 #[cfg(test)]
+mod rewrites;
+#[cfg(test)]
 mod runs;
 #[cfg(test)]
 mod watching;

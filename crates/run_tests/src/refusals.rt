@@ -1,19 +1,12 @@
 //! Accounts that say that no match exists, and the nearest ones that aren't good.
 
 use crate::alterations::{Altered, check_altered};
-use crate::files::{A, AND, AND_OR, AND_XOR, B, EMPTY, OR, TABLE, THREE, TWO, WIRE, XOR, ZERO};
+use crate::files::{
+    A, AND, AND_OR, AND_XOR, B, EMPTY, NONE_PORTS, OR, TABLE, THREE, TWO, WIRE, XOR, ZERO,
+    ZERO_WIRE,
+};
 use crate::runs::{CHECK, expect};
 use std::test::Fail;
-
-/// That the netlists have other numbers of ports.
-const NO_PORTS: &[u8] = b"npnp 1\nnone ports\nend\n";
-
-/// The wire rises with its input, and constant 0 doesn't: each way to pair the inputs and the outputs is excluded.
-const ZERO_WIRE: &[u8] =
-    b"npnp 1\nfails b 0 down 0 =1\nholds a 0 down 0\nl : 0 1\nban i0+0 o0+0 : mismatch 0 1\n\
-      ban i0-0 o0+0 : vector 0 =0\nban i0+0 o0-0 : vector 0 =0\nban i0-0 o0-0 : mismatch 0 1\n\
-      ban o0+0 : cover in 0 / 0 / 0 1\nban o0-0 : cover in 0 / 0 / 2 3\nban : cover out 0 / 0 / 4 5\nnone ban 6\n\
-      end\n";
 
 /// The same netlists, by the numbers of inputs that their outputs depend on.
 const BY_SUPPORT: &[u8] = b"npnp 1\n\
@@ -30,7 +23,7 @@ const BY_SUPPORT: &[u8] = b"npnp 1\n\
 
 /// Netlists that have no match, and an account of that.
 static REFUSALS: [[&[u8]; 3]; 4] = [
-    [THREE, TWO, NO_PORTS],
+    [THREE, TWO, NONE_PORTS],
     [AND, XOR, AND_XOR],
     [ZERO, WIRE, ZERO_WIRE],
     [ZERO, WIRE, BY_SUPPORT],
@@ -219,7 +212,7 @@ fn rejects_refusals_of_other_netlists(rt: HostRuntime) -> Result<(), Fail> {
     check_altered(&rt, alloc, [ZERO, WIRE, BY_SUPPORT], &SUPPORTS)?;
     check_altered(&rt, alloc, [ZERO, WIRE, ZERO_WIRE], &ALTERED_ZERO_WIRE)?;
     check_altered(&rt, alloc, [AND, OR, AND_OR], &OF_OR)?;
-    check_altered(&rt, alloc, [EMPTY, EMPTY, NO_PORTS], &OF_NOTHING)?;
+    check_altered(&rt, alloc, [EMPTY, EMPTY, NONE_PORTS], &OF_NOTHING)?;
     check_altered(&rt, alloc, [A, B, TABLE], &AGREE)?;
-    check_altered(&rt, alloc, [THREE, TWO, NO_PORTS], &DIFFER)
+    check_altered(&rt, alloc, [THREE, TWO, NONE_PORTS], &DIFFER)
 }

@@ -1,51 +1,11 @@
 //! Netlists that get the ports of others back. What is to be written was worked out by hand, by the AIGER format.
 
-ghost use Rattle.std.specs.Prelude.{◌≢◌, AllPairs, IfOk, string_bytes};
-
 use crate::files::{A, AND, AND_OR, B, EMPTY, OR, TABLE, THREE, TWO};
-use crate::runs::{Ended, Failing, NEVER, NONE, file, note, shelf_failing, status_of};
-use shelf_core::SafeSink;
-use std::alloc::{AllocError, Global};
+use crate::runs::{FourFiles, OLD, new_files, run_new};
 use std::test::Fail;
 
 /// The words that ask for it.
 const RESTORE: &[&str] = &["restore", "A", "B", "t", "n"];
-
-/// What stands under the new file's name before.
-const OLD: &[u8] = b"old";
-
-/// Netlists `A` and `B`, an account `t`, and a file `n`.
-fn four_files(alloc: Global, files: [&[u8]; 3]) -> Result<Vec<(String, Vec<u8>)>, AllocError>
-    ensures { IfOk result (λ files. AllPairs (λ a b. string_bytes a.0 ≢ string_bytes b.0) files.items) }
-{
-    let [first, second, account] = files;
-    let mut held = Vec::new(alloc);
-    held.push(file(alloc, "A", first)?)?;
-    held.push(file(alloc, "B", second)?)?;
-    held.push(file(alloc, "t", account)?)?;
-    held.push(file(alloc, "n", OLD)?)?;
-    Ok(held)
-}
-
-/// How a run ends where this call of the shelf fails, and what stands under `n` then.
-fn run_new(
-    alloc: Global,
-    words: &[&str],
-    files: [&[u8]; 3],
-    call: u64,
-) -> Result<Ended, AllocError> {
-    let failing = Failing { call, ..NONE };
-    let mut sink = SafeSink::new(alloc);
-    let mut shelf = shelf_failing(alloc, four_files(alloc, files)?, failing)?;
-    let status = status_of(alloc, words, &mut shelf, &mut sink)?;
-    note(
-        alloc,
-        status,
-        sink.written(),
-        shelf.file("n"),
-        shelf.calls(),
-    )
-}
 
 /// The AND as BLIF, with names.
 const NAMED_AND: &[u8] = b".inputs a b\n.outputs y\n.names a b y\n11 1\n";
@@ -59,17 +19,8 @@ const BINARY_OR: &[u8] = b"aig 3 2 0 1 1\n7\n\x01\x02";
 /// The AND with names that end in a carriage return, or have one within.
 const RETURNS: &[u8] = b"aag 3 2 0 1 1\n2\n4\n6\n6 2 4\ni0 a\r\r\ni1 b\r\no0 y\rz\n";
 
-/// Words and files, the status, the report, and what stands under `n` then.
-type Restored = (
-    &'static [&'static str],
-    [&'static [u8]; 3],
-    u8,
-    &'static [u8],
-    &'static [u8],
-);
-
 /// Circuits that are written by a match, and accounts and files from which none is.
-static RESTORED: [Restored; 18] = [
+static RESTORED: [FourFiles; 18] = [
     // input 0 of the first is input 1 of the second, inverted, and so is output 0 output 1
     (
         RESTORE,
@@ -211,11 +162,7 @@ static RESTORED: [Restored; 18] = [
 
 #[test]
 fn restores_or_leaves_the_file(rt: HostRuntime) -> Result<(), Fail> {
-    for (words, files, status, report, new) in RESTORED.iter() {
-        let ended = run_new(rt.alloc(), *words, *files, NEVER)?;
-        assert_eq!(rt; ended.outcome(), (*status, *report, Some(*new)));
-    }
-    Ok(())
+    new_files(&rt, rt.alloc(), &RESTORED)
 }
 
 /// What stands under `n` where a call fails: the open of the account, the create, the append and the close.

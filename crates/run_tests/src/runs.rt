@@ -209,3 +209,57 @@ pub(crate) fn run_failing(
         shelf.calls(),
     )
 }
+
+/// What stands under the new file's name before.
+pub(crate) const OLD: &[u8] = b"old";
+
+/// Netlists `A` and `B`, an account `t`, and a file `n`.
+fn four_files(alloc: Global, files: [&[u8]; 3]) -> Result<Vec<(String, Vec<u8>)>, AllocError>
+    ensures { IfOk result (λ files. AllPairs (λ a b. string_bytes a.0 ≢ string_bytes b.0) files.items) }
+{
+    let [first, second, account] = files;
+    let mut held = Vec::new(alloc);
+    held.push(file(alloc, "A", first)?)?;
+    held.push(file(alloc, "B", second)?)?;
+    held.push(file(alloc, "t", account)?)?;
+    held.push(file(alloc, "n", OLD)?)?;
+    Ok(held)
+}
+
+/// How a run ends where this call of the shelf fails, and what stands under `n` then.
+pub(crate) fn run_new(
+    alloc: Global,
+    words: &[&str],
+    files: [&[u8]; 3],
+    call: u64,
+) -> Result<Ended, AllocError> {
+    let failing = Failing { call, ..NONE };
+    let mut sink = SafeSink::new(alloc);
+    let mut shelf = shelf_failing(alloc, four_files(alloc, files)?, failing)?;
+    let status = status_of(alloc, words, &mut shelf, &mut sink)?;
+    note(
+        alloc,
+        status,
+        sink.written(),
+        shelf.file("n"),
+        shelf.calls(),
+    )
+}
+
+/// Words and files `A`, `B` and `t`, the status, the report, and what stands under `n` then.
+pub(crate) type FourFiles = (
+    &'static [&'static str],
+    [&'static [u8]; 3],
+    u8,
+    &'static [u8],
+    &'static [u8],
+);
+
+/// Runs on four files each, and expects what the rows say.
+pub(crate) fn new_files(rt: &impl Abort, alloc: Global, rows: &[FourFiles]) -> Result<(), Fail> {
+    for (words, files, status, report, new) in rows {
+        let ended = run_new(alloc, *words, *files, NEVER)?;
+        assert_eq!(rt; ended.outcome(), (*status, *report, Some(*new)));
+    }
+    Ok(())
+}

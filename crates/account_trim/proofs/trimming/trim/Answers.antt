@@ -26,3 +26,8 @@ returns-clause-rejected c line why memory =
     let verdict = c.in_ok-verdict.verdict in
     let accepted = (c.in_ok-verdict.ensures.accepted verdict (λ is. cc)).0 refl in
     (λ is. cc, λ rejected. absurd (never_both graphs bytes verdict line why accepted rejected))
+
+pub returns-clause-accepted : goal.returns-clause-accepted
+returns-clause-accepted c =
+    let verdict = c.in_ok-verdict.verdict in
+    (verdict, (c.in_ok-verdict.ensures.accepted verdict (λ is. cc)).0 refl)

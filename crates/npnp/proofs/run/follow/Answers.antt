@@ -11,6 +11,12 @@ returns-in-Check-clause-decides g c = check_decides _ _ c.in-Check.check _ _ _ c
 pub returns-in-Restore-clause-decides : goal.returns-in-Restore-clause-decides
 returns-in-Restore-clause-decides g c = subst (λ command. Decides g.S.Shelf.tells command (g.S.Shelf.state c.args.shelf.now) (g.S.Shelf.state c.restore_files.new.shelf) c.restore_files.result) (sym c.in-Restore.is) c.restore_files.ensures
 
+pub returns-in-Trim-clause-decides : goal.returns-in-Trim-clause-decides
+returns-in-Trim-clause-decides g c = subst (λ command. Decides g.S.Shelf.tells command (g.S.Shelf.state c.args.shelf.now) (g.S.Shelf.state c.trim_files.new.shelf) c.trim_files.result) (sym c.in-Trim.is) c.trim_files.ensures
+
+pub returns-in-Convert-clause-decides : goal.returns-in-Convert-clause-decides
+returns-in-Convert-clause-decides g c = subst (λ command. Decides g.S.Shelf.tells command (g.S.Shelf.state c.args.shelf.now) (g.S.Shelf.state c.convert_files.new.shelf) c.convert_files.result) (sym c.in-Convert.is) c.convert_files.ensures
+
 pub returns-in-Match-clause-decides : goal.returns-in-Match-clause-decides
 returns-in-Match-clause-decides g c = subst (λ command. Decides g.S.Shelf.tells command (g.S.Shelf.state c.args.shelf.now) (g.S.Shelf.state c.match_files.new.shelf) c.match_files.result) (sym c.in-Match.is) c.match_files.ensures
 

@@ -2,9 +2,9 @@
 use Rattle.std.proofs.Common.{inl, inr, refl, sym, subst, ◌∙◌}
 use Rattle.run_steps.specs.Outcomes.{IsOfTrial, IsRight, IsReported, Leaves}
 use Rattle.check_steps.specs.Lines.{line_of}
-use Rattle.check_steps.specs.declared.outcome.Outcome.TheVariants.{AcceptedMatch, AcceptedRefusal, Rejected, Matched, NoMatching, Spent, Made, Restored, Tried, Absent, TooLarge, Malformed, Memory}
+use Rattle.check_steps.specs.declared.outcome.Outcome.TheVariants.{AcceptedMatch, AcceptedRefusal, Rejected, Matched, NoMatching, Spent, Made, Restored, Trimmed, Converted, Tried, Absent, TooLarge, Malformed, Memory}
 use Rattle.run_steps.proofs.MatchLemmas.{kept, may_be_cut}
-use Rattle.run_steps.proofs.CheckLemmas.{exactly, exactly_informed, exactly_none, of_match, reached, reported_read, report_of_same}
+use Rattle.run_steps.proofs.CheckLemmas.{exactly, exactly_informed, exactly_none, of_convert, of_match, of_trim, reached, reported_read, report_of_same}
 use Rattle.npnp.proofs.TellingLemmas.{answered_as, sound_memory}
 use Rattle.npnp.proofs.run.run.Goals as goal
 
@@ -64,6 +64,24 @@ returns-clause-restored g c = λ tells decided gates. exactly _ _ _ _ (c.answer-
 
 pub returns-clause-restored_file : goal.returns-clause-restored_file
 returns-clause-restored_file g c = λ tells gates is. subst (Leaves _ _ _) (answered_as c.put_report.ensures.same (reached (Restored gates) tt).reported is) (c.answer-ending.ensures.left tells)
+
+pub returns-clause-trimmed : goal.returns-clause-trimmed
+returns-clause-trimmed g c = λ tells decided before after. exactly _ _ _ _ (c.answer-ending.ensures.right tells) c.put_report.ensures.same decided (Trimmed before after) (reached (Trimmed before after) tt) tt
+
+pub returns-clause-trims : goal.returns-clause-trims
+returns-clause-trims g c = λ tells decided. of_trim _ _ _ _ (c.answer-ending.ensures.right tells) c.put_report.ensures.same decided
+
+pub returns-clause-trimmed_file : goal.returns-clause-trimmed_file
+returns-clause-trimmed_file g c = λ tells before after is. subst (Leaves _ _ _) (answered_as c.put_report.ensures.same (reached (Trimmed before after) tt).reported is) (c.answer-ending.ensures.left tells)
+
+pub returns-clause-converted : goal.returns-clause-converted
+returns-clause-converted g c = λ tells decided from to records. exactly _ _ _ _ (c.answer-ending.ensures.right tells) c.put_report.ensures.same decided (Converted from to records) (reached (Converted from to records) tt) tt
+
+pub returns-clause-converts : goal.returns-clause-converts
+returns-clause-converts g c = λ tells decided. of_convert _ _ _ _ (c.answer-ending.ensures.right tells) c.put_report.ensures.same decided
+
+pub returns-clause-converted_file : goal.returns-clause-converted_file
+returns-clause-converted_file g c = λ tells from to records is. subst (Leaves _ _ _) (answered_as c.put_report.ensures.same (reached (Converted from to records) tt).reported is) (c.answer-ending.ensures.left tells)
 
 pub returns-clause-tried : goal.returns-clause-tried
 returns-clause-tried g c = λ number account is. c.answer-ending.ensures.by_words.tried number account (answered_as c.put_report.ensures.same (reached (Tried number account) tt).reported is)

@@ -1,14 +1,13 @@
--- The file was made, filled and closed.
-use Rattle.run_steps.proofs.WritingLemmas.{closed, not_created, not_written}
+-- The account's lines were written, and the last one by itself.
+use Rattle.std.proofs.Common.{◌++◌, ap, subst}
+use Rattle.account_write.specs.Records.{lines_of, records_of}
+use Rattle.run_steps.specs.Writing.{WritesFile}
 use Rattle.run_steps.proofs.writing.write_account.Goals as goal
 
-pub returns-in_err-create : goal.returns-in_err-create
-returns-in_err-create g c =
-    not_created _ _ _ _ _ c.in_err-create.field-0.0 _ c.from_residual.ensures.1 c.in_err-create.ensures
-
-pub returns-in_err-append_account : goal.returns-in_err-append_account
-returns-in_err-append_account g c =
-    not_written _ _ _ _ _ _ c.in_err-append_account.field-0.0 _ c.from_residual-in_err-append_account.ensures.1 c.in_ok-create.ensures c.in_err-append_account.ensures
-
 pub returns : goal.returns
-returns g c = closed _ _ _ _ _ _ _ _ c.in_ok-create.ensures c.in_ok-append_account.ensures c.close.ensures
+returns g c =
+    let tells = g.S.Shelf.tells in
+    let old = g.S.Shelf.state c.args.shelf.now in
+    let new = g.S.Shelf.state c.write_with_end.new.shelf in
+    subst (λ end. WritesFile tells c.args.name.now (lines_of (records_of c.args.account.now) ++ end) old new c.write_with_end.result) c.last_line.ensures
+    (subst (λ lines. WritesFile tells c.args.name.now (lines ++ c.last_line.result.now) old new c.write_with_end.result) (ap lines_of c.lines-lines.ensures) c.write_with_end.ensures.writes)

@@ -1,0 +1,5 @@
+mod ConvertLemmas
+mod DecideLemmas
+mod EndingLemmas
+mod RewriteLemmas
+mod TrimLemmas
