@@ -1,5 +1,5 @@
 -- For `check_models`: what follows where no name is refused, and the size of the top.
-use Rattle.std.proofs.Common.{◌≡◌, ℕ, ◌+◌, ◌<◌, ◌≤◌, Bool, true, false, not, List, [], length, get_or, All, refl, ap, sym, subst, ◌∙◌, inl, inr, Result, Ok, Err, IfOk, arith}
+use Rattle.std.proofs.Common.{◌≡◌, ℕ, ◌+◌, ◌<◌, ◌≤◌, Bool, true, false, not, List, [], length, get_or, All, refl, ap, sym, subst, ◌∙◌, inl, inr, arith}
 use Rattle.std.specs.Prelude.{nat_lt}
 use Rattle.std.specs.List.{flat_map, position_or_len}
 use Rattle.std.proofs.lemmas.Bool.Decides.{nat_tests}
@@ -25,8 +25,8 @@ use Rattle.hier_blif.specs.Hierarchies.{most_parts}
 use Rattle.hier_blif.specs.Scopes.{model_at}
 use Rattle.hier_blif.specs.Order.{place_of, AreThere, IsBottomUp}
 use Rattle.hier_blif.specs.Sizes.{capped, IsSize, AreSizes}
-use Rattle.hier_blif.specs.Limits.{HasFewPorts, HasManyPorts}
-use Rattle.hier_blif.specs.Checks.{AreSmallModels, AreChecked, IsModelFault}
+use Rattle.hier_blif.specs.Limits.{HasManyPorts}
+use Rattle.hier_blif.specs.Checks.{AreSmallModels, IsModelFault}
 use Rattle.hier_blif.proofs.ElementLemmas.{all_of_place}
 use Rattle.hier_blif.proofs.WellNamedLemmas.{both_empty, parts_empty}
 use Rattle.hier_blif.proofs.OrderLemmas.{by_callee, has_depth}
@@ -112,7 +112,3 @@ ports_many end models lines fault same small many =
 pub top_lines : (models : List BlifModel) (read : BlifModel) (lines : List ModelLine) → 0 < length models → lines ≡ (get_or models 0 read).lines → lines ≡ (model_at models 0).lines
 top_lines models read lines some is =
     is ∙ ap (λ (m : BlifModel). m.lines) (get_or_default models 0 read (empty_model 0 no_name) some)
-
-pub ports_few : {X : Type 0} (call : Result X HierStop) (models : List BlifModel) (lines : List ModelLine) → lines ≡ (model_at models 0).lines → AreSmallModels models → IfOk call (λ x. HasFewPorts lines) → IfOk call (λ x. AreChecked models)
-ports_few (Ok x) models lines same small few = record { small = small; few = subst HasFewPorts same few }
-ports_few (Err stop) models lines same small few = tt

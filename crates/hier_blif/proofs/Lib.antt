@@ -18,7 +18,15 @@ pub mod LookUpLemmas
 pub mod PortLemmas
 pub mod PushLemmas
 pub mod OrderLemmas
+pub mod TableLemmas
 pub mod SizeLemmas
 pub mod CheckLemmas
 pub mod LimitLemmas
 pub mod WideLemmas
+pub mod CountLemmas
+pub mod FilledLemmas
+pub mod DriverLemmas
+pub mod FrameLemmas
+pub mod TakeLemmas
+pub mod ClosedLemmas
+pub mod WholeLemmas

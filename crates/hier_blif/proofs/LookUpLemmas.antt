@@ -1,6 +1,6 @@
 -- For `names`: which model has a name, and the ports of the model at a place.
 use Rattle.std.proofs.Common.{◌≡◌, ℕ, zero, suc, ◌+◌, ◌<◌, ◌≤◌, Bool, true, false, not, cond, eqb, List, [], ◌∷◌, ◌++◌, length, get_or, take, Option, None, Some, refl, ap, sym, subst, ◌∙◌, inl, inr, arith}
-use Rattle.std.specs.Prelude.{is_some, nat_lt, position, slice_get}
+use Rattle.std.specs.Prelude.{is_some, nat_lt, option_map, position, slice_get}
 use Rattle.std.specs.Option.{option_or}
 use Rattle.std.specs.List.{AllZip, list_any, list_all, position_or_len}
 use Rattle.std.specs.Str.{bytes_eq}
@@ -86,7 +86,7 @@ position_push p xs x =
     ∙ push_by (position_or_len p xs) (length xs) (p x) (place_within p xs))
 
 -- names that are numbered, the first of a name
-or_none : (o : Option ℕ) → o ≡ option_or o None
+pub or_none : (o : Option ℕ) → o ≡ option_or o None
 or_none None = refl
 or_none (Some n) = refl
 
@@ -108,20 +108,37 @@ kept_number false numbers name number q e h = or_none (number_of numbers q)
 kept_number true numbers name number q e h =
     or_other (number_of numbers q) (Some number) (ap (λ n. is_some (number_of numbers n)) (same_bytes q name e) ∙ h)
 
-with_by : (t : Bool) (numbers : List (List ℕ × ℕ)) (name : List ℕ) (number : ℕ) (q : List ℕ) → is_some (number_of numbers name) ≡ t → number_of (cond t numbers (numbers ++ (name, number) ∷ [])) q ≡ option_or (number_of numbers q) (cond (bytes_eq q name) (Some number) None)
+pub with_by : (t : Bool) (numbers : List (List ℕ × ℕ)) (name : List ℕ) (number : ℕ) (q : List ℕ) → is_some (number_of numbers name) ≡ t → number_of (cond t numbers (numbers ++ (name, number) ∷ [])) q ≡ option_or (number_of numbers q) (cond (bytes_eq q name) (Some number) None)
 with_by true numbers name number q e = kept_number (bytes_eq q name) numbers name number q refl e
 with_by false numbers name number q e = lookup_push numbers name number q
 
--- one model more is numbered
+-- one element more is numbered
+mapped : (number : ℕ → ℕ) (o : Option ℕ) (t : Bool) (k : ℕ) → option_or (option_map number o) (cond t (Some (number k)) None) ≡ option_map number (option_or o (cond t (Some k) None))
+mapped number (Some n) t k = refl
+mapped number None true k = refl
+mapped number None false k = refl
+
+pub numbered_next : {X : Type 0} (key : X → List ℕ) (number : ℕ → ℕ) (xs : List X) (k : ℕ) (x : X) (old new : List (List ℕ × ℕ)) → k < length xs → x ≡ get_or xs k x → ((name : List ℕ) → number_of old name ≡ option_map number (position (λ y. bytes_eq name (key y)) (take k xs))) → new ≡ with_number old (key x) (number k) → (name : List ℕ) → number_of new name ≡ option_map number (position (λ y. bytes_eq name (key y)) (take (k + 1) xs))
+numbered_next {X} key number xs k x old new below is so_far n name =
+    let p = λ (y : X). bytes_eq name (key y) in
+    let more : take k xs ++ x ∷ [] ≡ take (k + 1) xs = sym (take_more xs k x below ∙ ap (λ y. take k xs ++ y ∷ []) (sym is)) in
+    let count : length (take k xs) ≡ k = length-take-le k xs (omega (arith, below)) in
+    ap (λ ns. number_of ns name) n
+    ∙ (with_by (is_some (number_of old (key x))) old (key x) (number k) name refl
+    ∙ (ap (λ o. option_or o (cond (p x) (Some (number k)) None)) (so_far name)
+    ∙ (mapped number (position p (take k xs)) (p x) k
+    ∙ ap (option_map number) (ap (λ j. option_or (position p (take k xs)) (cond (p x) (Some j) None)) (sym count)
+    ∙ (sym (position_push p (take k xs) x) ∙ ap (position p) more)))))
+
+-- a model, by its place
+same_number : (o : Option ℕ) → option_map (λ n. n) o ≡ o
+same_number None = refl
+same_number (Some n) = refl
+
 pub numbered_more : (models : List BlifModel) (k : ℕ) (model : BlifModel) (old new : List (List ℕ × ℕ)) → k < length models → model ≡ get_or models k model → ((name : List ℕ) → number_of old name ≡ position (has_name name) (take k models)) → new ≡ with_number old model.name.bytes k → (name : List ℕ) → number_of new name ≡ position (has_name name) (take (k + 1) models)
 numbered_more models k model old new below is so_far n name =
-    let more : take k models ++ model ∷ [] ≡ take (k + 1) models = sym (take_more models k model below ∙ ap (λ m. take k models ++ m ∷ []) (sym is)) in
-    let count : length (take k models) ≡ k = length-take-le k models (omega (arith, below)) in
-    ap (λ ns. number_of ns name) n
-    ∙ (with_by (is_some (number_of old model.name.bytes)) old model.name.bytes k name refl
-    ∙ (ap (λ o. option_or o (cond (has_name name model) (Some k) None)) (so_far name)
-    ∙ (ap (λ j. option_or (position (has_name name) (take k models)) (cond (has_name name model) (Some j) None)) (sym count)
-    ∙ (sym (position_push (has_name name) (take k models) model) ∙ ap (position (has_name name)) more))))
+    numbered_next (λ (m : BlifModel). m.name.bytes) (λ place. place) models k model old new below is (λ q. so_far q ∙ sym (same_number (position (has_name q) (take k models)))) n name
+    ∙ same_number (position (has_name name) (take (k + 1) models))
 
 -- the ports at a place
 pub ports_at : (models : List BlifModel) (ports : List PortNames) (place : ℕ) (found : PortNames) → AllZip HasPorts models ports → slice_get ports place ≡ Some found → HasPorts (model_at models place) found

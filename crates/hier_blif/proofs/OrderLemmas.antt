@@ -107,11 +107,14 @@ deep (suc k) models order j is short below =
     let before = stands_before order j q (omega (arith, short, below)) held in
     subst (λ n. deeper n ≡ true) before.is (deep k models order before.at is (omega (arith, short)) (omega (arith, before.before, below)))) (callees_at models place) (is.after j 0 (omega (arith, short, below))))
 
-pub has_depth : (models : List BlifModel) (order : List ℕ) (place : ℕ) → IsListing models order → Contains order place → HasDepth models (model_at models place)
-has_depth models order place is held =
+pub within_order : (models : List BlifModel) (order : List ℕ) (place : ℕ) → IsListing models order → Contains order place → is_within models (length order) (model_at models place) ≡ true
+within_order models order place is held =
     let whole = subst (λ ps. Contains ps place) (sym (take_all (length order) order (omega arith))) held in
     let before = stands_before order (length order) place (omega arith) whole in
-    (length order, subst (λ n. is_within models (length order) (model_at models n) ≡ true) before.is (deep (length order) models order before.at is (omega arith) before.before))
+    subst (λ n. is_within models (length order) (model_at models n) ≡ true) before.is (deep (length order) models order before.at is (omega arith) before.before)
+
+pub has_depth : (models : List BlifModel) (order : List ℕ) (place : ℕ) → IsListing models order → Contains order place → HasDepth models (model_at models place)
+has_depth models order place is held = (length order, within_order models order place is held)
 
 pub lines_deep : (models : List BlifModel) (order : List ℕ) (lines : List ModelLine) → IsListing models order → All (Contains order) (callees models lines) → All (λ other. HasDepth models (model_of models other)) (flat_map instances_on lines)
 lines_deep models order lines is all =

@@ -25,19 +25,19 @@ use Rattle.hier_blif.proofs.DistinctLemmas.{AreApart, find_own, own_place, apart
 use Rattle.hier_blif.proofs.ApartNamedLemmas.{AreNamedApart}
 
 -- how many covers a line makes doesn't depend on where it stands
-count_at : (f : BlifModel → List FlatCover) (models : List BlifModel) (j k : ℕ) (says : ModelLine) → length (covers_at f models j says) ≡ length (covers_at f models k says)
+pub count_at : (f : BlifModel → List FlatCover) (models : List BlifModel) (j k : ℕ) (says : ModelLine) → length (covers_at f models j says) ≡ length (covers_at f models k says)
 count_at f models j k (Cover line) = refl
 count_at f models j k (Instance line) =
     length-map (f (model_of models line)) (cover_inside j) ∙ sym (length-map (f (model_of models line)) (cover_inside k))
 count_at f models j k other = refl
 
-count_from : (f : BlifModel → List FlatCover) (models : List BlifModel) (j k : ℕ) (lines : List ModelLine) → length (covers_from f models j lines) ≡ length (covers_from f models k lines)
+pub count_from : (f : BlifModel → List FlatCover) (models : List BlifModel) (j k : ℕ) (lines : List ModelLine) → length (covers_from f models j lines) ≡ length (covers_from f models k lines)
 count_from f models j k [] = refl
 count_from f models j k (says ∷ lines) =
     omega (arith, length-append (covers_at f models j says) (covers_from f models (suc j) lines), length-append (covers_at f models k says) (covers_from f models (suc k) lines), count_at f models j k says, count_from f models (suc j) (suc k) lines)
 
 -- one line more
-count_more : (f : BlifModel → List FlatCover) (models : List BlifModel) (start : ℕ) (lines : List ModelLine) (k : ℕ) (says : ModelLine) → slice_get lines k ≡ Some says → length (covers_from f models start (take (suc k) lines)) ≡ length (covers_from f models start (take k lines)) + length (covers_at f models 0 says)
+pub count_more : (f : BlifModel → List FlatCover) (models : List BlifModel) (start : ℕ) (lines : List ModelLine) (k : ℕ) (says : ModelLine) → slice_get lines k ≡ Some says → length (covers_from f models start (take (suc k) lines)) ≡ length (covers_from f models start (take k lines)) + length (covers_at f models 0 says)
 count_more f models start [] k says get = absurd (cc get)
 count_more f models start (line ∷ lines) zero says get =
     let same = count_at f models start 0 line in

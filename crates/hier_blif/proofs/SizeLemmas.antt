@@ -1,9 +1,8 @@
 -- For `sizes_of`: what lines make is counted line by line, and a model's size is what its lines make.
-use Rattle.std.proofs.Common.{◌≡◌, ℕ, zero, suc, ◌+◌, ◌<◌, ◌≤◌, true, List, [], ◌∷◌, ◌++◌, length, get_or, set, take, All, Contains, refl, ap, sym, subst, ◌∙◌, inl, inr, arith}
+use Rattle.std.proofs.Common.{◌≡◌, ℕ, zero, suc, ◌+◌, ◌<◌, ◌≤◌, true, List, [], ◌∷◌, ◌++◌, length, get_or, set, take, All, Contains, refl, ap, sym, subst, ◌∙◌, arith}
 use Rattle.std.specs.List.{flat_map, sum_by}
-use Rattle.std.proofs.lemmas.Bool.{cases_eq}
-use Rattle.std.proofs.lemmas.List.{get_or-set_same, get_or-set_other, length-append, take_more, take_all}
-use Rattle.std.proofs.lemmas.List.Elements.{All-head, All-push, All-take, All-weaker, All-contains}
+use Rattle.std.proofs.lemmas.List.{length-append, take_more}
+use Rattle.std.proofs.lemmas.List.Elements.{All-head, All-take, All-weaker, All-contains}
 use Rattle.std.proofs.lemmas.List.Sums.{AllPass-from_list_all, sum_by-append}
 use Rattle.std.proofs.lemmas.Grind.{flat_map-append}
 use Rattle.circuits.proofs.Lists.{All-front, All-back}
@@ -19,6 +18,7 @@ use Rattle.hier_blif.specs.Scopes.{model_at}
 use Rattle.hier_blif.specs.Order.{place_of, callees_on, callees, IsListing}
 use Rattle.hier_blif.specs.Sizes.{capped, IsSize, IsSizeAt, AreSizes, AreWithin, instances_made, covers_made, Counts}
 use Rattle.hier_blif.proofs.OrderLemmas.{test_lines, callees_here, lines_at}
+use Rattle.hier_blif.proofs.TableLemmas.{table_more, table_held, table_all}
 
 -- lines one after another
 instances_both : (models : List BlifModel) (l : ℕ) (one other : List ModelLine) → instances_made models l (one ++ other) ≡ instances_made models l one + instances_made models l other
@@ -26,14 +26,14 @@ instances_both models l one other =
     let f = λ (line : InstanceLine). instances_within models l (model_of models line) in
     ap (sum_by f) (flat_map-append instances_on one other) ∙ sum_by-append f (flat_map instances_on one) (flat_map instances_on other)
 
-covers_both : (models : List BlifModel) (l : ℕ) (one other : List ModelLine) → covers_made models l (one ++ other) ≡ covers_made models l one + covers_made models l other
+pub covers_both : (models : List BlifModel) (l : ℕ) (one other : List ModelLine) → covers_made models l (one ++ other) ≡ covers_made models l one + covers_made models l other
 covers_both models l one other =
     let f = λ (line : InstanceLine). covers_within models l (model_of models line) in
     let sums = ap (sum_by f) (flat_map-append instances_on one other) ∙ sum_by-append f (flat_map instances_on one) (flat_map instances_on other) in
     let counts = ap length (flat_map-append covers_on one other) ∙ length-append (flat_map covers_on one) (flat_map covers_on other) in
     omega (arith, sums, counts)
 
-within_both : (models : List BlifModel) (l : ℕ) (one other : List ModelLine) → AreWithin models l (one ++ other) → AreWithin models l one × AreWithin models l other
+pub within_both : (models : List BlifModel) (l : ℕ) (one other : List ModelLine) → AreWithin models l (one ++ other) → AreWithin models l one × AreWithin models l other
 within_both models l one other all =
     let P = λ (callee : ℕ). is_within models l (model_at models callee) ≡ true in
     let parts = subst (All P) (flat_map-append (callees_on models) one other) all in
@@ -87,41 +87,31 @@ counts_none models (Inputs words) size one other i c = record { instances = λ l
 counts_none models (Outputs words) size one other i c = record { instances = λ l all. omega (arith, i); covers = λ l all. omega (arith, c) }
 
 -- what a model's lines make is its size
+pub lines_within : (models : List BlifModel) (model : BlifModel) (l : ℕ) → is_within models (suc l) model ≡ true → AreWithin models l model.lines
+lines_within models model l h =
+    AllPass-from_list_all (λ (q : ℕ). is_within models l (model_at models q)) (callees models model.lines) (sym (test_lines (is_within models l) models model.lines) ∙ h)
+
 counted : (models : List BlifModel) (model : BlifModel) (size : Size) → Counts models 1 model.lines size → IsSize models model size
 counted models model size counts = record {
   instances = instances;
   covers = covers;
 }
   where
-    within : (l : ℕ) → is_within models (suc l) model ≡ true → AreWithin models l model.lines
-    within l h =
-        AllPass-from_list_all (λ (q : ℕ). is_within models l (model_at models q)) (callees models model.lines) (sym (test_lines (is_within models l) models model.lines) ∙ h)
-
     instances : (depth : ℕ) → is_within models depth model ≡ true → size.instances ≡ capped (instances_within models depth model)
     instances zero h = absurd (cc h)
-    instances (suc l) h = counts.instances l (within l h)
+    instances (suc l) h = counts.instances l (lines_within models model l h)
 
     covers : (depth : ℕ) → is_within models depth model ≡ true → size.covers ≡ capped (covers_within models depth model)
     covers zero h = absurd (cc h)
-    covers (suc l) h = counts.covers l (within l h)
+    covers (suc l) h = counts.covers l (lines_within models model l h)
 
 -- one size more in the table
+abbrev SizeAt : List BlifModel → ℕ → Size → Type 0
+SizeAt models place size = IsSize models (model_at models place) size
+
 pub sized_more : (models : List BlifModel) (order : List ℕ) (k place : ℕ) (sizes : List Size) (size : Size) → k < length order → place ≡ get_or order k place → place < length sizes → IsSize models (model_at models place) size → All (IsSizeAt models sizes) (take k order) → All (IsSizeAt models (set sizes place size)) (take (k + 1) order)
 sized_more models order k place sizes size below is there here so_far =
-    let next : take (k + 1) order ≡ take k order ++ place ∷ [] = take_more order k place below ∙ ap (λ x. take k order ++ x ∷ []) (sym is) in
-    let new = set sizes place size in
-    subst (All (IsSizeAt models new)) (sym next) (All-push (IsSizeAt models new) (take k order) place (All-weaker (IsSizeAt models sizes) (IsSizeAt models new) (λ q was d. kept q d (was d)) (take k order) so_far) (at place refl))
-  where
-    at : (q : ℕ) → q ≡ place → IsSizeAt models (set sizes place size) q
-    at q same =
-        λ d. subst (λ n. IsSize models (model_at models n) (get_or (set sizes place size) n d)) (sym same) (subst (IsSize models (model_at models place)) (sym (get_or-set_same sizes place size d there)) here)
-
-    kept : (q : ℕ) (d : Size) → IsSize models (model_at models q) (get_or sizes q d) → IsSize models (model_at models q) (get_or (set sizes place size) q d)
-    kept q d was =
-        elim (cases_eq q place) [
-          | inl same ↦ at q same d
-          | inr other ↦ subst (IsSize models (model_at models q)) (sym (get_or-set_other sizes place q size d other)) was
-        ]
+    table_more (SizeAt models) order k place sizes size below is there here so_far
 
 -- the callees of the next model in the order
 pub step_callees : (models : List BlifModel) (order : List ℕ) (k : ℕ) (model : BlifModel) (lines : List ModelLine) → IsListing models order → k < length order → model ≡ get_or models (get_or order k 0) model → lines ≡ model.lines → All (Contains (take k order)) (callees models lines)
@@ -140,11 +130,10 @@ counted_at models place model lines size there at same counts =
     counted models (model_at models place) size (subst (λ ls. Counts models 1 ls size) (same ∙ sym (lines_at models place model there at)) counts)
 
 pub callees_sized : (models : List BlifModel) (sizes : List Size) (places lines : List ℕ) → All (IsSizeAt models sizes) places → All (Contains places) lines → All (IsSizeAt models sizes) lines
-callees_sized models sizes places lines sized held =
-    All-weaker (Contains places) (IsSizeAt models sizes) (λ q h. All-contains (IsSizeAt models sizes) places q sized h) lines held
+callees_sized models sizes places lines sized held = table_held (SizeAt models) sizes places lines sized held
 
 pub all_sized : (models : List BlifModel) (sizes : List Size) (order : List ℕ) (k : ℕ) → length order ≤ k → length sizes ≡ length models → ((place : ℕ) → place < length models → Contains order place) → All (IsSizeAt models sizes) (take k order) → AreSizes models sizes
 all_sized models sizes order k past entries whole sized = record {
   entries = entries;
-  each = λ place below. All-contains (IsSizeAt models sizes) order place (subst (All (IsSizeAt models sizes)) (take_all k order past) sized) (whole place below);
+  each = λ place below. table_all (SizeAt models) sizes order k place past (whole place below) sized;
 }

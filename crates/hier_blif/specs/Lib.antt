@@ -16,4 +16,8 @@ pub mod Order
 pub mod Sizes
 pub mod Checks
 pub mod Limits
+pub mod Drivers
 pub mod Widths
+pub mod Checked
+pub mod Frames
+pub mod Files

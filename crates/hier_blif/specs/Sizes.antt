@@ -21,6 +21,10 @@ pub record IsSize (models : List BlifModel) (model : BlifModel) (size : Size) : 
   pub covers : (depth : ℕ) → is_within models depth model ≡ true
       → size.covers ≡ capped (covers_within models depth model)
 
+-- how many covers are listed at a place
+abbrev pub covers_listed : List Size → ℕ → ℕ
+covers_listed sizes place = (slice_index_or sizes place (record { instances = 0; covers = 0 })).covers
+
 -- what is listed at a place is what the model there makes
 abbrev pub IsSizeAt : List BlifModel → List Size → ℕ → Type 0
 IsSizeAt models sizes place = (d : Size) → IsSize models (model_at models place) (slice_index_or sizes place d)

@@ -1,14 +1,14 @@
 //! The names of models, checked kind by kind: each check answers the first fault of its kind, or that there is none.
 
-ghost use Rattle.std.specs.Prelude.{◌≡◌, ◌&&◌, ◌∷◌, ◌++◌, ℕ, Bool, List, [], Some, not, if◌then◌else◌};
-ghost use Rattle.std.specs.Prelude.{map, filter, slice_get, position, IfOk, OnOk};
+ghost use Rattle.std.specs.Prelude.{◌≡◌, ◌<◌, ◌&&◌, ◌∷◌, ◌++◌, ℕ, Bool, List, [], Some, not, if◌then◌else◌};
+ghost use Rattle.std.specs.Prelude.{map, filter, length, slice_get, position, IfOk, OnOk};
 ghost use Rattle.std.specs.List.{AllZip, flat_map, list_all, list_any, position_or_len};
 ghost use Rattle.std.specs.Str.{bytes_eq};
 ghost use Rattle.text_core.specs.Piece.{Piece};
 ghost use Rattle.net_file.specs.Stops.{IsStopBy as IsNetStopBy};
 ghost use Rattle.blif_reader.specs.declared.survey.PortWord.{PortWord as AnyPort};
 ghost use Rattle.blif_reader.specs.Names.{is_redefined};
-ghost use Rattle.blif_reader.specs.Numbers.{names_of, IsRepeatedPort};
+ghost use Rattle.blif_reader.specs.Numbers.{names_of, bytes_of, IsRepeatedPort};
 ghost use Rattle.hier_blif.specs.Bindings.{formal_of};
 ghost use Rattle.hier_blif.specs.Stops.{IsStopBy, first_of, Finds};
 ghost use Rattle.hier_blif.specs.declared.fault.HierKind.TheVariants as wrong;
@@ -233,8 +233,34 @@ impl<'m, 'a> Scope<'m, 'a> {
         }
     }
 
+    /// The lines of the model at a place.
+    pub(crate) fn lines_at(&self, place: usize) -> &[ModelLine<'a>]
+        requires { place < length self.now.models.now }
+        ensures { result.now ≡ (model_at self.now.models.now place).lines }
+    {
+        self.models[place].lines.as_slice()
+    }
+
+    /// The names of the inputs of the model at a place, in the order of the text.
+    pub(crate) fn input_names(&self, place: usize) -> &IndexSet<&'a [u8]>
+        requires scope { IsScope self.now }
+        requires there { place < length self.now.models.now }
+        ensures { names_of result.now ≡ bytes_of (inputs_of (model_at self.now.models.now place)) }
+    {
+        &self.ports[place].inputs
+    }
+
+    /// The names of the outputs of the model at a place, in the order of the text.
+    pub(crate) fn output_names(&self, place: usize) -> &IndexSet<&'a [u8]>
+        requires scope { IsScope self.now }
+        requires there { place < length self.now.models.now }
+        ensures { names_of result.now ≡ bytes_of (outputs_of (model_at self.now.models.now place)) }
+    {
+        &self.ports[place].outputs
+    }
+
     // Whether what a word binds is an input of the model at a place.
-    fn is_input(&self, place: usize, word: &Span<'_>) -> bool
+    pub(crate) fn is_input(&self, place: usize, word: &Span<'_>) -> bool
         requires { IsScope self.now }
         ensures { result ≡ is_among (formal_of word.now.bytes) (inputs_of (model_at self.now.models.now place)) }
     {
@@ -245,7 +271,7 @@ impl<'m, 'a> Scope<'m, 'a> {
     }
 
     // Whether what a word binds is an output of the model at a place.
-    fn is_output(&self, place: usize, word: &Span<'_>) -> bool
+    pub(crate) fn is_output(&self, place: usize, word: &Span<'_>) -> bool
         requires { IsScope self.now }
         ensures { result ≡ is_among (formal_of word.now.bytes) (outputs_of (model_at self.now.models.now place)) }
     {

@@ -1,6 +1,6 @@
 //! Names that have numbers.
 
-ghost use Rattle.std.specs.Prelude.{◌≡◌, [], OnOk, OnErr};
+ghost use Rattle.std.specs.Prelude.{◌≡◌, [], unwrap_or, OnOk, OnErr};
 ghost use Rattle.hier_blif.specs.Scopes.{number_of, with_number};
 
 use indexmap::IndexMap;
@@ -35,6 +35,13 @@ impl<'a> NameNumbers<'a> {
         ensures { result ≡ number_of self.now name.now }
     {
         self.inside.get(name).copied()
+    }
+
+    /// The number of a name, and 0 if it has none.
+    pub(crate) fn number(&self, name: &[u8]) -> u64
+        ensures { result ≡ unwrap_or (number_of self.now name.now) 0 }
+    {
+        self.get(name).unwrap_or(0)
     }
 
     /// Gives a name a number, unless it has one.

@@ -31,8 +31,18 @@ impl Size {
         self.instances.saturating_add(self.covers) > MOST_PARTS
     }
 
+    /// Nothing yet.
+    pub(crate) fn none() -> Size
+        ensures { result ≡ record { instances = 0; covers = 0 } }
+    {
+        Size {
+            instances: 0,
+            covers: 0,
+        }
+    }
+
     /// The two sizes together.
-    fn with(self, more: Size) -> Size
+    pub(crate) fn with(self, more: Size) -> Size
         ensures instances { result.instances ≡ capped (self.instances + more.instances) }
         ensures covers { result.covers ≡ capped (self.covers + more.covers) }
     {
@@ -84,8 +94,8 @@ fn size_of(scope: &Scope<'_, '_>, lines: &[ModelLine<'_>], sizes: &[Size]) -> Si
     size
 }
 
-// What a line of a model makes.
-fn size_on(scope: &Scope<'_, '_>, line: &ModelLine<'_>, sizes: &[Size]) -> Size
+/// What a line of a model makes.
+pub(crate) fn size_on(scope: &Scope<'_, '_>, line: &ModelLine<'_>, sizes: &[Size]) -> Size
     requires scope { IsScope scope.now }
     requires there { All (λ callee. callee < length sizes.now) (callees_on scope.now.models.now line.now) }
     requires sizes { All (IsSizeAt scope.now.models.now sizes.now) (callees_on scope.now.models.now line.now) }

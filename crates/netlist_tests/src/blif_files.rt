@@ -10,7 +10,7 @@ use std::alloc::Global;
 use std::test::Fail;
 
 /// Reads a text, which no test makes longer than a file may be.
-fn read_text(alloc: Global, text: &[u8]) -> Result<Named, NetStop> {
+pub(crate) fn read_text(alloc: Global, text: &[u8]) -> Result<Named, NetStop> {
     if text.len() > 67_108_864 {
         return Err(NetStop::Memory);
     }

@@ -1,9 +1,12 @@
 //! Files of several models, whose lines and first faults are worked out by hand.
 
+use crate::blif_files;
+use crate::compared::{has_names, is_graph};
 use hier_blif::{
-    BlifModel, CoverLine, HierFault, HierKind, HierStop, InstanceLine, ModelLine, check_models,
-    check_names, read_models,
+    BlifModel, CoverLine, Hier, HierFault, HierKind, HierStop, InstanceLine, ModelLine,
+    check_models, check_names, read, read_models,
 };
+use net_core::{Graph, Lit};
 use std::alloc::{AllocError, Global};
 use std::test::Fail;
 use text_core::{Span, put_decimal};
@@ -398,5 +401,100 @@ fn counts_ports_of_the_first_model(rt: HostRuntime) -> Result<(), Fail> {
         at: 19_396,
     };
     assert!(rt; has_fault_of_hierarchy(rt.alloc(), &many, fault));
+    Ok(())
+}
+
+/// Reads a text, which no test makes longer than a file may be.
+fn read_text(alloc: Global, text: &[u8]) -> Result<Hier, HierStop> {
+    if text.len() > 67_108_864 {
+        return Err(HierStop::Memory);
+    }
+    read(alloc, text)
+}
+
+#[test]
+fn flattens_two_instances_of_a_model(rt: HostRuntime) -> Result<(), Fail> {
+    let hier = read_text(
+        rt.alloc(),
+        b".model top\n.inputs a b\n.outputs y\n.subckt nd p=a q=b r=t\n.subckt nd p=t q=t r=y\n.end\n\
+          .model nd\n.inputs p q\n.outputs r\n.names p q r\n11 0\n.end\n",
+    )?;
+    assert_eq!(rt; (hier.models, hier.instances), (2, 3));
+    assert!(rt; is_graph(&hier.net.graph, &[(2, 4), (7, 7)], &[Lit(9)]));
+    assert!(rt; has_names(rt.alloc(), &hier.net, b"a,b,", b"y,")?);
+    Ok(())
+}
+
+#[test]
+fn flattens_instances_within_instances(rt: HostRuntime) -> Result<(), Fail> {
+    // the output s of mid is bound to nothing, and its gate is there
+    let hier = read_text(
+        rt.alloc(),
+        b".model top\n.inputs a b\n.outputs y\n.subckt mid p=a q=b r=y\n\
+          .model mid\n.inputs p q\n.outputs r s\n.subckt nd p=p q=q r=r\n.names p q s\n11 1\n\
+          .model nd\n.inputs p q\n.outputs r\n.names p q r\n11 0\n",
+    )?;
+    assert_eq!(rt; (hier.models, hier.instances), (3, 3));
+    assert!(rt; is_graph(&hier.net.graph, &[(2, 4), (2, 4)], &[Lit(7)]));
+    Ok(())
+}
+
+fn is_same_graph(one: &Graph, other: &Graph) -> bool {
+    (one.inputs() == other.inputs())
+        & (one.gates() == other.gates())
+        & (one.outputs() == other.outputs())
+}
+
+#[test]
+fn flattens_to_what_one_model_is(rt: HostRuntime) -> Result<(), Fail> {
+    // a full adder of two half adders, and the same covers in one model
+    let hier = read_text(
+        rt.alloc(),
+        b".model fa\n.inputs a b c\n.outputs s k\n.subckt ha x=a y=b s=t c=u\n.subckt ha x=t y=c s=s c=v\n\
+          .names u v k\n1- 1\n-1 1\n.end\n\
+          .model ha\n.inputs x y\n.outputs s c\n.names x y s\n10 1\n01 1\n.names x y c\n11 1\n.end\n",
+    )?;
+    let named = blif_files::read_text(
+        rt.alloc(),
+        b".model fa\n.inputs a b c\n.outputs s k\n.names a b t\n10 1\n01 1\n.names a b u\n11 1\n\
+          .names t c s\n10 1\n01 1\n.names t c v\n11 1\n.names u v k\n1- 1\n-1 1\n.end\n",
+    )?;
+    assert_eq!(rt; (hier.models, hier.instances), (2, 3));
+    assert!(rt; is_same_graph(&hier.net.graph, &named.graph));
+    Ok(())
+}
+
+// Files that aren't flattened: the kind of the first fault, and where it stands.
+static UNREAD: [(&'static [u8], HierKind, u64); 3] = [
+    // an input of the model isn't bound
+    (
+        b".model top\n.inputs a\n.outputs y\n.subckt nd p=a r=y\n.end\n.model nd\n.inputs p q\n.outputs r\n\
+          .names p q r\n11 0\n",
+        HierKind::Unbound,
+        32,
+    ),
+    (
+        b".model t\n.inputs a\n.outputs y\n.subckt t a=a y=y\n",
+        HierKind::Recursion,
+        30,
+    ),
+    // a cycle through an instance, at its cover
+    (
+        b".model t\n.inputs a\n.outputs y\n.subckt u p=y q=y\n.model u\n.inputs p\n.outputs q\n.names p q\n1 1\n",
+        HierKind::Cycle,
+        78,
+    ),
+];
+
+#[test]
+fn finds_the_first_fault_of_a_hierarchy(rt: HostRuntime) -> Result<(), Fail> {
+    for (text, kind, at) in UNREAD.iter() {
+        match read_text(rt.alloc(), text) {
+            Err(HierStop::Fault(fault)) => {
+                assert_eq!(rt; (fault.kind, fault.at), (*kind, *at));
+            }
+            _ => assert!(rt; false),
+        }
+    }
     Ok(())
 }
