@@ -136,7 +136,20 @@ def judged(program, first, second, limit, folder):
     wanted = "accepted match\n" + printed.split("\n", 1)[1] if status == 0 else "accepted refusal\n"
     if accepted.stdout != wanted or accepted.returncode != status:
         return printed, seconds, f"the account: {accepted.stdout[:80]}"
-    return "matched" if status == 0 else "none", seconds, ""
+    return "matched" if status == 0 else "none", seconds, rewritten(program, names, wanted, folder)
+
+
+def rewritten(program, names, wanted, folder):
+    """What is wrong with an account's other forms: trimmed it has the same bytes, and so it has when it was converted there and back; in version 2 it is accepted too."""
+    account, trimmed, binary, again = names[2], *(os.path.join(folder, it) for it in ("trimmed", "binary", "again"))
+    for command in (["trim", *names, trimmed], ["convert", account, binary], ["convert", binary, again]):
+        done = subprocess.run([program, *command], capture_output=True, text=True)
+        if done.returncode != 0:
+            return f"{command[0]}: {done.stdout.strip()}"
+    if subprocess.run([program, "check", *names[:2], binary], capture_output=True, text=True).stdout != wanted:
+        return "version 2 isn't accepted"
+    same = open(account, "rb").read()
+    return "".join(f"{name} has other bytes; " for name in (trimmed, again) if open(name, "rb").read() != same)
 
 
 def judged_alone(program, phase, first, second, limit, folder):
