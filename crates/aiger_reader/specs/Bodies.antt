@@ -42,15 +42,14 @@ defines Input = true
 defines Output = false
 defines Gate = true
 
--- the lines after the header's
+-- the lines after the header's, and the offset of line k of a text
 abbrev pub body_lines : List ℕ → List (List ℕ)
 body_lines bytes = drop 1 (lines bytes)
 
--- the offset of line k of a text, of which the first is line 0
 abbrev pub line_offset : List ℕ → ℕ → ℕ
 line_offset bytes k = length (text_of_lines (take k (lines bytes)))
 
--- A line has exactly the required number of words, and they write these numbers.
+-- A line has exactly the wanted number of words, and they write these numbers.
 pub record Writes (line : List ℕ) (role : Role) (row : List ℕ) : Type 0 where
   pub numbers : numbers_on line ≡ map Some row
   pub width : length row ≡ wanted role
@@ -135,11 +134,10 @@ pub record AreLines (bytes : List ℕ) (h : AigerHeader) (rows : List (List ℕ)
   pub good : AreGood h (body_lines bytes) rows
   pub whole : length rows ≡ length (roles_of h)
 
--- the numbers on the body's lines, which are all there and good
+-- the body's lines and its first fault
 abbrev pub IsBody : List ℕ → AigerHeader → List (List ℕ) → Type 0
 IsBody bytes h rows = AreLines bytes (bare h) rows
 
--- the body's first fault, and its offset
 abbrev pub IsBodyFault : List ℕ → AigerHeader → NetKind → ℕ → Type 0
 IsBodyFault bytes h fault at = IsFirstFault bytes (bare h) fault at
 

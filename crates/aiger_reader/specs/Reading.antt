@@ -28,11 +28,10 @@ rows_of literals =
     ++ map (λ literal. literal ∷ []) literals.outputs.items
     ++ map row_of literals.gates.items
 
--- how many lines of inputs there are: none in the binary form
+-- how many lines of inputs and of gates there are: none in the binary form
 abbrev pub input_lines_of : AigerHeader → ℕ
 input_lines_of h = if h.binary then 0 else h.inputs
 
--- how many lines of gates there are: none in the binary form
 abbrev pub gate_lines_of : AigerHeader → ℕ
 gate_lines_of h = if h.binary then 0 else h.gates
 
