@@ -47,58 +47,53 @@ const RISES: u8 = 2;
 /// Both: the output is binate in the input.
 const BINATE: u8 = FALLS | RISES;
 
+/// The bit of an input from which a path with an even number of negations leads to the output.
+const EVEN: u8 = 4;
+
+/// The bit of one from which a path with an odd number leads there.
+const ODD: u8 = 8;
+
+/// Where the bits of what vectors commonly break begin.
+const COMMON: u32 = 4;
+
 /// What is known of an input of an output: by which paths it reaches the output, and whether a vector breaks the claim
-/// that the output never falls where the input goes up, or down.
+/// that the output never falls where the input goes up, or down. There is one for each input of each output, so all is
+/// in one byte.
 #[derive(Clone, Copy, Debug, Drop)]
 pub struct Flips {
-    paths: Paths,
-    breaks_up: bool,
-    breaks_down: bool,
-    /// Which of the two claims vectors commonly break, as `broken` has them.
-    common: u8,
+    /// `FALLS` and `RISES` for what vectors break, `EVEN` and `ODD` for the paths, and from `COMMON` on `FALLS` and
+    /// `RISES` for what vectors commonly break.
+    bits: u8,
 }
 
 impl Flips {
     // Nothing is known but the paths.
     fn unseen(paths: Paths) -> Flips {
-        Flips {
-            paths,
-            breaks_up: false,
-            breaks_down: false,
-            common: 0,
-        }
+        let even = if paths.even { EVEN } else { 0 };
+        let odd = if paths.odd { ODD } else { 0 };
+        Flips { bits: even | odd }
     }
 
     /// Whether the input reaches the output through gates.
     pub(crate) fn reaches(self) -> bool {
-        self.paths.even | self.paths.odd
+        self.bits & (EVEN | ODD) > 0
     }
 
     /// Whether a vector breaks the claim of the input that has this value at first: it goes up from false, and down
     /// from true.
     pub(crate) fn is_broken(self, value: bool) -> bool {
-        if value {
-            self.breaks_down
-        } else {
-            self.breaks_up
-        }
+        self.bits & breaking(value) > 0
     }
 
     /// Which of the two claims vectors break: `FALLS`, `RISES`, or both bits.
     pub(crate) fn broken(self) -> u8 {
-        let falls = if self.breaks_up { FALLS } else { 0 };
-        let rises = if self.breaks_down { RISES } else { 0 };
-        falls | rises
+        self.bits & BINATE
     }
 
     /// Whether the claim of the input with a value is broken by no vector, though it doesn't hold by paths.
     pub(crate) fn is_open_at(self, value: bool) -> bool {
-        let may_fall = if value {
-            self.paths.even
-        } else {
-            self.paths.odd
-        };
-        may_fall & !self.is_broken(value)
+        let may_fall = if value { EVEN } else { ODD };
+        (self.bits & may_fall > 0) & !self.is_broken(value)
     }
 
     fn is_open(self) -> bool {
@@ -108,8 +103,8 @@ impl Flips {
     /// Whether the output is known to depend on the input, or to be binate in it.
     pub fn is_of(self, kind: Tallied) -> bool {
         match kind {
-            Tallied::Support => self.breaks_up | self.breaks_down,
-            Tallied::Binate => self.breaks_up & self.breaks_down,
+            Tallied::Support => self.broken() > 0,
+            Tallied::Binate => self.broken() == BINATE,
         }
     }
 
@@ -117,49 +112,50 @@ impl Flips {
     pub fn is_never(self, kind: Tallied) -> bool {
         match kind {
             Tallied::Support => !self.reaches(),
-            Tallied::Binate => !(self.paths.even & self.paths.odd),
+            Tallied::Binate => self.bits & (EVEN | ODD) != EVEN | ODD,
         }
+    }
+
+    // Which of the two claims vectors commonly break.
+    fn common(self) -> u8 {
+        self.bits >> COMMON
     }
 
     /// Whether vectors commonly show that the output depends on the input, or is binate in it.
     pub fn is_commonly(self, kind: Tallied) -> bool {
         match kind {
-            Tallied::Support => self.common > 0,
-            Tallied::Binate => self.common == BINATE,
+            Tallied::Support => self.common() > 0,
+            Tallied::Binate => self.common() == BINATE,
         }
     }
 
     /// The value of a claim of the input that fails, if one does: one that vectors commonly break where there is one.
     pub fn failing_value(self) -> bool {
-        if self.common > 0 {
-            self.common == RISES
+        if self.common() > 0 {
+            self.common() == RISES
         } else {
-            !self.breaks_up
+            !self.is_broken(false)
         }
     }
 
     /// The value of a claim of the input that may hold, of which one isn't broken: one that holds by paths where there
     /// is one.
     pub fn holding_value(self) -> bool {
-        if self.breaks_up {
+        if self.is_broken(false) {
             true
         } else {
-            self.paths.odd & !self.paths.even & !self.breaks_down
+            (self.bits & (EVEN | ODD) == ODD) & !self.is_broken(true)
         }
     }
 
     /// Notes that the claim of the input with a value fails.
     pub(crate) fn break_claim(&mut self, value: bool) {
-        if value {
-            self.breaks_down = true;
-        } else {
-            self.breaks_up = true;
-        }
+        self.bits |= breaking(value);
     }
 
     // Notes that all that is known so far is commonly shown.
     fn mark_common(&mut self) {
-        self.common = self.broken();
+        self.bits |= self.broken() << COMMON;
     }
 
     // Notes that these vectors break the claim of the input with a value. Answers one of them where none did before.
@@ -170,6 +166,11 @@ impl Flips {
         self.break_claim(value);
         first_of(vectors)
     }
+}
+
+// What breaks the claim of an input with a value.
+fn breaking(value: bool) -> u8 {
+    if value { RISES } else { FALLS }
 }
 
 // The first of some vectors alone.
