@@ -19,6 +19,7 @@ mod resolution;
 mod resolved;
 mod units;
 mod view;
+mod watchers;
 
 pub use back::{start_over, turn_back};
 pub use conflict::{Conflict, conflict_set_of};

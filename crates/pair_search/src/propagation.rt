@@ -9,8 +9,9 @@ use crate::clashes::delete_ways;
 use crate::conflict::Conflict;
 use crate::crowds::crowd;
 use crate::ports::apply_port;
-use crate::queue::{Queue, Watcher, Watching};
+use crate::queue::{Queue, Watching};
 use crate::units::{apply, is_assigned, is_known};
+use crate::watchers::Watcher;
 use account_core::{Ban, Port, port_on};
 use circuits::Pair;
 use net_core::Side;
@@ -123,22 +124,22 @@ fn apply_bans(domains: &mut Domains, queue: &mut Queue, bans: &[Ban], pair: Pair
     let count = queue.begin_list(pair);
     for place in 0..count {
         if let Some(conflict) = apply_watcher(domains, queue, bans, pair, place)? {
-            keep_rest(queue, pair, place, count);
+            keep_rest(queue, place, count);
             return Ok(Some(conflict));
         }
     }
-    queue.end_list(pair);
+    queue.end_list();
     Ok(None)
 }
 
-// Has the watchers after a place stay in a pair's list, of so many.
-fn keep_rest(queue: &mut Queue, pair: Pair, after: usize, count: usize) {
+// Has the watchers after a place stay in the list that is gone through, of so many.
+fn keep_rest(queue: &mut Queue, after: usize, count: usize) {
     for place in after.saturating_add(1)..count {
-        if let Some(watcher) = queue.watcher_at(pair, place) {
-            queue.keep(pair, watcher);
+        if let Some(watcher) = queue.watcher_at(place) {
+            queue.keep(watcher);
         }
     }
-    queue.end_list(pair);
+    queue.end_list();
 }
 
 // Applies the ban of a watcher of an assigned pair: it watches another pair of it that isn't assigned in place of this
@@ -153,11 +154,11 @@ fn apply_watcher(
     requires justified { IsJustifiedTrail bans.now domains.old }
     ensures { Follows bans.now domains.old domains.new result }
 {
-    let Some(watcher) = queue.watcher_at(pair, place) else {
+    let Some(watcher) = queue.watcher_at(place) else {
         return Ok(None);
     };
     if is_gone(domains, watcher.blocker) {
-        queue.keep(pair, watcher);
+        queue.keep(watcher);
         return Ok(None);
     }
     match queue.watching_at(watcher.place) {
@@ -180,7 +181,7 @@ fn apply_watching(
 {
     let blocker = watching.other_than(pair);
     if is_gone(domains, blocker) {
-        queue.keep(pair, Watcher { place, blocker });
+        queue.keep(Watcher { place, blocker });
         return Ok(None);
     }
     let next = next_watch(domains, bans, watching.ban, pair, blocker);
@@ -188,7 +189,7 @@ fn apply_watching(
         queue.watch(place, next, blocker)?;
         return Ok(None);
     }
-    queue.keep(pair, Watcher { place, blocker });
+    queue.keep(Watcher { place, blocker });
     apply_ban(domains, bans, watching.ban)
 }
 

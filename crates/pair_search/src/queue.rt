@@ -3,21 +3,15 @@
 use crate::Mismatches;
 use crate::partners::Partners;
 use crate::units::is_assigned;
+use crate::watchers::{Watcher, WatcherLists};
 use account_core::Ban;
 use circuits::{Pair, PortKind};
 use pair_domains::Domains;
 use std::alloc::{AllocError, Global};
 
-/// The number of no entry: it is greater than all others, so that a comparison needs no case for it.
+/// The number of no entry, and the place of no list: it is greater than all others, so that a comparison needs no case
+/// for it.
 const NONE: usize = usize::MAX;
-
-/// A ban that watches a pair, by its place among those that watch, and another of its pairs: where that is deleted,
-/// nothing follows of the ban, and it isn't looked at (blocking literals: Sorensson and Een, MiniSat 2.1, 2008).
-#[derive(Clone, Copy, Debug)]
-pub(crate) struct Watcher {
-    pub(crate) place: usize,
-    pub(crate) blocker: Pair,
-}
 
 /// A ban, and the two of its pairs that it watches, which are one where it has no other.
 #[derive(Clone, Copy, Debug)]
@@ -47,15 +41,12 @@ pub struct Queue {
     pub head: usize,
     /// How many bans are in the index.
     pub seen: usize,
-    /// How many inputs either circuit has, and how many outputs.
-    inputs: u64,
-    outputs: u64,
-    /// The watchers of each pair, by its number, side by side: chained through one table, 60,000 conflicts of a near
-    /// miss of an equality of 8 bits took 4.6 s in place of 2.8.
-    lists: Vec<Vec<Watcher>>,
+    /// The watchers of each pair.
+    lists: WatcherLists,
     /// The bans that watch.
     watching: Vec<Watching>,
-    /// How many watchers of the list that is gone through stay in it.
+    /// The place of the list that is gone through, and how many of its watchers stay in it.
+    list: usize,
     kept: usize,
     /// The bans that were made of mismatches.
     pub(crate) made: Mismatches,
@@ -69,10 +60,9 @@ impl Drop for Queue {
         let Queue {
             head: _head,
             seen: _seen,
-            inputs: _inputs,
-            outputs: _outputs,
             lists: _lists,
             watching: _watching,
+            list: _list,
             kept: _kept,
             made: _made,
             partners: _partners,
@@ -84,19 +74,13 @@ impl Queue {
     /// Nothing was propagated.
     pub fn new(alloc: Global, inputs: u32, outputs: u32) -> Result<Queue, AllocError> {
         let partners = Partners::new(alloc, PortKind::Output, outputs)?;
-        let (inputs, outputs) = (inputs as u64, outputs as u64);
-        let count = inputs
-            .saturating_mul(inputs)
-            .saturating_add(outputs.saturating_mul(outputs))
-            .saturating_mul(2);
-        let lists = empty_lists(alloc, count)?;
+        let lists = WatcherLists::new(alloc, inputs, outputs)?;
         Ok(Queue {
             head: 0,
             seen: 0,
-            inputs,
-            outputs,
             lists,
             watching: Vec::new(alloc),
+            list: NONE,
             kept: 0,
             made: Mismatches::new(alloc),
             partners,
@@ -119,8 +103,21 @@ impl Queue {
             one,
             other,
         })?;
-        self.put(place, one, other)?;
-        self.put(place, other, one)
+        let lists = &mut self.lists;
+        lists.put(
+            one,
+            Watcher {
+                place,
+                blocker: other,
+            },
+        )?;
+        lists.put(
+            other,
+            Watcher {
+                place,
+                blocker: one,
+            },
+        )
     }
 
     /// Adds the bans that came since.
@@ -149,15 +146,6 @@ impl Queue {
         Ok(())
     }
 
-    // Puts a ban's watcher into a pair's list.
-    fn put(&mut self, place: usize, pair: Pair, blocker: Pair) -> Result<(), AllocError> {
-        let number = self.number(pair);
-        if number < self.lists.len() {
-            self.lists[number].push(Watcher { place, blocker })?;
-        }
-        Ok(())
-    }
-
     /// Has a ban watch another pair in place of one, beside a third, and puts its watcher there.
     pub(crate) fn watch(
         &mut self,
@@ -169,80 +157,42 @@ impl Queue {
             watching.one = pair;
             watching.other = beside;
         }
-        self.put(place, pair, beside)
+        self.lists.put(
+            pair,
+            Watcher {
+                place,
+                blocker: beside,
+            },
+        )
     }
 
     /// Begins to go through a pair's list, and answers how many watchers it has.
     pub(crate) fn begin_list(&mut self, pair: Pair) -> usize {
+        self.list = self.lists.find(pair).unwrap_or(NONE);
         self.kept = 0;
-        match self.lists.get(self.number(pair)) {
-            Some(list) => list.len(),
-            None => 0,
-        }
+        self.lists.at(self.list).len()
     }
 
-    /// A watcher of a pair.
-    pub(crate) fn watcher_at(&self, pair: Pair, place: usize) -> Option<Watcher> {
-        let list = self.lists.get(self.number(pair))?;
-        list.get(place).copied()
+    /// A watcher of the list that is gone through.
+    pub(crate) fn watcher_at(&self, place: usize) -> Option<Watcher> {
+        self.lists.at(self.list).get(place).copied()
     }
 
-    /// Has a watcher stay in the pair's list that is gone through.
-    pub(crate) fn keep(&mut self, pair: Pair, watcher: Watcher) {
-        let number = self.number(pair);
+    /// Has a watcher stay in the list that is gone through.
+    pub(crate) fn keep(&mut self, watcher: Watcher) {
         let place = self.kept;
-        if number < self.lists.len() {
-            set_at(&mut self.lists[number], place, watcher);
-        }
+        self.lists.set(self.list, place, watcher);
         self.kept = place.saturating_add(1);
     }
 
-    /// Takes those out of a pair's list that don't stay in it.
-    pub(crate) fn end_list(&mut self, pair: Pair) {
-        let number = self.number(pair);
-        let count = self.kept;
-        if number < self.lists.len() {
-            self.lists[number].truncate(count);
-        }
+    /// Takes those out of the list that is gone through that don't stay in it.
+    pub(crate) fn end_list(&mut self) {
+        self.lists.truncate(self.list, self.kept);
     }
 
     /// The ban of a watcher, and what it watches.
     pub(crate) fn watching_at(&self, place: usize) -> Option<Watching> {
         self.watching.get(place).copied()
-    }
-
-    // Where a pair's list stands.
-    fn number(&self, pair: Pair) -> usize {
-        let (count, first) = match pair.kind {
-            PortKind::Input => (self.inputs, 0),
-            PortKind::Output => (
-                self.outputs,
-                self.inputs.saturating_mul(self.inputs).saturating_mul(2),
-            ),
-        };
-        let row = (pair.from as u64)
-            .saturating_mul(count)
-            .saturating_add(pair.to as u64);
-        let sign = if pair.flip { 1 } else { 0 };
-        first
-            .saturating_add(row.saturating_mul(2))
-            .saturating_add(sign) as usize
-    }
-}
-
-// As many lists without watchers.
-fn empty_lists(alloc: Global, count: u64) -> Result<Vec<Vec<Watcher>>, AllocError> {
-    let mut lists = Vec::new(alloc);
-    for _ in 0..count {
-        lists.push(Vec::new(alloc))?;
-    }
-    Ok(lists)
-}
-
-// Puts a watcher at a place of a list, if it has that place.
-fn set_at(list: &mut [Watcher], place: usize, watcher: Watcher) {
-    if place < list.len() {
-        list[place] = watcher;
     }
 }
 
