@@ -197,11 +197,12 @@ cover_code =
     (both_code (list_bytes port_bytes) (ListFits IsPort) (list_bytes reference_bytes) (ListFits IsReference)
     ports_code (list_code reference_bytes IsReference reference_code))
 
--- tags of tallies and of covers
+-- a tally's tag is 2 or 3
 pub tally_tags : (kind : Tallied) → (2 ≤ tally_tag kind) × (tally_tag kind ≤ 3)
 tally_tags Support = (omega arith, omega arith)
 tally_tags Binate = (omega arith, omega arith)
 
+-- a cover's tag is 4 or more
 pub cover_tags : (kind : PortKind) → 4 ≤ cover_tag kind
 cover_tags Input = omega arith
 cover_tags Output = omega arith

@@ -80,7 +80,7 @@ same_bad graphs bytes before (why.Record a) (why.Record b) one other =
     let reject : a ≡ b = cc in
     ap (λ r. why.Record r) reject
 
--- an account has one first bad line
+-- an account has one first bad record
 pub one_rejection : (graphs : Graphs) (bytes : List ℕ) (line other : ℕ) (first second : Why) → IsRejected graphs bytes line first → IsRejected graphs bytes other second → (line ≡ other) × (first ≡ second)
 one_rejection graphs bytes line other first second f s =
     let same = one_place bytes (λ records. (reason : Why) × IsBad graphs bytes records reason × AreValid graphs records) (λ records bad. before_bad graphs bytes records bad.0 bad.1)

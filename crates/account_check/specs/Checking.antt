@@ -50,7 +50,7 @@ abbrev pub WhateverFollows : Bool → List ℕ → (List ℕ → Type 0) → Typ
 WhateverFollows true bytes P = P bytes
 WhateverFollows false bytes P = (more : List ℕ) → P (bytes ++ more)
 
--- what a stop says: the first bad line of a text
+-- what a stop says: the first bad record of a text
 abbrev pub TellsStop : Bool → Graphs → List ℕ → CheckStop → Type 0
 TellsStop finished graphs bytes stop = WhateverFollows finished bytes (λ text. IsVerdict graphs text (Err stop))
 

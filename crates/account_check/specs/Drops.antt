@@ -24,10 +24,11 @@ marked (mark ∷ marks) (suc number) = mark ∷ marked marks number
 abbrev pub IsUnmarked : List Bool → ℕ → Type 0
 IsUnmarked marks number = slice_index_or marks number false ≡ false
 
--- a fact and a ban that were given and weren't dropped
+-- a fact that was given and wasn't dropped
 abbrev pub IsFactKept : Given → Dropped → ℕ → Type 0
 IsFactKept given dropped fact = IsFactGiven given fact × IsUnmarked dropped.facts fact
 
+-- a ban that was given and wasn't dropped
 abbrev pub IsBanKept : Given → Dropped → ℕ → Type 0
 IsBanKept given dropped ban = IsBanGiven given ban × IsUnmarked dropped.bans ban
 
@@ -44,9 +45,10 @@ AreNamesKept dropped (step.Tally kind have lack) =
     All (IsUnmarked dropped.facts) have × All (IsUnmarked dropped.facts) lack
 AreNamesKept dropped (step.Cover kind from to refs) = All (IsReferenceUnmarked dropped.bans) refs
 
--- one fact more, and one ban more, was dropped
+-- one fact more was dropped
 abbrev pub without_fact : Dropped → ℕ → Dropped
 without_fact dropped fact = record { facts = marked dropped.facts fact; bans = dropped.bans }
 
+-- one ban more was dropped
 abbrev pub without_ban : Dropped → ℕ → Dropped
 without_ban dropped ban = record { facts = dropped.facts; bans = marked dropped.bans ban }

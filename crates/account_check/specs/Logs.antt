@@ -30,10 +30,11 @@ pub record Proof : Type 0 where
 abbrev pub log_count : Matching → ℕ
 log_count matching = 2 * length matching.outputs
 
--- a claim before the first line of its log, and a match before the first line of its logs
+-- a claim before the first line of its log
 abbrev pub unshown : Claim → OpenFact
 unshown claim = record { claim = claim; taken = [] }
 
+-- a match before the first line of its logs
 abbrev pub unproved : Matching → Proof
 unproved matching = record { matching = matching; closed = 0; taken = [] }
 
@@ -55,10 +56,11 @@ refutation_of (Some fault) = Some (reject.Refutation fault)
 abbrev pub log_reject : Graphs → Query → List (List SatLit) → LogLine → Option Reject
 log_reject graphs query taken line = refutation_of (line_fault (formula_of graphs query) taken line)
 
--- what is wrong with a line of a fact's log, and of a match's open log
+-- what is wrong with a line of a fact's log
 abbrev pub fact_reject : Graphs → OpenFact → LogLine → Option Reject
 fact_reject graphs fact line = log_reject graphs (claim_query graphs fact.claim) fact.taken line
 
+-- what is wrong with a line of a match's open log
 abbrev pub match_reject : Graphs → Proof → LogLine → Option Reject
 match_reject graphs proof line = log_reject graphs (log_query graphs proof.matching proof.closed) proof.taken line
 

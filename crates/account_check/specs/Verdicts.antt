@@ -1,4 +1,4 @@
--- The verdict of an account's whole bytes (this project's format): what it proves, or its first bad line.
+-- The verdict of an account's whole bytes (this project's format): what it proves, or its first bad record.
 use Rattle.std.specs.Prelude.{◌≡◌, ℕ, ◌+◌, List, length, Some, Result, Ok, Err}
 use Rattle.net_core.specs.Sides.{Graphs}
 use Rattle.account_file.specs.declared.record.Record.{Record}
@@ -17,7 +17,7 @@ IsBad graphs bytes before (why.Form fault) = HasFormFault bytes before fault
 IsBad graphs bytes before (why.Record reject) =
     (entry : Record) × IsNextRecord bytes before entry × HasFault (account_after graphs before) entry (Some reject)
 
--- The first bad line of an account, counted from 1: the lines before it are valid records, and it is bad.
+-- The first bad record of an account, counted from 1: the lines before it are valid records, and it is bad.
 pub record IsRejected (graphs : Graphs) (bytes : List ℕ) (line : ℕ) (reason : Why) : Type 0 where
   pub before : List Record
   pub valid : AreValid graphs before

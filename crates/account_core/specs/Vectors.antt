@@ -38,11 +38,11 @@ pub record AreSent (pairs : List Pair) (n : ℕ) (values sent : List Tri) : Type
       → ((pair : Pair) → Contains pairs pair → pair.kind ≡ Input → pair.to ≢ place)
       → value_at sent place ≡ X
 
--- what an output has on these values of the first circuit's inputs, and what its partner has on what the pairs make of
--- them
+-- what an output has on these values of the first circuit's inputs
 abbrev pub first_value : Graphs → List Tri → ℕ → Tri
 first_value graphs values output = value_at (tri_outputs graphs.first values) output
 
+-- what an output of the second circuit has on what the pairs make of values of the first circuit's inputs
 abbrev pub second_value : Graphs → List Pair → List Tri → ℕ → Tri
 second_value graphs pairs values place =
     value_at (tri_outputs graphs.second (values_sent pairs graphs.second.inputs values)) place

@@ -24,11 +24,12 @@ pub record Reading : Type 0 where
   pub fault : Option RecordFault
   pub total : ℕ
 
--- the bytes of a record in either version, and which records have some
+-- the bytes of a record: its line in version 1 (false), or those of version 2 (true)
 abbrev pub spelled : Bool → Record → List ℕ
 spelled false entry = record_line entry
 spelled true entry = record_bytes entry
 
+-- a record can be written in version 1 (false), or in version 2 (true)
 abbrev pub IsSpelled : Bool → Record → Type 0
 IsSpelled false entry = IsWritable entry
 IsSpelled true entry = HasBytes entry

@@ -49,10 +49,11 @@ tri_digit tri.Zero = 48
 tri_digit tri.One = 49
 tri_digit tri.X = 120
 
--- `=` and a digit for each input: `=01`, and with values that may be either, `=0x1`
+-- `=` and a digit for each input: `=01`
 abbrev pub bits_word : List Bool → List ℕ
 bits_word bits = 61 ∷ map bit_digit bits
 
+-- the same of values that may be either: `=0x1`
 abbrev pub tris_word : List Tri → List ℕ
 tris_word tris = 61 ∷ map tri_digit tris
 

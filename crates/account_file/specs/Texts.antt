@@ -32,7 +32,7 @@ GivesItem {X} read (Ok (Some x)) old new =
     (list_by read old ≡ with_item (Ok x) (list_by read new)) × (length new < length old)
 GivesItem {X} read (Err fault) old new = list_by read old ≡ Err fault
 
--- the digits after `=`
+-- reading the digits after `=` gives this result
 abbrev pub GivesDigits : Result (Bor (List ℕ)) RecordFault → List ℕ → Type 0
 GivesDigits (Ok digits) word = digits_after word ≡ Ok digits.now
 GivesDigits (Err fault) word = digits_after word ≡ Err fault

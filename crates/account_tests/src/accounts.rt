@@ -6,7 +6,7 @@ use net_core::{Graphs, Matching};
 use std::alloc::{AllocError, Global};
 use std::test::Fail;
 
-/// The first bad line of an account, and the word for it.
+/// The first bad record of an account, and the word for it.
 fn bad_line(alloc: Global, graphs: &Graphs<'_>, account: &str) -> Option<(u64, &'static str)> {
     match check(alloc, graphs, account.as_bytes()) {
         Err(CheckStop::Rejected { line, why }) => Some((line, why.word())),
@@ -28,7 +28,7 @@ fn proves_inverting(alloc: Global, graphs: &Graphs<'_>, account: &str) -> bool {
     }
 }
 
-/// Accounts of a match of the AND and the OR, the first bad line of each, and the word for it.
+/// Accounts of a match of the AND and the OR, the first bad record of each, and the word for it.
 static BAD_MATCHES: [(&str, u64, &str); 12] = [
     ("", 1, "truncated"),
     ("npnp 2\n", 1, "header"),
@@ -126,7 +126,7 @@ fn proves_refusal(alloc: Global, graphs: &Graphs<'_>) -> bool {
     }
 }
 
-/// The first bad line of the refusal with another line in the place of one; none when out of memory.
+/// The first bad record of the refusal with another line in the place of one; none when out of memory.
 fn bad_line_with(
     alloc: Global,
     graphs: &Graphs<'_>,

@@ -45,7 +45,7 @@ left_is graphs records linked marks trimmed links_are places_are reached written
     is_reached : IsReached (links_of graphs records) marks
     is_reached = subst (λ (ls : List Links). IsReached ls marks) links_are reached
 
--- the first bad line of an account is what a result says, exactly where it has one
+-- the first bad record of an account is what a result says, exactly where it has one
 abbrev pub RefusesExactly : (X : Type 0) → Graphs → List ℕ → Result X CheckStop → Type 0
 RefusesExactly X graphs bytes result = (line : ℕ) (why : Why) → result ≢ Err Memory → ((result ≡ Err (Rejected line why)) ↔ IsRejected graphs bytes line why)
 

@@ -69,11 +69,12 @@ none_ports_records = entry.Header ∷ entry.Conclusion conclusion.NonePorts ∷ 
 abbrev pub account_of : List Record → List ℕ
 account_of records = lines_of records ++ record_line entry.End
 
--- the line of a fact, and the lines of its log
+-- the record of a fact
 abbrev pub head_of : Claim → Evidence → Record
 head_of claim (evidence.Fails bits) = entry.Fact (head.Fails claim bits)
 head_of claim (evidence.Holds log) = entry.Fact (head.Holds claim)
 
+-- the lines of a fact's log: none where the claim fails
 abbrev pub log_lines : Evidence → List LogLine
 log_lines (evidence.Fails bits) = []
 log_lines (evidence.Holds log) = log.lines

@@ -9,7 +9,7 @@ use Rattle.net_file.specs.declared.fault.NetKind.TheVariants as kind
 use Rattle.aiger_reader.specs.Words.{numbers_on}
 use Rattle.aiger_reader.specs.Headers.{AigerHeader}
 use Rattle.aiger_reader.specs.Bodies.{Role, Output, roles_of, role_at, defines, defined, body_lines, first_of, Writes, IsGoodRow, AreGood, IsFirstFault}
-use Rattle.aiger_reader.specs.Reading.{IsAtLine, IsReading, IsWanted, IsRowOn, IsNextFault, IsNumbering, IsRowRead, next_line_of}
+use Rattle.aiger_reader.specs.Reading.{IsAtLine, IsReading, IsNextLine, IsRowOn, IsNextFault, IsNumbering, IsRowRead, next_line_of}
 use Rattle.aiger_reader.proofs.PlaceLemmas.{place_more, next_is, there, offset_is, body_ends, file_ends}
 use Rattle.aiger_reader.proofs.SignalLemmas.{place_cases, signals_more, distinct}
 
@@ -37,11 +37,11 @@ defined_few (role ∷ roles) (one ∷ rows) =
     elim (defines role) as (λ t. length (cond t (first_of one / 2 ∷ []) [] ++ defined roles rows) ≤ suc (length rows)) [ true ↦ omega arith | false ↦ omega arith ]
 
 -- the line is good as the line of its role
-pub good_row : (h : AigerHeader) (rows : List (List ℕ)) (line row : List ℕ) (width : ℕ) (defining : Bool) → IsWanted h rows width defining → IsRowOn line (2 * h.variables + 1) defining row → IsGoodRow h (role_at h (length rows)) row
+pub good_row : (h : AigerHeader) (rows : List (List ℕ)) (line row : List ℕ) (width : ℕ) (defining : Bool) → IsNextLine h rows width defining → IsRowOn line (2 * h.variables + 1) defining row → IsGoodRow h (role_at h (length rows)) row
 good_row h rows line row width defining next on =
     record { in_range = on.in_range; plain = λ t. on.plain (subst IsTrue next.role t) }
 
-pub row_good : (h : AigerHeader) (rows : List (List ℕ)) (line row : List ℕ) (width : ℕ) (defining : Bool) → IsWanted h rows width defining → numbers_on line ≡ map Some row → IsGoodRow h (role_at h (length rows)) row → IsRowOn line (2 * h.variables + 1) defining row
+pub row_good : (h : AigerHeader) (rows : List (List ℕ)) (line row : List ℕ) (width : ℕ) (defining : Bool) → IsNextLine h rows width defining → numbers_on line ≡ map Some row → IsGoodRow h (role_at h (length rows)) row → IsRowOn line (2 * h.variables + 1) defining row
 row_good h rows line row width defining next written good =
     record { written = written; in_range = good.in_range; plain = λ t. good.plain (subst IsTrue (sym next.role) t) }
 
@@ -56,7 +56,7 @@ each_more P rows row each here k below =
     ]
 
 -- one good line more
-pub good_more : (h : AigerHeader) (body rows : List (List ℕ)) (row : List ℕ) (width : ℕ) (defining : Bool) → IsWanted h rows width defining → length rows < length body → length row ≡ width → IsRowOn (get_or body (length rows) []) (2 * h.variables + 1) defining row → AllPairs (λ one other. one ≢ other) (defined (roles_of h) (rows ++ row ∷ [])) → AreGood h body rows → AreGood h body (rows ++ row ∷ [])
+pub good_more : (h : AigerHeader) (body rows : List (List ℕ)) (row : List ℕ) (width : ℕ) (defining : Bool) → IsNextLine h rows width defining → length rows < length body → length row ≡ width → IsRowOn (get_or body (length rows) []) (2 * h.variables + 1) defining row → AllPairs (λ one other. one ≢ other) (defined (roles_of h) (rows ++ row ∷ [])) → AreGood h body rows → AreGood h body (rows ++ row ∷ [])
 good_more h body rows row width defining next there wide on distinct good =
     record {
       announced = omega (arith, next.announced, length-append rows (row ∷ []));
@@ -67,12 +67,12 @@ good_more h body rows row width defining next there wide on distinct good =
     }
 
 -- the fault of the next line is the body's
-pub next_fault : (bytes : List ℕ) (h : AigerHeader) (rows : List (List ℕ)) (p : Piece) (signals : List ℕ) (count width : ℕ) (defining : Bool) (fault : NetKind) (at : ℕ) → IsReading bytes h rows p signals count → IsWanted h rows width defining → at ≡ p.at → IsNextFault p (2 * h.variables + 1) defining width fault → IsFirstFault bytes h fault at
+pub next_fault : (bytes : List ℕ) (h : AigerHeader) (rows : List (List ℕ)) (p : Piece) (signals : List ℕ) (count width : ℕ) (defining : Bool) (fault : NetKind) (at : ℕ) → IsReading bytes h rows p signals count → IsNextLine h rows width defining → at ≡ p.at → IsNextFault p (2 * h.variables + 1) defining width fault → IsFirstFault bytes h fault at
 next_fault bytes h rows p signals count width defining kind.Truncated at reading next is none =
     record {
       rows = rows;
       good = reading.good;
-      wanted_line = next.announced;
+      line_announced = next.announced;
       why = (body_ends bytes (length rows) p none reading.good.there reading.left, is ∙ file_ends bytes (length rows + 1) p none reading.left);
     }
 next_fault bytes h rows p signals count width defining kind.BadLine at reading next is fault =
@@ -80,7 +80,7 @@ next_fault bytes h rows p signals count width defining kind.BadLine at reading n
     record {
       rows = rows;
       good = reading.good;
-      wanted_line = next.announced;
+      line_announced = next.announced;
       why = (
         record {
           there = there bytes (length rows) p fault.0 reading.left;
@@ -95,7 +95,7 @@ next_fault bytes h rows p signals count width defining kind.BadLiteral at readin
     record {
       rows = rows;
       good = reading.good;
-      wanted_line = next.announced;
+      line_announced = next.announced;
       why = (
         record {
           row = row;
@@ -118,7 +118,7 @@ row_read bytes h rows p signals count defining row reading some on =
     }
 
 -- a line that defines nothing
-pub reading_output : (bytes : List ℕ) (h : AigerHeader) (rows : List (List ℕ)) (p rest : Piece) (signals : List ℕ) (count width : ℕ) (row : List ℕ) → IsReading bytes h rows p signals count → IsWanted h rows width false → length row ≡ width → IsRowRead bytes h rows false row rest → IsReading bytes h (rows ++ row ∷ []) rest signals count
+pub reading_output : (bytes : List ℕ) (h : AigerHeader) (rows : List (List ℕ)) (p rest : Piece) (signals : List ℕ) (count width : ℕ) (row : List ℕ) → IsReading bytes h rows p signals count → IsNextLine h rows width false → length row ≡ width → IsRowRead bytes h rows false row rest → IsReading bytes h (rows ++ row ∷ []) rest signals count
 reading_output bytes h rows p rest signals count width row reading next wide read =
     let same : defined (roles_of h) (rows ++ row ∷ []) ≡ defined (roles_of h) rows = defined_more (roles_of h) rows row next.announced ∙ (ap (λ t. defined (roles_of h) rows ++ (if t then first_of row / 2 ∷ [] else [])) next.role ∙ append-nil (defined (roles_of h) rows)) in
     record {
@@ -129,7 +129,7 @@ reading_output bytes h rows p rest signals count width row reading next wide rea
     }
 
 -- a line that defines a variable
-pub reading_definition : (bytes : List ℕ) (h : AigerHeader) (rows : List (List ℕ)) (p rest : Piece) (signals : List ℕ) (count width : ℕ) (row : List ℕ) → IsReading bytes h rows p signals count → IsWanted h rows width true → length row ≡ width → IsRowRead bytes h rows true row rest → first_of row / 2 < length signals → get_or signals (first_of row / 2) 0 ≡ 0 → IsReading bytes h (rows ++ row ∷ []) rest (set signals (first_of row / 2) (count + 1)) (count + 1)
+pub reading_definition : (bytes : List ℕ) (h : AigerHeader) (rows : List (List ℕ)) (p rest : Piece) (signals : List ℕ) (count width : ℕ) (row : List ℕ) → IsReading bytes h rows p signals count → IsNextLine h rows width true → length row ≡ width → IsRowRead bytes h rows true row rest → first_of row / 2 < length signals → get_or signals (first_of row / 2) 0 ≡ 0 → IsReading bytes h (rows ++ row ∷ []) rest (set signals (first_of row / 2) (count + 1)) (count + 1)
 reading_definition bytes h rows p rest signals count width row reading next wide read within free =
     let v = first_of row / 2 in
     let before = defined (roles_of h) rows in

@@ -101,7 +101,7 @@ not_after bytes h xs ys other at more fewer below why = absurd why
 
 pub body_or_fault : (bytes : List ℕ) (h : AigerHeader) (rows : List (List ℕ)) (fault : NetKind) (at : ℕ) → IsBody bytes h rows → IsBodyFault bytes h fault at → ⊥
 body_or_fault bytes h rows fault at body bad =
-    not_after bytes (bare h) rows bad.rows fault at body.good bad.good (omega (arith, body.whole, bad.wanted_line)) bad.why
+    not_after bytes (bare h) rows bad.rows fault at body.good bad.good (omega (arith, body.whole, bad.line_announced)) bad.why
 
 -- the four faults of a line
 abbrev Four : List ℕ → AigerHeader → List (List ℕ) → NetKind → ℕ → Type 0

@@ -6,14 +6,14 @@ use Rattle.text_core.specs.Lines.{after_line}
 use Rattle.aiger_reader.specs.declared.body.AndLine.{AndLine}
 use Rattle.aiger_reader.specs.declared.body.Literals.{Literals}
 use Rattle.aiger_reader.specs.Headers.{AigerHeader}
-use Rattle.aiger_reader.specs.Bodies.{Role, Input, Output, Gate, roles_of, wanted, defined, AreLines}
+use Rattle.aiger_reader.specs.Bodies.{Role, Input, Output, Gate, roles_of, width_of, defined, AreLines}
 use Rattle.aiger_reader.specs.Numbered.{IsSound}
 use Rattle.aiger_reader.specs.Reading.{rows_of, input_lines_of, gate_lines_of, IsReading, IsRowRead, HasCounts}
 use Rattle.aiger_reader.proofs.PlaceLemmas.{place_first}
 use Rattle.aiger_reader.proofs.GoodLemmas.{defined_none, reading_output}
-use Rattle.aiger_reader.proofs.RoleLemmas.{length-roles_of, length-rows_of, wanted_output, rows_input, rows_output, rows_gate}
+use Rattle.aiger_reader.proofs.RoleLemmas.{length-roles_of, length-rows_of, next_output, rows_input, rows_output, rows_gate}
 
-pub width_some : (role : Role) → 0 < wanted role
+pub width_some : (role : Role) → 0 < width_of role
 width_some Input = omega arith
 width_some Output = omega arith
 width_some Gate = omega arith
@@ -37,7 +37,7 @@ gate_line bytes h old now new rest signals count row same wide reading inputs ou
 pub output_line : (bytes : List ℕ) (h : AigerHeader) (old now new : Literals) (p rest : Piece) (signals later : List ℕ) (n count number : ℕ) (row : List ℕ) → now ≡ old → later ≡ signals → number ≡ count → HasCounts old (input_lines_of h) n 0 → n < h.outputs → length row ≡ 1 → IsReading bytes h (rows_of old) p signals count → IsRowRead bytes h (rows_of old) false row rest → new.inputs.items ≡ now.inputs.items → new.outputs.items ≡ now.outputs.items ++ get_or row 0 0 ∷ [] → new.gates.items ≡ now.gates.items → IsReading bytes h (rows_of new) rest later number
 output_line bytes h old now new p rest signals later n count number row same laters numbers counts below wide reading read inputs outputs gates =
     let rows = rows_output old new row wide (inputs ∙ ap (λ (l : Literals). l.inputs.items) same) (outputs ∙ ap (λ (l : Literals). l.outputs.items ++ get_or row 0 0 ∷ []) same) (gates ∙ ap (λ (l : Literals). l.gates.items) same) counts.gates_read in
-    reading_as bytes h (rows_of old ++ row ∷ []) (rows_of new) rest signals later count number (sym rows) (sym laters) (sym numbers) (reading_output bytes h (rows_of old) p rest signals count 1 row reading (wanted_output h old n counts below) wide read)
+    reading_as bytes h (rows_of old ++ row ∷ []) (rows_of new) rest signals later count number (sym rows) (sym laters) (sym numbers) (reading_output bytes h (rows_of old) p rest signals count 1 row reading (next_output h old n counts below) wide read)
 
 -- zeros alone
 none_there : (n v : ℕ) → ◌≡◌ {A = ℕ} (get_or (replicate n 0) v 0) 0

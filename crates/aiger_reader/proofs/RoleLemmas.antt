@@ -5,8 +5,8 @@ use Rattle.std.proofs.Math.Seq.{get_or-append_right}
 use Rattle.aiger_reader.specs.declared.body.AndLine.{AndLine}
 use Rattle.aiger_reader.specs.declared.body.Literals.{Literals}
 use Rattle.aiger_reader.specs.Headers.{AigerHeader}
-use Rattle.aiger_reader.specs.Bodies.{Role, Input, Output, Gate, roles_of, role_at, wanted, defines}
-use Rattle.aiger_reader.specs.Reading.{row_of, rows_of, input_lines_of, gate_lines_of, IsWanted, HasCounts}
+use Rattle.aiger_reader.specs.Bodies.{Role, Input, Output, Gate, roles_of, role_at, width_of, defines}
+use Rattle.aiger_reader.specs.Reading.{row_of, rows_of, input_lines_of, gate_lines_of, IsNextLine, HasCounts}
 
 -- n inputs, then outputs, then gates
 abbrev roles : ℕ → ℕ → ℕ → List Role
@@ -55,17 +55,17 @@ length-rows_of literals =
     let gates = literals.gates.items in
     omega (arith, length-append (map one inputs ++ map one outputs) (map row_of gates), length-append (map one inputs) (map one outputs), length-map inputs one, length-map outputs one, length-map gates row_of)
 
-wanted_as : (h : AigerHeader) (rows : List (List ℕ)) (role : Role) → length rows < length (roles_of h) → role_at h (length rows) ≡ role → IsWanted h rows (wanted role) (defines role)
-wanted_as h rows role announced is =
-    record { announced = announced; wide = ap wanted is; role = ap defines is }
+next_line_as : (h : AigerHeader) (rows : List (List ℕ)) (role : Role) → length rows < length (roles_of h) → role_at h (length rows) ≡ role → IsNextLine h rows (width_of role) (defines role)
+next_line_as h rows role announced is =
+    record { announced = announced; wide = ap width_of is; role = ap defines is }
 
 pub role_is : (h : AigerHeader) (k : ℕ) → role_at h k ≡ get_or (roles (input_lines_of h) h.outputs (gate_lines_of h)) k Output
 role_is h k = ap (λ rs. get_or rs k Output) (roles_by h.binary h.inputs h.outputs h.gates)
 
-pub wanted_output : (h : AigerHeader) (literals : Literals) (n : ℕ) → HasCounts literals (input_lines_of h) n 0 → n < h.outputs → IsWanted h (rows_of literals) 1 false
-wanted_output h literals n counts below =
+pub next_output : (h : AigerHeader) (literals : Literals) (n : ℕ) → HasCounts literals (input_lines_of h) n 0 → n < h.outputs → IsNextLine h (rows_of literals) 1 false
+next_output h literals n counts below =
     let count : length (rows_of literals) ≡ input_lines_of h + n = omega (arith, length-rows_of literals, counts.inputs_read, counts.outputs_read, counts.gates_read) in
-    wanted_as h (rows_of literals) Output (omega (arith, count, length-roles_of h, below)) (role_is h (length (rows_of literals)) ∙ output_role (input_lines_of h) h.outputs (gate_lines_of h) (length (rows_of literals)) (omega (arith, count)) (omega (arith, count, below)))
+    next_line_as h (rows_of literals) Output (omega (arith, count, length-roles_of h, below)) (role_is h (length (rows_of literals)) ∙ output_role (input_lines_of h) h.outputs (gate_lines_of h) (length (rows_of literals)) (omega (arith, count)) (omega (arith, count, below)))
 
 abbrev rows_from : List ℕ → List ℕ → List AndLine → List (List ℕ)
 rows_from inputs outputs gates =

@@ -7,8 +7,8 @@ use Rattle.net_file.specs.declared.fault.NetKind.{NetKind}
 use Rattle.net_file.specs.declared.fault.NetKind.TheVariants as kind
 use Rattle.aiger_reader.specs.Words.{numbers_on}
 use Rattle.aiger_reader.specs.Headers.{AigerHeader}
-use Rattle.aiger_reader.specs.Bodies.{Role, Input, Output, Gate, roles_of, role_at, wanted, defines, defined, body_lines, line_offset, first_of, Writes, IsGoodRow, AreGood, IsFirstFault, AreLines, IsKnown, IsKnownRow, IsUndefined, reads}
-use Rattle.aiger_reader.specs.Reading.{IsWanted}
+use Rattle.aiger_reader.specs.Bodies.{Role, Input, Output, Gate, roles_of, role_at, width_of, defines, defined, body_lines, line_offset, first_of, Writes, IsGoodRow, AreGood, IsFirstFault, AreLines, IsKnown, IsKnownRow, IsUndefined, reads}
+use Rattle.aiger_reader.specs.Reading.{IsNextLine}
 use Rattle.aiger_reader.proofs.HeaderLemmas.{map_same}
 use Rattle.aiger_reader.proofs.GoodLemmas.{defined_by, defined_none, defined_more, good_more, row_good}
 use Rattle.aiger_reader.proofs.OneBody.{defines_one}
@@ -18,7 +18,7 @@ decidable_writes : (line : List ℕ) (role : Role) → Decidable ((row : List �
 decidable_writes line role =
     elim (decidable_some (numbers_on line)) [
       | inr none ↦ inr (λ writes. none (writes.0, writes.1.numbers))
-      | inl row ↦ decidable_by (λ wide. (row.0, record { numbers = row.1; width = wide })) (λ writes. ap length (map_same row.0 writes.0 (sym row.1 ∙ writes.1.numbers)) ∙ writes.1.width) (decidable_same (length row.0) (wanted role))
+      | inl row ↦ decidable_by (λ wide. (row.0, record { numbers = row.1; width = wide })) (λ writes. ap length (map_same row.0 writes.0 (sym row.1 ∙ writes.1.numbers)) ∙ writes.1.width) (decidable_same (length row.0) (width_of role))
     ]
 
 decidable_good : (h : AigerHeader) (role : Role) (row : List ℕ) → Decidable (IsGoodRow h role row)
@@ -60,18 +60,18 @@ front_more : (bytes : List ℕ) (h : AigerHeader) (rows : List (List ℕ)) (row 
 front_more bytes h rows row good announced there writes fine fresh =
     let role = role_at h (length rows) in
     let body = body_lines bytes in
-    let next : IsWanted h rows (wanted role) (defines role) = record { announced = announced; wide = refl; role = refl } in
+    let next : IsNextLine h rows (width_of role) (defines role) = record { announced = announced; wide = refl; role = refl } in
     let distinct = subst AreDistinct (sym (defined_more (roles_of h) rows row announced)) (distinct_then (defined (roles_of h) rows) role row good.distinct fresh) in
-    good_more h body rows row (wanted role) (defines role) next there writes.width (row_good h rows (get_or body (length rows) []) row (wanted role) (defines role) next writes.numbers fine) distinct good
+    good_more h body rows row (width_of role) (defines role) next there writes.width (row_good h rows (get_or body (length rows) []) row (width_of role) (defines role) next writes.numbers fine) distinct good
 
 row_or_fault : (bytes : List ℕ) (h : AigerHeader) (rows : List (List ℕ)) (row : List ℕ) → AreGood h (body_lines bytes) rows → length rows < length (roles_of h) → length rows < length (body_lines bytes) → Writes (get_or (body_lines bytes) (length rows) []) (role_at h (length rows)) row → Front bytes h (length rows + 1) ⊎ HasBodyFault bytes h
 row_or_fault bytes h rows row good announced there writes =
     let role = role_at h (length rows) in
     let at = line_offset bytes (length rows + 1) in
     elim (decidable_good h role row) [
-      | inr bad ↦ inr (kind.BadLiteral, at, record { rows = rows; good = good; wanted_line = announced; why = (record { row = row; there = there; written = writes; bad = bad }, refl) })
+      | inr bad ↦ inr (kind.BadLiteral, at, record { rows = rows; good = good; line_announced = announced; why = (record { row = row; there = there; written = writes; bad = bad }, refl) })
       | inl fine ↦ elim (decidable_both (decidable_true (defines role)) (decidable_contains (defined (roles_of h) rows) (first_of row / 2))) [
-        | inl again ↦ inr (kind.Redefined, at, record { rows = rows; good = good; wanted_line = announced; why = (record { row = row; there = there; written = writes; good = fine; defining = again.0; before = again.1 }, refl) })
+        | inl again ↦ inr (kind.Redefined, at, record { rows = rows; good = good; line_announced = announced; why = (record { row = row; there = there; written = writes; good = fine; defining = again.0; before = again.1 }, refl) })
         | inr fresh ↦ inl (rows ++ row ∷ [], front_more bytes h rows row good announced there writes fine fresh, length_push rows row)
       ]
     ]
@@ -80,10 +80,10 @@ line_or_fault : (bytes : List ℕ) (h : AigerHeader) (rows : List (List ℕ)) �
 line_or_fault bytes h rows good announced =
     let line = get_or (body_lines bytes) (length rows) [] in
     elim (cases_lt (length rows) (length (body_lines bytes))) [
-      | inr none ↦ inr (kind.Truncated, length bytes, record { rows = rows; good = good; wanted_line = announced; why = (omega (arith, none, good.there), refl) })
+      | inr none ↦ inr (kind.Truncated, length bytes, record { rows = rows; good = good; line_announced = announced; why = (omega (arith, none, good.there), refl) })
       | inl there ↦ elim (decidable_writes line (role_at h (length rows))) [
         | inl writes ↦ row_or_fault bytes h rows writes.0 good announced there writes.1
-        | inr none ↦ inr (kind.BadLine, line_offset bytes (length rows + 1), record { rows = rows; good = good; wanted_line = announced; why = (record { there = there; unwritten = λ row writes. none (row, writes) }, refl) })
+        | inr none ↦ inr (kind.BadLine, line_offset bytes (length rows + 1), record { rows = rows; good = good; line_announced = announced; why = (record { there = there; unwritten = λ row writes. none (row, writes) }, refl) })
       ]
     ]
 

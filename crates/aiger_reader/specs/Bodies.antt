@@ -31,10 +31,10 @@ abbrev pub role_at : AigerHeader → ℕ → Role
 role_at h k = slice_index_or (roles_of h) k Output
 
 -- how many words a line has
-abbrev pub wanted : Role → ℕ
-wanted Input = 1
-wanted Output = 1
-wanted Gate = 3
+abbrev pub width_of : Role → ℕ
+width_of Input = 1
+width_of Output = 1
+width_of Gate = 3
 
 -- whether a line defines a variable: the first on it
 abbrev pub defines : Role → Bool
@@ -42,17 +42,18 @@ defines Input = true
 defines Output = false
 defines Gate = true
 
--- the lines after the header's, and the offset of line k of a text
+-- the lines after the header's
 abbrev pub body_lines : List ℕ → List (List ℕ)
 body_lines bytes = drop 1 (lines bytes)
 
+-- the offset of line k of a text, of which the first is line 0
 abbrev pub line_offset : List ℕ → ℕ → ℕ
 line_offset bytes k = length (text_of_lines (take k (lines bytes)))
 
--- A line has exactly the wanted number of words, and they write these numbers.
+-- A line has exactly the required number of words, and they write these numbers.
 pub record Writes (line : List ℕ) (role : Role) (row : List ℕ) : Type 0 where
   pub numbers : numbers_on line ≡ map Some row
-  pub width : length row ≡ wanted role
+  pub width : length row ≡ width_of role
 
 -- the first number of a line: the literal that is defined, where the line defines one
 abbrev pub first_of : List ℕ → ℕ
@@ -126,7 +127,7 @@ bare h =
 pub record IsFirstFault (bytes : List ℕ) (h : AigerHeader) (fault : NetKind) (at : ℕ) : Type 0 where
   pub rows : List (List ℕ)
   pub good : AreGood h (body_lines bytes) rows
-  pub wanted_line : length rows < length (roles_of h)
+  pub line_announced : length rows < length (roles_of h)
   pub why : IsLineFault bytes h rows fault at
 
 -- All lines are there, and they are good.
@@ -134,10 +135,11 @@ pub record AreLines (bytes : List ℕ) (h : AigerHeader) (rows : List (List ℕ)
   pub good : AreGood h (body_lines bytes) rows
   pub whole : length rows ≡ length (roles_of h)
 
--- the body's lines and its first fault
+-- the numbers on the body's lines, which are all there and good
 abbrev pub IsBody : List ℕ → AigerHeader → List (List ℕ) → Type 0
 IsBody bytes h rows = AreLines bytes (bare h) rows
 
+-- the body's first fault, and its offset
 abbrev pub IsBodyFault : List ℕ → AigerHeader → NetKind → ℕ → Type 0
 IsBodyFault bytes h fault at = IsFirstFault bytes (bare h) fault at
 

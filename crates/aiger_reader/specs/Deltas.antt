@@ -40,10 +40,11 @@ pub record BeginsOperand (least literal : ℕ) (bytes : List ℕ) (a : ℕ) (res
   pub above : least ≤ delta
   pub operand : a + delta ≡ literal
 
--- the first operand of a gate is below the gate's literal, the second one at most the first
+-- the bytes begin with a gate's first operand, which is below the gate's literal
 abbrev pub BeginsFirst : ℕ → List ℕ → ℕ → List ℕ → Type 0
 BeginsFirst literal bytes a rest = BeginsOperand 1 literal bytes a rest
 
+-- the bytes begin with a gate's second operand, which is at most the first one
 abbrev pub BeginsSecond : ℕ → List ℕ → ℕ → List ℕ → Type 0
 BeginsSecond a bytes b rest = BeginsOperand 0 a bytes b rest
 

@@ -15,7 +15,7 @@ use Rattle.aiger_reader.specs.declared.limits.Header.{Header}
 use Rattle.aiger_reader.specs.Words.{numbers_on}
 use Rattle.aiger_reader.specs.Headers.{AigerHeader}
 use Rattle.aiger_reader.specs.Numbers.{header_of}
-use Rattle.aiger_reader.specs.Bodies.{roles_of, role_at, wanted, defines, defined, body_lines, line_offset, first_of, AreGood, IsFirstFault}
+use Rattle.aiger_reader.specs.Bodies.{roles_of, role_at, width_of, defines, defined, body_lines, line_offset, first_of, AreGood, IsFirstFault}
 
 -- the row of an AND line
 abbrev pub row_of : AndLine → List ℕ
@@ -28,10 +28,11 @@ rows_of literals =
     ++ map (λ literal. literal ∷ []) literals.outputs.items
     ++ map row_of literals.gates.items
 
--- how many lines of inputs and of gates there are: none in the binary form
+-- how many lines of inputs there are: none in the binary form
 abbrev pub input_lines_of : AigerHeader → ℕ
 input_lines_of h = if h.binary then 0 else h.inputs
 
+-- how many lines of gates there are: none in the binary form
 abbrev pub gate_lines_of : AigerHeader → ℕ
 gate_lines_of h = if h.binary then 0 else h.gates
 
@@ -62,9 +63,9 @@ IsBodyReading bytes header body =
     IsReading bytes (header_of header []) (rows_of body.literals) body.rest body.signals.items body.count
 
 -- One more line is announced, with n words, and it defines a variable or doesn't.
-pub record IsWanted (h : AigerHeader) (rows : List (List ℕ)) (width : ℕ) (defining : Bool) : Type 0 where
+pub record IsNextLine (h : AigerHeader) (rows : List (List ℕ)) (width : ℕ) (defining : Bool) : Type 0 where
   pub announced : length rows < length (roles_of h)
-  pub wide : wanted (role_at h (length rows)) ≡ width
+  pub wide : width_of (role_at h (length rows)) ≡ width
   pub role : defines (role_at h (length rows)) ≡ defining
 
 -- n lines of each role are read

@@ -7,7 +7,7 @@ ghost use Rattle.aiger_reader.specs.Numbers.{header_of};
 ghost use Rattle.aiger_reader.specs.Bodies.{line_offset, AreLines};
 ghost use Rattle.aiger_reader.specs.Numbered.{IsSound};
 ghost use Rattle.aiger_reader.specs.Reading.{rows_of, input_lines_of, gate_lines_of, IsAtLine, IsReading};
-ghost use Rattle.aiger_reader.specs.Reading.{IsBodyReading, IsWanted, HasCounts, IsRowRead, IsStop};
+ghost use Rattle.aiger_reader.specs.Reading.{IsBodyReading, IsNextLine, HasCounts, IsRowRead, IsStop};
 
 use crate::limits::Header;
 use crate::literals::read_line;
@@ -53,7 +53,7 @@ impl<'a> Body<'a> {
         defining: bool,
     ) -> Result<u64, NetStop>
         requires reading { IsBodyReading input.now header self.old }
-        requires wanted { IsWanted (header_of header []) (rows_of self.old.literals)
+        requires next_line { IsNextLine (header_of header []) (rows_of self.old.literals)
             (length row.old) defining }
         ensures literals { self.new.literals ≡ self.old.literals }
         ensures signals { self.new.signals ≡ self.old.signals }
@@ -76,7 +76,7 @@ impl<'a> Body<'a> {
         row: &mut [u32],
     ) -> Result<(), NetStop>
         requires reading { IsBodyReading input.now header self.old }
-        requires wanted { IsWanted (header_of header []) (rows_of self.old.literals)
+        requires next_line { IsNextLine (header_of header []) (rows_of self.old.literals)
             (length row.old) true }
         ensures literals { self.new.literals ≡ self.old.literals }
         ensures reading { OnOk result (IsReading input.now (header_of header [])

@@ -56,19 +56,21 @@ no_claims = record { up = record { number = 0; holds = true }; down = record { n
 abbrev pub decided_at : List InputClaims → ℕ → Bool → DecidedClaim
 decided_at row input value = decided_from value (slice_index_or row input no_claims)
 
--- whether one of an input's claims holds (or fails), and whether both do
+-- whether one of an input's claims holds (or fails), or both do
 abbrev pub says_one : Bool → InputClaims → Bool
 says_one holds claims = beq claims.up.holds holds || beq claims.down.holds holds
 
+-- whether both of an input's claims hold (or fail)
 abbrev pub says_both : Bool → InputClaims → Bool
 says_both holds claims = beq claims.up.holds holds && beq claims.down.holds holds
 
--- the fact of one claim of an input that holds (or fails), if there is one, and those of both, if both do
+-- the fact of one claim of an input that holds (or fails), if there is one
 abbrev pub one_of : Bool → InputClaims → List ℕ
 one_of holds claims =
     if beq claims.up.holds holds then claims.up.number ∷ []
     else (if beq claims.down.holds holds then claims.down.number ∷ [] else [])
 
+-- the facts of both claims of an input, if both hold (or fail)
 abbrev pub both_of : Bool → InputClaims → List ℕ
 both_of holds claims = if says_both holds claims then claims.up.number ∷ claims.down.number ∷ [] else []
 
@@ -82,7 +84,7 @@ abbrev pub row_on : Side → List InputClaims → List InputClaims → List Inpu
 row_on First one other = one
 row_on Second one other = other
 
--- A tally's ban of a pair: the row of one side has more inputs of which a claim holds (or fails).
+-- A tally's ban of a pair: the row of one side has more inputs of which a claim holds (or fails) than the other's.
 pub record IsTallyBan (pair : Pair) (one other : List InputClaims) (ban : Ban) : Type 0 where
   pub side : Side
   pub holds : Bool

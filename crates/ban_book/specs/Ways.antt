@@ -15,11 +15,12 @@ use Rattle.account_core.specs.Tallies.{Ascend, other_side}
 use Rattle.ban_book.specs.Vectors.{AddsNoVector}
 use Rattle.ban_book.specs.declared.block.Block.{Block}
 
--- of a port of one circuit and a port of the other: the port of the first circuit, and the port of the second
+-- of a port of the circuit of a side and a port of the other circuit: the port of the first circuit
 abbrev pub first_port : Side → ℕ → ℕ → ℕ
 first_port First port other = port
 first_port Second port other = other
 
+-- of a port of the circuit of a side and a port of the other circuit: the port of the second circuit
 abbrev pub second_port : Side → ℕ → ℕ → ℕ
 second_port First port other = other
 second_port Second port other = port

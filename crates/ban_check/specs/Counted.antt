@@ -27,12 +27,13 @@ pub record GoOverTwice (least : ℕ) (shapes : List Shape) : Type 0 where
   pub both_of_each : AreBothOfEach inputs shapes
   pub ascend : AscendFrom least inputs
 
--- the input of a shape of one, and the input that goes up in one shape and down in the other
+-- the input of a shape of one input
 abbrev pub one_input : Shape → Option ℕ
 one_input (Up i) = Some i
 one_input (Down i) = Some i
 one_input (Swap i j a b) = None
 
+-- the input that goes up in the one shape and down in the other, if it is one input
 abbrev pub twin_input : Shape → Shape → Option ℕ
 twin_input (Up i) (Down j) = if i == j then Some i else None
 twin_input one other = None

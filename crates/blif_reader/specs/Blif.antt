@@ -60,10 +60,11 @@ IsFaultOfLines end lines kind at =
     ⊎ IsCycleFault lines kind at
     ⊎ IsGatesFault end lines kind at
 
--- The file is this netlist with these names, or has this first fault at this offset.
+-- The file is this netlist with these names.
 abbrev pub IsBlif : List ℕ → Circuit → List (List ℕ) → List (List ℕ) → Type 0
 IsBlif bytes circuit input_names output_names = AreBlif (blif_lines bytes) circuit input_names output_names
 
+-- The file has this first fault at this offset.
 abbrev pub IsBlifFault : List ℕ → NetKind → ℕ → Type 0
 IsBlifFault bytes kind at = IsFaultOfLines (length bytes) (blif_lines bytes) kind at
 

@@ -115,10 +115,11 @@ continued names (Some cover) left =
     let rows = rows_of left in
     Cover cover.names (cover.rows ++ map trits_of rows) (cover.on && are_on rows) ∷ covers_of names left
 
--- the words of the outputs, and the offsets of the `.names` lines
+-- the words of the outputs
 abbrev pub outputs_in : List (List Piece) → List Piece
 outputs_in lines = flat_map (λ line. outputs_by (directive_of line) line) lines
 
+-- the offsets of the `.names` lines
 abbrev pub places_in : List (List Piece) → List ℕ
 places_in lines = flat_map (λ line. places_by (directive_of line) line) lines
 

@@ -42,31 +42,37 @@ from_word word =
 abbrev pub directive_of : List Piece → Directive
 directive_of line = from_word (word_of line 0).bytes
 
--- whether it is the one or the other of these
+-- whether a joined line is a `.model` line
 abbrev pub is_model : Directive → Bool
 is_model Model = true
 is_model other = false
 
+-- whether it is an `.inputs` line
 abbrev pub is_inputs : Directive → Bool
 is_inputs Inputs = true
 is_inputs other = false
 
+-- whether it is an `.outputs` line
 abbrev pub is_outputs : Directive → Bool
 is_outputs Outputs = true
 is_outputs other = false
 
+-- whether it is a `.names` line
 abbrev pub is_names : Directive → Bool
 is_names Names = true
 is_names other = false
 
+-- whether it is an `.end` line
 abbrev pub is_end : Directive → Bool
 is_end End = true
 is_end other = false
 
+-- whether it is a directive that is passed over
 abbrev pub is_passed_over : Directive → Bool
 is_passed_over PassedOver = true
 is_passed_over other = false
 
+-- whether it is a row: its first word has no full stop in front
 abbrev pub is_row : Directive → Bool
 is_row Row = true
 is_row other = false

@@ -12,10 +12,11 @@ abbrev pub placed : ℕ → List (List ℕ) → List Piece
 placed at [] = []
 placed at (part ∷ parts) = record { bytes = part; at = at } ∷ placed (at + length part + 1) parts
 
--- the lines of a text, and the words of a line, with their offsets
+-- the lines of a text, with their offsets
 abbrev pub lines_at : Piece → List Piece
 lines_at text = placed text.at (lines text.bytes)
 
+-- the words of a line, with their offsets
 abbrev pub words_at : Piece → List Piece
 words_at line = filter (λ word. is_not_empty word.bytes) (placed line.at (slice_split is_blank line.bytes))
 

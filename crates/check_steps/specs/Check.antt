@@ -42,7 +42,7 @@ pub record IsAccepted (held : List ℕ → Option (List ℕ)) (words : List (Lis
   pub has : HasAccount held words graphs account
   pub accepted : Proves graphs account proved
 
--- The account's first bad line is this one, counted from 1, for this reason.
+-- The account's first bad record is this one, counted from 1, for this reason.
 pub record IsRejected (held : List ℕ → Option (List ℕ)) (words : List (List ℕ)) (line : ℕ) (why : Why) : Type 0 where
   pub graphs : Graphs
   pub account : List ℕ

@@ -4,10 +4,11 @@ use Rattle.std.specs.Prelude.{if◌then◌else◌}
 use Rattle.std.specs.List.{range_with_len}
 use Rattle.circuits.specs.Literals.{bit, differ}
 
--- Entry i says where port i goes: to which place, and whether inverted.
+-- the place that port i goes to, by entry i
 abbrev pub place_of : List (ℕ × Bool) → ℕ → ℕ
 place_of p i = (slice_index_or p i (0, false)).0
 
+-- whether port i is inverted on its way, by entry i
 abbrev pub sign_of : List (ℕ × Bool) → ℕ → Bool
 sign_of p i = (slice_index_or p i (0, false)).1
 

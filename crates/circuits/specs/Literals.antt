@@ -44,9 +44,10 @@ inverse literal = record { 0 = 2 * signal_of literal + (1 - literal.0 % 2) }
 abbrev pub signed_as : Lit → Lit → Lit
 signed_as literal signal = if is_negated literal then inverse signal else signal
 
--- the literals of the constant
+-- the literal of the constant that is 0
 abbrev pub false_literal : Lit
 false_literal = record { 0 = 0 }
 
+-- the inverse of it, which is 1
 abbrev pub true_literal : Lit
 true_literal = record { 0 = 1 }

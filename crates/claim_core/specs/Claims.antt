@@ -17,12 +17,13 @@ output_bit net k x = bit (function_of net x) k
 abbrev pub with_input : ℕ → Bool → List Bool → List Bool
 with_input i b x = slice_set x i b
 
--- the vector with the shape's inputs set to its values, and to the opposite values
+-- the vector with the shape's inputs set to its values
 abbrev pub with_values : Shape → List Bool → List Bool
 with_values (Up i) x = with_input i false x
 with_values (Down i) x = with_input i true x
 with_values (Swap i j a b) x = with_input j b (with_input i a x)
 
+-- the vector with the shape's inputs set to the opposites of its values
 abbrev pub with_opposites : Shape → List Bool → List Bool
 with_opposites (Up i) x = with_input i true x
 with_opposites (Down i) x = with_input i false x

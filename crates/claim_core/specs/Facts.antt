@@ -12,10 +12,11 @@ InSupport n f i = (x : List Bool) × (length x ≡ n) × (f x ≢ f (with_input 
 abbrev pub OutsideSupport : ℕ → (List Bool → Bool) → ℕ → Type 0
 OutsideSupport n f i = (x : List Bool) → length x ≡ n → f x ≡ f (with_input i (not (bit x i)) x)
 
--- setting the input from 0 to 1 never lowers the function's bit, and never raises it
+-- setting the input from 0 to 1 never lowers the function's bit
 abbrev pub IsPositive : ℕ → (List Bool → Bool) → ℕ → Type 0
 IsPositive n f i = (x : List Bool) → length x ≡ n → NoFall (f (with_input i false x)) (f (with_input i true x))
 
+-- setting the input from 0 to 1 never raises the function's bit
 abbrev pub IsNegative : ℕ → (List Bool → Bool) → ℕ → Type 0
 IsNegative n f i = (x : List Bool) → length x ≡ n → NoFall (f (with_input i true x)) (f (with_input i false x))
 

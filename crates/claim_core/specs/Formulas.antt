@@ -40,10 +40,11 @@ plain variable = literal_of variable true
 abbrev pub signal_literals : List Feed → List ℕ → List SatLit
 signal_literals feed variables = false_literal ∷ map feed_literal feed ++ map plain variables
 
--- the literal that stands for a signal, and for a literal of the circuit
+-- the literal that stands for a signal
 abbrev pub stand_in : List SatLit → ℕ → SatLit
 stand_in literals s = slice_index_or literals s false_literal
 
+-- the literal that stands for a literal of the circuit: its signal's, with its sign
 abbrev pub stands_for : List SatLit → Lit → SatLit
 stands_for literals l = if inverts l then opposite (stand_in literals (signal_of l)) else stand_in literals (signal_of l)
 

@@ -15,10 +15,11 @@ abbrev pub feed_bit : List Bool → Feed → Bool
 feed_bit x (Fixed b) = b
 feed_bit x (Wire place flip) = differ (bit x place) flip
 
--- the circuit of a cone, and the vector that its inputs get
+-- the circuit of a cone
 abbrev pub circuit_of : Graphs → Cone → Net
 circuit_of graphs cone = graph_of graphs cone.side
 
+-- the vector that the inputs of a cone's circuit get where the vector is x
 abbrev pub fed : List Bool → Cone → List Bool
 fed x cone = map (feed_bit x) cone.feed
 

@@ -38,8 +38,8 @@ failing : (net : Net) (k : ℕ) (shape : Shape) → IsPlaced net.inputs shape �
 failing net k shape placed never = elim (holds_or_fails net k shape placed) [ inl holds ↦ absurd (never holds) | inr fails ↦ fails ]
 
 -- what isn't answered true is false
-refuted : {P : Type 0} → Decides false P → P → ⊥
-refuted decides p = false≢true (decides.1 p)
+not_decided : {P : Type 0} → Decides false P → P → ⊥
+not_decided decides p = false≢true (decides.1 p)
 
 pub dependence_is : (net : Net) (k i : ℕ) (never_falls never_rises : Bool) → i < net.inputs
     → Decides never_falls (ShapeHolds net k (Up i))
@@ -47,11 +47,11 @@ pub dependence_is : (net : Net) (k i : ℕ) (never_falls never_rises : Bool) →
     → IsDependence net.inputs (output_bit net k) i (dependence never_falls never_rises)
 dependence_is net k i true true there up down = outside net k i there (up.0 refl) (down.0 refl)
 dependence_is net k i true false there up down =
-    ((inside-fails net k i there).1 (inr (failing net k (Down i) there (refuted down))), up.0 refl)
+    ((inside-fails net k i there).1 (inr (failing net k (Down i) there (not_decided down))), up.0 refl)
 dependence_is net k i false true there up down =
-    ((inside-fails net k i there).1 (inl (failing net k (Up i) there (refuted up))), down.0 refl)
+    ((inside-fails net k i there).1 (inl (failing net k (Up i) there (not_decided up))), down.0 refl)
 dependence_is net k i false false there up down =
-    ((inside-fails net k i there).1 (inl (failing net k (Up i) there (refuted up))), (refuted up, refuted down))
+    ((inside-fails net k i there).1 (inl (failing net k (Up i) there (not_decided up))), (not_decided up, not_decided down))
 
 -- two inputs may be exchanged where both swaps hold
 alike_both : (net : Net) (k i j : ℕ) (inverted from : Bool)

@@ -16,7 +16,7 @@ use Rattle.shared_lemmas.specs.Shared.{Sharing}
 abbrev pub IsSource : Net → Source → Type 0
 IsSource net source = (source.supports ≡ net) × (source.sightings ≡ net) × (source.nearby ≡ net)
 
--- The answer of a query of a match.
+-- What is kept is a query of a match, with an answer to it.
 pub record IsKept (graphs : Graphs) (kept : Kept) : Type 0 where
   pub of_match : IsOfMatch graphs kept.query
   pub answer : IsAnswer graphs kept.query kept.answer

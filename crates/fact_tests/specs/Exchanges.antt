@@ -160,11 +160,12 @@ abbrev pub IsTried : ℕ → (List Bool → Bool) → List Class → ℕ × Unat
 IsTried n f classes entry number None = (d : Class) → number < length classes → IsStranger n f (slice_index_or classes number d) entry.0
 IsTried n f classes entry number (Some found) = Finds n f classes entry found
 
--- the classes with the next input, and where it belongs
+-- the classes with the next input
 abbrev pub classes_with : ℕ × Unate → Option FoundClass → List Class → List Class
 classes_with entry None classes = classes ++ record { first = entry; others = None } ∷ []
 classes_with entry (Some found) classes = slice_set classes found.number (record { first = found.first; others = Some found.others })
 
+-- where the next input belongs: in the class that was found, or in a new one after all others
 abbrev pub place_in : Option FoundClass → List Class → ClassPlace
 place_in None classes = record { class = length classes; inverted = false }
 place_in (Some found) classes = record { class = found.number; inverted = found.others.inverted }

@@ -29,17 +29,19 @@ pub record IsOutput (output : FirstOutput) : Type 0 where
   pub supports : output.supports.now ≡ output.graphs.now.first
   pub readers : output.readers.now ≡ output.graphs.now.first
 
--- how many inputs the first circuit has, and the function of its output k
+-- how many inputs the first circuit has
 abbrev pub inputs_in : Graphs → ℕ
 inputs_in graphs = graphs.first.inputs
 
+-- the function of output k of the first circuit
 abbrev pub function_at : Graphs → ℕ → List Bool → Bool
 function_at graphs k = output_bit graphs.first k
 
--- how many inputs an output's circuit has, and the output's function
+-- how many inputs an output's circuit has
 abbrev pub arity : FirstOutput → ℕ
 arity output = inputs_in output.graphs.now
 
+-- the output's function
 abbrev pub function : FirstOutput → List Bool → Bool
 function output = function_at output.graphs.now output.number
 

@@ -1,10 +1,13 @@
 use circuits::{Pair, PortKind};
 use std::alloc::{AllocError, Global};
 
-/// Which pairs were compared with ways of the other kind, by the pairs' numbers.
+/// How many marks are in a word.
+const WORD: usize = 64;
+
+/// Which pairs were compared with ways of the other kind: a bit for each pair, by the pairs' numbers.
 #[derive(Drop)]
 pub(crate) struct ComparedPairs {
-    marks: Vec<bool>,
+    words: Vec<u64>,
     inputs: usize,
     outputs: usize,
 }
@@ -19,9 +22,10 @@ impl ComparedPairs {
         let (inputs, outputs) = (inputs as usize, outputs as usize);
         let pairs = inputs
             .saturating_mul(inputs)
-            .saturating_add(outputs.saturating_mul(outputs));
+            .saturating_add(outputs.saturating_mul(outputs))
+            .saturating_mul(2);
         Ok(ComparedPairs {
-            marks: vec![in alloc; false; pairs.saturating_mul(2)]?,
+            words: vec![in alloc; 0u64; pairs.div_ceil(WORD)]?,
             inputs,
             outputs,
         })
@@ -30,11 +34,12 @@ impl ComparedPairs {
     /// Marks a pair, and answers whether it was marked.
     pub(crate) fn mark(&mut self, pair: Pair) -> bool {
         let place = self.place(pair);
-        if place >= self.marks.len() {
+        let Some(word) = self.words.get_mut(place / WORD) else {
             return false;
-        }
-        let marked = self.marks[place];
-        self.marks[place] = true;
+        };
+        let mark = 1 << (place % WORD);
+        let marked = *word & mark > 0;
+        *word |= mark;
         marked
     }
 

@@ -18,10 +18,11 @@ pub record KeepsOperations {V W : Type 0} (on : Operations V) (to : Operations W
   pub signed : (value : V) (negated : Bool) → f (on.signed value negated) ≡ to.signed (f value) negated
   pub and : (one other : V) → f (on.and one other) ≡ to.and (f one) (f other)
 
--- what a literal and a gate have where each signal has the value that is given
+-- the value of a literal where each signal has the value that is given
 abbrev pub literal_value : {V : Type 0} → Operations V → List V → Lit → V
 literal_value on values literal = on.signed (slice_index_or values (signal_of literal) on.absent) (is_negated literal)
 
+-- the value of a gate where each signal has the value that is given
 abbrev pub gate_value : {V : Type 0} → Operations V → List V → Gate → V
 gate_value on values gate = on.and (literal_value on values gate.a) (literal_value on values gate.b)
 

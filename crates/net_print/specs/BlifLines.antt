@@ -9,13 +9,15 @@ use Rattle.circuits.specs.declared.netlist.Gate.{Gate}
 use Rattle.circuits.specs.Literals.{signal_of, is_negated}
 use Rattle.circuits.specs.Netlists.{Net}
 
--- a name of one letter and a number: `i0`, `g0`, `o0`
+-- the name of an input: `i0`
 abbrev pub input_name : ℕ → List ℕ
 input_name input = 105 ∷ decimal input
 
+-- the name of a gate: `g0`
 abbrev pub gate_name : ℕ → List ℕ
 gate_name gate = 103 ∷ decimal gate
 
+-- the name of an output: `o0`
 abbrev pub output_name : ℕ → List ℕ
 output_name output = 111 ∷ decimal output
 
@@ -30,13 +32,14 @@ signal_name inputs signal =
 abbrev pub row_byte : Lit → ℕ
 row_byte literal = if is_negated literal then 48 else 49
 
--- the cover of a gate, and of an output
+-- the cover of a gate
 abbrev pub gate_lines : ℕ → ℕ → Gate → List (List (List ℕ))
 gate_lines inputs t gate =
     (codes ".names" ∷ signal_name inputs (signal_of gate.a) ∷ signal_name inputs (signal_of gate.b) ∷ gate_name t ∷ [])
     ∷ ((row_byte gate.a ∷ row_byte gate.b ∷ []) ∷ codes "1" ∷ [])
     ∷ []
 
+-- the cover of an output
 abbrev pub output_lines : ℕ → ℕ → Lit → List (List (List ℕ))
 output_lines inputs k output =
     (codes ".names" ∷ signal_name inputs (signal_of output) ∷ output_name k ∷ [])

@@ -42,9 +42,10 @@ printed_circuit net = record {
   outputs = map (λ k. plain_literal (2 + net.inputs + length net.gates + k)) (range_with_len 0 (length net.outputs));
 }
 
--- the names of its ports: a letter and the position
+-- the names of its inputs: a letter and the position
 abbrev pub printed_inputs : Net → List (List ℕ)
 printed_inputs net = map input_name (range_with_len 0 net.inputs)
 
+-- the names of its outputs: a letter and the position
 abbrev pub printed_outputs : Net → List (List ℕ)
 printed_outputs net = map output_name (range_with_len 0 (length net.outputs))

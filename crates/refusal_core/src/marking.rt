@@ -24,7 +24,7 @@ pub(crate) fn needed(
     number: usize,
 ) -> Result<CoreMarks, AllocError>
     requires earlier { ReferBack facts bans.now }
-    requires held { number < length bans.now }
+    requires inside { number < length bans.now }
     ensures marks { IfOk result (AreMarks facts (length bans.now)) }
     ensures needed { IfOk result (λ marks. IsNeeded bans.now number marks.facts.items marks.bans.items) }
 {
@@ -43,7 +43,7 @@ pub(crate) fn needed(
 
 /// Marks what the step of the ban at a place names, where the ban is marked.
 fn mark_named(step: &Step, place: usize, marks: &mut CoreMarks)
-    requires held { place < length marks.old.bans.items }
+    requires inside { place < length marks.old.bans.items }
     requires facts { All (λ k. k < length marks.old.facts.items) (facts_named step.now) }
     requires bans { All (λ k. k < length marks.old.bans.items) (bans_named step.now) }
     ensures { MarksNamed place step.now marks.old marks.new }

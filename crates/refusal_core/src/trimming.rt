@@ -29,7 +29,7 @@ pub fn trim(
     number: u64,
 ) -> Result<Core, AllocError>
     requires earlier { ReferBack (length facts) bans }
-    requires held { number < length bans }
+    requires inside { number < length bans }
     ensures { IfOk result (IsTrimmed facts bans number) }
 {
     let marks = needed(alloc, facts.len(), &bans, number as usize)?;
@@ -48,7 +48,7 @@ fn core_of(
     requires marks { AreMarks (length facts) (length bans) marks.now }
     requires facts { All (λ ban. All (λ k. k < length numbers.now.facts) (facts_named ban.step)) bans }
     requires bans { All (λ ban. All (λ k. k < length numbers.now.bans) (bans_named ban.step)) bans }
-    requires held { number < length numbers.now.bans }
+    requires inside { number < length numbers.now.bans }
     ensures facts { result.facts ≡ kept marks.now.facts.items facts }
     ensures bans { result.bans
         ≡ map (numbered_ban numbers.now.facts numbers.now.bans) (kept marks.now.bans.items bans) }

@@ -18,10 +18,11 @@ pattern blocks w v = lane v (row_of blocks w)
 abbrev pub block_after : List (List ℕ) → List (List ℕ) → List Bool → ℕ → List ℕ
 block_after before after marks s = if bit marks s then slice_index_or after s [] else slice_index_or before s []
 
--- a literal's bit and a gate's, where signals have these bits
+-- a literal's bit where signals have these bits
 abbrev pub bit_of_literal : (ℕ → Bool) → Lit → Bool
 bit_of_literal bits literal = differ (bits (signal_of literal)) (is_negated literal)
 
+-- a gate's bit where signals have these bits
 abbrev pub bit_of_gate : (ℕ → Bool) → Gate → Bool
 bit_of_gate bits gate = bit_of_literal bits gate.a && bit_of_literal bits gate.b
 

@@ -36,12 +36,13 @@ abbrev pub Hunted : Signed → ℕ → (Shape → Type 0) → List Sighting → 
 Hunted s k Among old new = Adds (IsBroken s.net k) (λ sightings shape. IsSighted shape sightings)
     (λ shape. Among shape × HasAllVectors s × ShapeFails s.net k shape) old new
 
--- the first and the last input of a shape
+-- the first input of a shape
 abbrev pub first_of : Shape → ℕ
 first_of (Up i) = i
 first_of (Down i) = i
 first_of (Swap i j a b) = i
 
+-- the last input of a shape
 abbrev pub last_of : Shape → ℕ
 last_of (Up i) = i
 last_of (Down i) = i

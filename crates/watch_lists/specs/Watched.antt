@@ -92,7 +92,7 @@ pub record AreOfClauses (clauses : List (List SatLit)) (watches : List SatLit) :
       → IsAttached watches s
       → is_true (clause_at clauses (s / 2)) (literal_at watches s) ≡ true
 
--- What all watches keep.
+-- The invariant of all watches.
 pub record AreKept (variables : ℕ) (clauses : List (List SatLit)) (watches : List SatLit) (lists : List Listed) : Type 0 where
   pub lists_are : length lists ≡ 2 * variables
   pub known : All (AreKnown variables) clauses

@@ -24,10 +24,11 @@ word_bit v word = word / 2 ^ v % 2 == 1
 abbrev pub lane : ℕ → List ℕ → List Bool
 lane v words = map (word_bit v) words
 
--- word w of a column, and of each column
+-- word w of a column
 abbrev pub word_of : ℕ → List ℕ → ℕ
 word_of w column = slice_index_or column w 0
 
+-- word w of each column
 abbrev pub row_of : List (List ℕ) → ℕ → List ℕ
 row_of columns w = map (word_of w) columns
 

@@ -18,10 +18,11 @@ rail_of Zero = record { one = false; zero = true }
 rail_of One = record { one = true; zero = false }
 rail_of X = record { one = false; zero = false }
 
--- a signal's two bits on the vector at bit v of word w, and those of each signal
+-- a signal's two bits on the vector at bit v of word w
 abbrev pub rail_at : ℕ → ℕ → Rails → Rail
 rail_at w v rails = record { one = word_bit v (word_of w rails.ones); zero = word_bit v (word_of w rails.zeros) }
 
+-- those of each signal
 abbrev pub rails_at : ℕ → ℕ → List Rails → List Rail
 rails_at w v signals = map (rail_at w v) signals
 

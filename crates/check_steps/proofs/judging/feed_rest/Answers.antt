@@ -1,4 +1,4 @@
--- Piece by piece, up to the first bad line.
+-- Piece by piece, up to the first bad record.
 use Rattle.std.proofs.Common.{[], refl, arith}
 use Rattle.std.proofs.lemmas.Result.{err_from_is_err_and}
 use Rattle.check_steps.proofs.JudgingLemmas.{fed_all, fed_part, feeding_on}

@@ -10,8 +10,8 @@ use Rattle.npnp.proofs.matching.refused.Goals as goal
 pub trim-requires-clause-earlier : goal.trim-requires-clause-earlier
 trim-requires-clause-earlier c = subst (λ n. ReferBack n c.args.bans) (length-map c.args.facts decided_by) (refer_back _ _ _ c.requires.bans)
 
-pub trim-requires-clause-held : goal.trim-requires-clause-held
-trim-requires-clause-held c = c.requires.empty.kept
+pub trim-requires-clause-inside : goal.trim-requires-clause-inside
+trim-requires-clause-inside c = c.requires.empty.kept
 
 pub returns : goal.returns
 returns c =

@@ -7,18 +7,18 @@ use Rattle.refusal_core.proofs.marking.needed.Goals as goal
 
 pub mark_named-requires-clause-facts : goal.mark_named-requires-clause-facts
 mark_named-requires-clause-facts c =
-    let below : c.loop-left.left - 1 < length c.args.bans.now = omega (arith, c.loop-left-test.true, c.loop-left.invariant.0, c.requires.held) in
+    let below : c.loop-left.left - 1 < length c.args.bans.now = omega (arith, c.loop-left-test.true, c.loop-left.invariant.0, c.requires.inside) in
     subst (λ n. All (λ k. k < n) (facts_named (slice_index_or c.args.bans.now (c.loop-left.left - 1) c.index-bans-left.result).step)) (sym c.loop-left.invariant.1.as_many_facts) (c.requires.earlier (c.loop-left.left - 1) c.index-bans-left.result below).facts
 
 pub mark_named-requires-clause-bans : goal.mark_named-requires-clause-bans
 mark_named-requires-clause-bans c =
-    let below : c.loop-left.left - 1 < length c.args.bans.now = omega (arith, c.loop-left-test.true, c.loop-left.invariant.0, c.requires.held) in
+    let below : c.loop-left.left - 1 < length c.args.bans.now = omega (arith, c.loop-left-test.true, c.loop-left.invariant.0, c.requires.inside) in
     All-weaker (λ k. k < c.loop-left.left - 1) (λ k. k < length c.loop-left.marks.bans.items) (λ k less. omega (arith, less, below, c.loop-left.invariant.1.as_many_bans)) _
     (c.requires.earlier (c.loop-left.left - 1) c.index-bans-left.result below).bans
 
 pub loop-left-preserved : goal.loop-left-preserved
 loop-left-preserved c =
-    let below : c.loop-left.left - 1 < length c.args.bans.now = omega (arith, c.loop-left-test.true, c.loop-left.invariant.0, c.requires.held) in
+    let below : c.loop-left.left - 1 < length c.args.bans.now = omega (arith, c.loop-left-test.true, c.loop-left.invariant.0, c.requires.inside) in
     let next : c.loop-left.left ≡ (c.loop-left.left - 1) + 1 = omega (arith, c.loop-left-test.true) in (
       omega (arith, c.loop-left.invariant.0),
       marking_more c.args.bans.now c.args.facts c.args.number (c.loop-left.left - 1) c.index-bans-left.result c.loop-left.marks c.mark_named.new.marks c.requires.earlier below

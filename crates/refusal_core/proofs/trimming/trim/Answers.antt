@@ -20,10 +20,10 @@ core_of-requires-clause-bans c =
     bans_there (length c.args.facts) (length numbers) c.args.bans c.requires.earlier
     (new_count c.in_ok-marks.marks.bans.items numbers c.in_ok-numbers.ensures.bans ∙ (c.in_ok-marks.ensures.marks.1 ∙ ap length c.deref.ensures.value))
 
-pub core_of-requires-clause-held : goal.core_of-requires-clause-held
-core_of-requires-clause-held c =
+pub core_of-requires-clause-inside : goal.core_of-requires-clause-inside
+core_of-requires-clause-inside c =
     let count = new_count c.in_ok-marks.marks.bans.items c.in_ok-numbers.numbers.bans c.in_ok-numbers.ensures.bans in
-    omega (arith, c.requires.held, count, c.in_ok-marks.ensures.marks.1, ap length c.deref.ensures.value)
+    omega (arith, c.requires.inside, count, c.in_ok-marks.ensures.marks.1, ap length c.deref.ensures.value)
 
 pub returns : goal.returns
 returns c =
@@ -32,5 +32,5 @@ returns c =
     let numbers = c.in_ok-numbers.numbers in
     let needed = subst (λ bans. IsNeeded bans c.args.number of_facts of_bans) c.deref.ensures.value c.in_ok-marks.ensures.needed in
     trimmed c.args.facts c.args.bans c.args.number c.core_of.result of_facts of_bans numbers.facts numbers.bans
-    (c.in_ok-marks.ensures.marks.0 ∙ c.len.ensures) (c.in_ok-marks.ensures.marks.1 ∙ ap length c.deref.ensures.value) needed c.requires.earlier c.requires.held
+    (c.in_ok-marks.ensures.marks.0 ∙ c.len.ensures) (c.in_ok-marks.ensures.marks.1 ∙ ap length c.deref.ensures.value) needed c.requires.earlier c.requires.inside
     c.in_ok-numbers.ensures.facts c.in_ok-numbers.ensures.bans c.core_of.ensures.facts c.core_of.ensures.bans c.core_of.ensures.number

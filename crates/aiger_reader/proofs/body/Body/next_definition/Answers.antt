@@ -12,13 +12,13 @@ pub overflow_add-self : goal.overflow_add-self
 overflow_add-self c =
     let h = header_of c.args.header [] in
     let rows = rows_of c.args.self.now.literals in
-    omega (arith, c.requires.reading.counted, defined_few (roles_of h) rows, roles_few h, c.requires.wanted.announced, c.in_ok-at.ensures.count, c.args.header.few_inputs, c.args.header.few_outputs, c.args.header.few_gates)
+    omega (arith, c.requires.reading.counted, defined_few (roles_of h) rows, roles_few h, c.requires.next_line.announced, c.in_ok-at.ensures.count, c.args.header.few_inputs, c.args.header.few_outputs, c.args.header.few_gates)
 
 pub overflow_add-self-2 : goal.overflow_add-self-2
 overflow_add-self-2 c =
     let h = header_of c.args.header [] in
     let rows = rows_of c.args.self.now.literals in
-    omega (arith, c.requires.reading.counted, defined_few (roles_of h) rows, roles_few h, c.requires.wanted.announced, c.in_ok-at.ensures.count, c.args.header.few_inputs, c.args.header.few_outputs, c.args.header.few_gates)
+    omega (arith, c.requires.reading.counted, defined_few (roles_of h) rows, roles_few h, c.requires.next_line.announced, c.in_ok-at.ensures.count, c.args.header.few_inputs, c.args.header.few_outputs, c.args.header.few_gates)
 
 pub returns-clause-reading : goal.returns-clause-reading
 returns-clause-reading c =
@@ -30,8 +30,8 @@ returns-clause-reading c =
     let now = c.next_row.new.self in
     let read = c.in_ok-at.ensures.row in
     let wide : length row ≡ length c.args.row.now = omega arith in
-    let some : 0 < length row = omega (arith, width_some (role_at h (length rows)), c.requires.wanted.wide) in
+    let some : 0 < length row = omega (arith, width_some (role_at h (length rows)), c.requires.next_line.wide) in
     let reading = reading_as bytes h rows rows body.rest body.signals.items now.signals.items body.count now.count refl (sym (ap (λ v. v.items) c.in_ok-at.ensures.signals)) (sym c.in_ok-at.ensures.count) c.requires.reading in
     let within : first_of row / 2 < length now.signals.items = omega (arith, read.on.in_range 0 0 some, reading.numbered.entries) in
-    let after = reading_definition bytes h rows body.rest now.rest now.signals.items now.count (length c.args.row.now) row reading c.requires.wanted wide read within c.if-not-define.ensures.free in
+    let after = reading_definition bytes h rows body.rest now.rest now.signals.items now.count (length c.args.row.now) row reading c.requires.next_line wide read within c.if-not-define.ensures.free in
     subst (λ s. IsReading bytes h (rows ++ row ∷ []) now.rest s (now.count + 1)) (sym c.if-not-define.ensures.placed) after

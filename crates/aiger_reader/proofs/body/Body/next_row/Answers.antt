@@ -24,4 +24,4 @@ returns-clause-at c =
 pub returns-clause-stop : goal.returns-clause-stop
 returns-clause-stop c =
     let body = c.args.self.now in
-    IfErr-weaker c.read_line.result _ _ (λ why. stop_as _ _ why (λ kind at is. next_fault c.args.input.now (header_of c.args.header []) (rows_of body.literals) body.rest body.signals.items body.count (length c.args.row.now) c.args.defining kind at c.requires.reading c.requires.wanted is.1 is.0)) c.read_line.ensures.stop
+    IfErr-weaker c.read_line.result _ _ (λ why. stop_as _ _ why (λ kind at is. next_fault c.args.input.now (header_of c.args.header []) (rows_of body.literals) body.rest body.signals.items body.count (length c.args.row.now) c.args.defining kind at c.requires.reading c.requires.next_line is.1 is.0)) c.read_line.ensures.stop
