@@ -79,6 +79,7 @@ place_before es e q None other says = record { found = tt; none = All-front (λ 
 
 places_more : (n m : ℕ) (es : List Entry) (e : Entry) (ps : List (Option ℕ)) (k : ℕ) → IsPairOf n m e.pair → k ≡ length es → ArePlaces n m es ps → ArePlaces n m (es ++ e ∷ []) (set ps (pair_number n m e.pair) (Some k))
 places_more n m es e ps k known last are = record {
+  few = are.few;
   size = length-set ps (pair_number n m e.pair) (Some k) ∙ are.size;
   each = λ q qin. elim (cases_eq (pair_number n m q) (pair_number n m e.pair)) [
     | inl same ↦ here q (pair_number_same n m q e.pair qin known same) same
@@ -100,6 +101,7 @@ places_more n m es e ps k known last are = record {
 
 places_fewer : (n m : ℕ) (es : List Entry) (e : Entry) (ps : List (Option ℕ)) → AreEntries n m (es ++ e ∷ []) → ArePlaces n m (es ++ e ∷ []) ps → ArePlaces n m es (set ps (pair_number n m e.pair) None)
 places_fewer n m es e ps entries are = record {
+  few = are.few;
   size = length-set ps (pair_number n m e.pair) None ∙ are.size;
   each = λ q qin. elim (cases_eq (pair_number n m q) (pair_number n m e.pair)) [
     | inl same ↦ here q (pair_number_same n m q e.pair qin known same) same

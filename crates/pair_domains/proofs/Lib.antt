@@ -1,4 +1,5 @@
 pub mod NumberLemmas
 pub mod EntryLemmas
 pub mod TableLemmas
+pub mod PackedLemmas
 pub mod KeptLemmas

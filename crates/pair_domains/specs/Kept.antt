@@ -1,5 +1,5 @@
 -- What is kept of each signed pair and each port beside the entries.
-use Rattle.std.specs.Prelude.{◌≡◌, ℕ, ◌+◌, ◌*◌, ◌<◌, List, length, Option, None, IfNone, IfSome, slice_index_or}
+use Rattle.std.specs.Prelude.{◌≡◌, ℕ, ◌+◌, ◌*◌, ◌^◌, ◌<◌, List, length, Option, None, IfNone, IfSome, slice_index_or}
 use Rattle.circuits.specs.declared.port.Pair.{Pair}
 use Rattle.circuits.specs.declared.port.PortKind.{PortKind}
 use Rattle.net_core.specs.declared.graphs.Side.{Side}
@@ -19,6 +19,7 @@ pub record IsPairAt (entries : List Entry) (side : Side) (kind : PortKind) (port
 
 -- the place of each pair's entry
 pub record ArePlaces (inputs outputs : ℕ) (entries : List Entry) (places : List (Option ℕ)) : Type 0 where
+  pub few : pairs_of_ports inputs outputs < 2 ^ 63
   pub size : length places ≡ pairs_of_ports inputs outputs
   pub each : (pair : Pair)
       → IsPairOf inputs outputs pair

@@ -12,6 +12,7 @@ ghost use Rattle.account_core.specs.Assigned.{AreApart};
 
 use crate::entry::{Cause, Entry, Fate, Reason};
 use crate::numbers::{pair_number, pairs_of_ports, port_number};
+use crate::places::Places;
 use crate::tables::{count_at_ports, put_at_ports, uncount_at_ports};
 use circuits::{Pair, PortKind};
 use net_core::Side;
@@ -29,7 +30,7 @@ pub struct Domains {
     outputs: u32,
     entries: Vec<Entry>,
     /// Where the entry of each pair stands, by the pair's number.
-    places: Vec<Option<usize>>,
+    places: Places,
     /// The pairs that are assigned, in order.
     pairs: Vec<Pair>,
     /// The assigned pair of each port, by the port's number.
@@ -47,7 +48,7 @@ impl Model for Domains {
     ghost view = { λ a. record { inputs = a.inputs; outputs = a.outputs; entries = a.entries.items } };
 
     ghost invariant = { λ a. IsKept a.inputs a.outputs a.entries.items
-        a.pairs.items a.places.items a.pairs_at.items a.gone.items };
+        a.pairs.items a.places a.pairs_at.items a.gone.items };
 }
 
 impl Domains {
@@ -63,7 +64,7 @@ impl Domains {
             return Err(AllocError);
         };
         let ports = 2 * inputs as usize + 2 * outputs as usize;
-        let places = no_places(alloc, count)?;
+        let places = Places::new(alloc, count)?;
         let pairs_at = no_pairs(alloc, ports)?;
         let gone = vec![in alloc; 0; ports]?;
         Ok(Domains {
@@ -108,7 +109,8 @@ impl Domains {
         requires { IsPairOf self.now.inputs self.now.outputs pair }
         ensures { IsPlaceOf self.now.entries pair result }
     {
-        self.places[pair_number(self.inputs, self.outputs, pair)]
+        let number = pair_number(self.inputs, self.outputs, pair);
+        self.places.get(number)
     }
 
     /// What became of a pair, or None exactly where it is open.
@@ -176,12 +178,13 @@ impl Domains {
         self.entries.reserve(1)?;
         self.pairs.reserve(1)?;
         let place = self.entries.len();
+        let number = pair_number(self.inputs, self.outputs, pair);
+        self.places.put(number, place)?;
         self.entries.push_reserved(Entry {
             pair,
             fate: Fate::Assigned(cause),
         });
         self.pairs.push_reserved(pair);
-        self.places[pair_number(self.inputs, self.outputs, pair)] = Some(place);
         put_at_ports(
             &mut self.pairs_at,
             self.inputs,
@@ -201,12 +204,14 @@ impl Domains {
         }) }
         ensures refused { OnErr result (self.new ≡ self.old) }
     {
+        self.entries.reserve(1)?;
         let place = self.entries.len();
-        self.entries.push(Entry {
+        let number = pair_number(self.inputs, self.outputs, pair);
+        self.places.put(number, place)?;
+        self.entries.push_reserved(Entry {
             pair,
             fate: Fate::Deleted(reason),
-        })?;
-        self.places[pair_number(self.inputs, self.outputs, pair)] = Some(place);
+        });
         count_at_ports(&mut self.gone, self.inputs, self.outputs, pair);
         Ok(())
     }
@@ -232,7 +237,8 @@ impl Domains {
         let Some(entry) = self.entries.pop() else {
             unreachable!()
         };
-        self.places[pair_number(self.inputs, self.outputs, entry.pair)] = None;
+        let number = pair_number(self.inputs, self.outputs, entry.pair);
+        self.places.clear(number);
         match entry.fate {
             Fate::Assigned(_) => {
                 let _ = self.pairs.pop();
@@ -252,12 +258,6 @@ impl Domains {
             ),
         }
     }
-}
-
-fn no_places(alloc: Global, count: usize) -> Result<Vec<Option<usize>>, AllocError>
-    ensures { IfOk result (λ places. places.items ≡ replicate count None) }
-{
-    vec![in alloc; None; count]
 }
 
 fn no_pairs(alloc: Global, count: usize) -> Result<Vec<Option<Pair>>, AllocError>

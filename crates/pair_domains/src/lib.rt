@@ -4,6 +4,7 @@
 mod domains;
 mod entry;
 mod numbers;
+mod places;
 mod tables;
 
 pub use domains::Domains;

@@ -1,5 +1,5 @@
 -- What is kept with one assigned pair more.
-use Rattle.std.proofs.Common.{◌≡◌, List, [], ◌∷◌, ◌++◌, length, Option, Some, slice_set, refl, sym, ap, subst, ◌∙◌, arith}
+use Rattle.std.proofs.Common.{◌≡◌, ℕ, List, [], ◌∷◌, ◌++◌, length, Option, Some, slice_set, refl, sym, ap, subst, ◌∙◌, arith}
 use Rattle.net_core.specs.declared.graphs.Side.TheVariants.{First, Second}
 use Rattle.circuits.specs.declared.port.Pair.{Pair}
 use Rattle.pair_domains.specs.declared.entry.Entry.{Entry}
@@ -30,8 +30,9 @@ invariant_of-self-2 c =
     let last : place ≡ length old.entries.items = omega (arith, c.len-place.ensures, c.reserve.new.self.ok.0, ap length c.in_ok-reserve.ensures.items) in
     let entries = c.push_reserved.ensures.items ∙ ap (λ (es : List Entry). es ++ e ∷ []) c.in_ok-reserve.ensures.items in
     let chosen = c.push_reserved-2.ensures.items ∙ ap (λ (ws : List Pair). ws ++ e.pair ∷ []) c.in_ok-reserve-2.ensures.items in
-    let kept = kept_assigned n m old.entries.items e old.pairs.items old.places.items old.pairs_at.items old.gone.items place c.self.invariant refl known free from to last in
-    subst (λ (hs : List (Option Pair)). IsKept n m c.push_reserved.new.self.items c.push_reserved-2.new.self.items (slice_set old.places.items c.pair_number.result (Some place)) hs old.gone.items) (sym (back ∙ written))
-    (subst (λ k. IsKept n m c.push_reserved.new.self.items c.push_reserved-2.new.self.items (slice_set old.places.items k (Some place)) (put_at_ports (Some e.pair) n m e.pair old.pairs_at.items) old.gone.items) (sym c.pair_number.ensures.value)
-    (subst (λ (ws : List Pair). IsKept n m c.push_reserved.new.self.items ws (slice_set old.places.items (pair_number n m e.pair) (Some place)) (put_at_ports (Some e.pair) n m e.pair old.pairs_at.items) old.gone.items) (sym chosen)
-    (subst (λ (es : List Entry). IsKept n m es (old.pairs.items ++ e.pair ∷ []) (slice_set old.places.items (pair_number n m e.pair) (Some place)) (put_at_ports (Some e.pair) n m e.pair old.pairs_at.items) old.gone.items) (sym entries) kept)))
+    let kept = kept_assigned n m old.entries.items e old.pairs.items old.places old.pairs_at.items old.gone.items place c.self.invariant refl known free from to last in
+    let put = c.in_ok-put.ensures.put ∙ ap (λ k. slice_set old.places k (Some place)) c.pair_number-number.ensures.value in
+    subst (λ (hs : List (Option Pair)). IsKept n m c.push_reserved.new.self.items c.push_reserved-2.new.self.items c.put.new.self hs old.gone.items) (sym (back ∙ written))
+    (subst (λ (ps : List (Option ℕ)). IsKept n m c.push_reserved.new.self.items c.push_reserved-2.new.self.items ps (put_at_ports (Some e.pair) n m e.pair old.pairs_at.items) old.gone.items) (sym put)
+    (subst (λ (ws : List Pair). IsKept n m c.push_reserved.new.self.items ws (slice_set old.places (pair_number n m e.pair) (Some place)) (put_at_ports (Some e.pair) n m e.pair old.pairs_at.items) old.gone.items) (sym chosen)
+    (subst (λ (es : List Entry). IsKept n m es (old.pairs.items ++ e.pair ∷ []) (slice_set old.places (pair_number n m e.pair) (Some place)) (put_at_ports (Some e.pair) n m e.pair old.pairs_at.items) old.gone.items) (sym entries) kept)))

@@ -1,5 +1,5 @@
 -- What is kept with one deleted pair more.
-use Rattle.std.proofs.Common.{◌≡◌, ℕ, ◌+◌, ◌<◌, ◌^◌, List, length, Some, slice_index_or, slice_set, refl, sym, ap, subst, ◌∙◌, arith}
+use Rattle.std.proofs.Common.{◌≡◌, ℕ, ◌+◌, ◌<◌, ◌^◌, List, [], ◌∷◌, ◌++◌, length, Option, Some, slice_index_or, slice_set, refl, sym, ap, subst, ◌∙◌, arith}
 use Rattle.net_core.specs.declared.graphs.Side.TheVariants.{First, Second}
 use Rattle.pair_domains.specs.declared.entry.Entry.{Entry}
 use Rattle.pair_domains.specs.declared.entry.Fate.TheVariants.{Deleted}
@@ -43,8 +43,10 @@ invariant_of-self-2 c =
     let written : counts ≡ at_ports 0 more n m e.pair old.gone.items = c.count_at_ports.ensures ∙ ap (at_ports 0 more n m e.pair) c.deref_mut.ensures.value in
     let size = ap length c.count_at_ports.ensures ∙ changed_size 0 more n m e.pair c.deref_mut.result.now in
     let back = given_back old.gone.len old.gone.items c.deref_mut.result.now counts c.deref_mut.ensures.value size (omega (arith, old.gone.ok.0)) in
-    let last : place ≡ length old.entries.items = omega (arith, c.len-place.ensures, old.entries.ok.0) in
-    let kept = kept_deleted n m old.entries.items e old.pairs.items old.places.items old.pairs_at.items old.gone.items place c.self.invariant refl known free last in
-    subst (λ (gs : List ℕ). IsKept n m c.push.new.self.items old.pairs.items (slice_set old.places.items c.pair_number.result (Some place)) old.pairs_at.items gs) (sym (back ∙ written))
-    (subst (λ k. IsKept n m c.push.new.self.items old.pairs.items (slice_set old.places.items k (Some place)) old.pairs_at.items (at_ports 0 more n m e.pair old.gone.items)) (sym c.pair_number.ensures.value)
-    (subst (λ (es : List Entry). IsKept n m es old.pairs.items (slice_set old.places.items (pair_number n m e.pair) (Some place)) old.pairs_at.items (at_ports 0 more n m e.pair old.gone.items)) (sym c.in_ok-push.ensures.items) kept))
+    let last : place ≡ length old.entries.items = omega (arith, c.len-place.ensures, c.reserve.new.self.ok.0, ap length c.in_ok-reserve.ensures.items) in
+    let kept = kept_deleted n m old.entries.items e old.pairs.items old.places old.pairs_at.items old.gone.items place c.self.invariant refl known free last in
+    let put = c.in_ok-put.ensures.put ∙ ap (λ k. slice_set old.places k (Some place)) c.pair_number-number.ensures.value in
+    let entries = c.push_reserved.ensures.items ∙ ap (λ (es : List Entry). es ++ e ∷ []) c.in_ok-reserve.ensures.items in
+    subst (λ (gs : List ℕ). IsKept n m c.push_reserved.new.self.items old.pairs.items c.put.new.self old.pairs_at.items gs) (sym (back ∙ written))
+    (subst (λ (ps : List (Option ℕ)). IsKept n m c.push_reserved.new.self.items old.pairs.items ps old.pairs_at.items (at_ports 0 more n m e.pair old.gone.items)) (sym put)
+    (subst (λ (es : List Entry). IsKept n m es old.pairs.items (slice_set old.places (pair_number n m e.pair) (Some place)) old.pairs_at.items (at_ports 0 more n m e.pair old.gone.items)) (sym entries) kept))

@@ -17,16 +17,17 @@ invariant_of-self c =
     let m = old.outputs in
     let es = c.pop.new.self.items in
     let e = c.in-Some.entry in
-    let was = subst (λ (l : List Entry). IsKept n m l old.pairs.items old.places.items old.pairs_at.items old.gone.items) c.in-Some.ensures.items c.self.invariant in
+    let was = subst (λ (l : List Entry). IsKept n m l old.pairs.items old.places old.pairs_at.items old.gone.items) c.in-Some.ensures.items c.self.invariant in
     let nothing : Option Pair = None in
     let pairs = c.put_at_ports.new.assigned in
     let written : pairs ≡ put_at_ports nothing n m e.pair old.pairs_at.items = c.put_at_ports.ensures ∙ ap (put_at_ports nothing n m e.pair) c.deref_mut.ensures.value in
     let size = ap length c.put_at_ports.ensures ∙ changed_size nothing (λ old. nothing) n m e.pair c.deref_mut.result.now in
     let back = given_back old.pairs_at.len old.pairs_at.items c.deref_mut.result.now pairs c.deref_mut.ensures.value size (omega (arith, old.pairs_at.ok.0)) in
     let rest = c.pop-in-Assigned.ensures.rest ∙ ap (λ k. take (k - 1) old.pairs.items) (let e' : old.pairs.len ≡ length old.pairs.items = omega (arith, old.pairs.ok.0) in e') in
-    let kept = kept_unassigned n m es e old.pairs.items c.pop-in-Assigned.new.self.items old.places.items old.pairs_at.items old.gone.items was (ap is_assigned c.in-Assigned.is) rest in
-    subst (λ (hs : List (Option Pair)). IsKept n m es c.pop-in-Assigned.new.self.items (slice_set old.places.items c.pair_number.result None) hs old.gone.items) (sym (back ∙ written))
-    (subst (λ k. IsKept n m es c.pop-in-Assigned.new.self.items (slice_set old.places.items k None) (put_at_ports nothing n m e.pair old.pairs_at.items) old.gone.items) (sym c.pair_number.ensures.value) kept)
+    let kept = kept_unassigned n m es e old.pairs.items c.pop-in-Assigned.new.self.items old.places old.pairs_at.items old.gone.items was (ap is_assigned c.in-Assigned.is) rest in
+    let cleared = c.clear.ensures ∙ ap (λ k. slice_set old.places k None) c.pair_number-number.ensures.value in
+    subst (λ (hs : List (Option Pair)). IsKept n m es c.pop-in-Assigned.new.self.items c.clear.new.self hs old.gone.items) (sym (back ∙ written))
+    (subst (λ (ps : List (Option ℕ)). IsKept n m es c.pop-in-Assigned.new.self.items ps (put_at_ports nothing n m e.pair old.pairs_at.items) old.gone.items) (sym cleared) kept)
 
 pub uncount_at_ports-requires-clause-known : goal.uncount_at_ports-requires-clause-known
 uncount_at_ports-requires-clause-known c =
@@ -41,13 +42,14 @@ invariant_of-self-in-Deleted c =
     let m = old.outputs in
     let es = c.pop.new.self.items in
     let e = c.in-Some.entry in
-    let was = subst (λ (l : List Entry). IsKept n m l old.pairs.items old.places.items old.pairs_at.items old.gone.items) c.in-Some.ensures.items c.self.invariant in
+    let was = subst (λ (l : List Entry). IsKept n m l old.pairs.items old.places old.pairs_at.items old.gone.items) c.in-Some.ensures.items c.self.invariant in
     let less : ℕ → ℕ = λ count. count - 1 in
     let lent = c.deref_mut-in-Deleted.result.now in
     let counts = c.uncount_at_ports.new.gone in
     let written : counts ≡ at_ports 0 less n m e.pair old.gone.items = c.uncount_at_ports.ensures ∙ ap (at_ports 0 less n m e.pair) c.deref_mut-in-Deleted.ensures.value in
     let size = ap length c.uncount_at_ports.ensures ∙ changed_size 0 less n m e.pair lent in
     let back = given_back old.gone.len old.gone.items lent counts c.deref_mut-in-Deleted.ensures.value size (omega (arith, old.gone.ok.0)) in
-    let kept = kept_undeleted n m es e old.pairs.items old.places.items old.pairs_at.items old.gone.items was (ap is_assigned c.in-Deleted.is) in
-    subst (λ (gs : List ℕ). IsKept n m es old.pairs.items (slice_set old.places.items c.pair_number.result None) old.pairs_at.items gs) (sym (back ∙ written))
-    (subst (λ k. IsKept n m es old.pairs.items (slice_set old.places.items k None) old.pairs_at.items (at_ports 0 less n m e.pair old.gone.items)) (sym c.pair_number.ensures.value) kept)
+    let kept = kept_undeleted n m es e old.pairs.items old.places old.pairs_at.items old.gone.items was (ap is_assigned c.in-Deleted.is) in
+    let cleared = c.clear.ensures ∙ ap (λ k. slice_set old.places k None) c.pair_number-number.ensures.value in
+    subst (λ (gs : List ℕ). IsKept n m es old.pairs.items c.clear.new.self old.pairs_at.items gs) (sym (back ∙ written))
+    (subst (λ (ps : List (Option ℕ)). IsKept n m es old.pairs.items ps old.pairs_at.items (at_ports 0 less n m e.pair old.gone.items)) (sym cleared) kept)
