@@ -167,6 +167,34 @@ tell $? 'an account that is not trimmed' '' untrimmed.account
 wants 4 'usage' convert and-xor.account and-xor.account
 wants 6 '' convert and-xor.account ./and-xor.account
 
+# a file of models is flattened: the AND by two NANDs; a file with a fault leaves the new file
+printf '.model top\n.inputs a b\n.outputs y\n.subckt nd p=a q=b r=t\n.subckt nd p=t q=t r=y\n.end\n' >nands.blif
+printf '.model nd\n.inputs p q\n.outputs r\n.names p q r\n11 0\n.end\n' >>nands.blif
+wants 0 'flattened 2 3 2' flatten nands.blif flat.aag
+wants 0 'matched' match and.blif flat.aag flat.account
+wants 0 'accepted match' check and.blif flat.aag flat.account
+sed s/q=b// nands.blif >unbound.blif
+wants 5 'malformed first 45 34' flatten unbound.blif unflat.aag
+wants 5 'absent first' flatten absent.blif unflat.aag
+[ ! -e unflat.aag ]
+tell $? 'a netlist that is not flattened' '' unflat.aag
+wants 4 'usage' flatten nands.blif nands.blif
+wants 6 '' flatten nands.blif ./nands.blif
+explains 'unbound.blif:4:1: an input that is not bound' flatten unbound.blif unflat.aag
+
+# a netlist is swept: two gates that compute the same are one; a file that is none leaves the new file
+printf 'aag 4 2 0 2 2\n2\n4\n6\n8\n6 2 4\n8 6 2\n' >twice.aag
+wants 0 'swept 2 1 whole' sweep twice.aag swept.aag
+wants 0 'swept 2 2 spent' sweep twice.aag spent.aag 0
+wants 0 'matched' match twice.aag swept.aag swept.account
+wants 0 'accepted match' check twice.aag swept.aag swept.account
+wants 5 'absent first' sweep absent.aag unswept.aag
+[ ! -e unswept.aag ]
+tell $? 'a netlist that is not swept' '' unswept.aag
+wants 4 'usage' sweep twice.aag twice.aag
+wants 6 '' sweep twice.aag ./twice.aag
+explains 'the allowance of 0 learned clauses was spent' sweep twice.aag spent.aag 0
+
 # ABC finds the netlist that was restored equal to the first one, port by port, by their names
 is_equal() { # FIRST RESTORED
   local answer

@@ -3,14 +3,14 @@ _npnp() {
   local files
   COMPREPLY=()
   if [ "$COMP_CWORD" -eq 1 ]; then
-    mapfile -t COMPREPLY < <(compgen -W 'match check restore trim convert info make trial --help --version' -- "$2")
+    mapfile -t COMPREPLY < <(compgen -W 'match check restore trim convert flatten sweep info make trial --help --version' -- "$2")
     return
   fi
   # which of the words are files, by their places
   case ${COMP_WORDS[1]} in
     match | check) files=' 2 3 4 ' ;;
     restore | trim) files=' 2 3 4 5 ' ;;
-    convert) files=' 2 3 ' ;;
+    convert | flatten | sweep) files=' 2 3 ' ;;
     info) files=' 2 ' ;;
     make) files=' 3 4 ' ;;
     *) files= ;;

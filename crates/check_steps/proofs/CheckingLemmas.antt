@@ -15,7 +15,7 @@ use Rattle.check_steps.specs.Judged.{IsVerdict, graphs_of}
 use Rattle.check_steps.specs.Lines.{report_on}
 use Rattle.check_steps.specs.Reading.{IsOfReading, netlist_of}
 use Rattle.check_steps.specs.Stops.{outcome_of}
-use Rattle.check_steps.specs.Words.{AsksCheck, AsksInfo, NameThree}
+use Rattle.check_steps.specs.Words.{AsksCheck, NameOne, NameThree}
 use Rattle.check_steps.specs.declared.checking.Judgement.{Judgement}
 use Rattle.check_steps.specs.declared.files.ReadStop.{ReadStop}
 use Rattle.check_steps.specs.declared.files.ReadStop.TheVariants as stop
@@ -42,9 +42,9 @@ pub at_second : (held : List ℕ → Option (List ℕ)) (words : List (List ℕ)
 at_second held words f g t first asks there o ends =
     early_end held words Second (held g) o ends (inr (inl (record { first_name = f; second_name = g; account_name = t; asks = asks; first = first; first_held = there; ends = ends })))
 
-pub at_only : (held : List ℕ → Option (List ℕ)) (words : List (List ℕ)) (file : List ℕ) (budget : ℕ) → AsksInfo words file budget → (o : Outcome) → EndsAt First (held file) o → IsOfCheck held words o
-at_only held words file budget asks o ends =
-    early_end held words First (held file) o ends (inr (inr (record { file_name = file; budget = budget; asks = asks; ends = ends })))
+pub at_only : (held : List ℕ → Option (List ℕ)) (words : List (List ℕ)) (file : List ℕ) → NameOne words file → (o : Outcome) → EndsAt First (held file) o → IsOfCheck held words o
+at_only held words file asks o ends =
+    early_end held words First (held file) o ends (inr (inr (record { file_name = file; asks = asks; ends = ends })))
 
 pub by_verdict : (held : List ℕ → Option (List ℕ)) (words : List (List ℕ)) (f g t : List ℕ) (graphs : Graphs) → AsksCheck words f g t → HasGraph (held f) graphs.first → HasGraph (held g) graphs.second → (o : Outcome) → IsVerdict graphs (held t) o → IsOfCheck held words o
 by_verdict held words f g t graphs asks first second (AcceptedMatch matching) fact = record { graphs = graphs; account = fact.0; has = record { first_name = f; second_name = g; account_name = t; asks = asks; first_held = first; second_held = second; there = fact.1 }; accepted = fact.2 }

@@ -33,6 +33,8 @@ early o is = record {
   no_netlist = λ gates e. subst EndsRun e is;
   untrimmed = λ before after e. subst EndsRun e is;
   unconverted = λ from to records e. subst EndsRun e is;
+  unflattened = λ models instances gates e. subst EndsRun e is;
+  unswept = λ before after left e. subst EndsRun e is;
   no_trial = λ number account e. subst EndsRun e is;
   asked = λ e. subst EndsRun e is;
 }

@@ -117,7 +117,7 @@ rejected_by tells graphs old new progress fed line reason feeds is =
         | inl same ↦ cc
         | inr same ↦ cc
       ];
-      judged = record { asked = λ e. cc; no_rows = λ e. cc; read = λ e. cc; unwritten = λ e. cc; no_match = λ e. cc; no_pair = λ e. cc; no_netlist = λ gates e. cc; untrimmed = λ before after e. cc; unconverted = λ from to records e. cc; no_trial = λ number account e. cc; unmatched = λ matching e. cc };
+      judged = record { asked = λ e. cc; no_rows = λ e. cc; read = λ e. cc; unwritten = λ e. cc; no_match = λ e. cc; no_pair = λ e. cc; no_netlist = λ gates e. cc; untrimmed = λ before after e. cc; unconverted = λ from to records e. cc; unflattened = λ models instances gates e. cc; unswept = λ before after left e. cc; no_trial = λ number account e. cc; unmatched = λ matching e. cc };
       clean = subst (λ answer. IfAnswered answer (new.faults ≡ old.faults)) is feeds.clean;
       last = feeds.last;
       failed = λ e. cc;

@@ -1,6 +1,7 @@
 pub mod CheckingLemmas
 pub mod CircuitLemmas
 pub mod EndLemmas
+pub mod GateLemmas
 pub mod JudgingLemmas
 pub mod ReadLemmas
 pub mod Reading

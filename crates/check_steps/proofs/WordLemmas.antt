@@ -7,13 +7,15 @@ use Rattle.std.proofs.lemmas.Bool.{false≢true}
 use Rattle.std.proofs.lemmas.Bool.Decides.{eqb_tells}
 use Rattle.std.proofs.lemmas.Slice.{between_to_end}
 use Rattle.std.proofs.lemmas.Slice.Eq.{bytes_eq-Decides}
-use Rattle.check_steps.specs.Asks.{convert_request, match_request, make_request, restore_request, trim_request}
+use Rattle.check_steps.specs.Asks.{convert_request, flatten_request, match_request, make_request, restore_request, sweep_request, trim_request}
 use Rattle.check_steps.specs.declared.words.Match.{Match as MatchWords}
-use Rattle.check_steps.specs.Words.{AreBudgetAndSeed, AreFourNames, AreNames, AreTwoNames, AsksConvert, AsksInfo, AsksMake, AsksMatch, AsksRestore, AsksTrim, HaveInfoForm, IsNumber, MakeRequest}
+use Rattle.check_steps.specs.Words.{AreBudgetAndSeed, AreFourNames, AreNames, AreTwoNames, AsksConvert, AsksFlatten, AsksInfo, AsksMake, AsksMatch, AsksRestore, AsksSweep, AsksTrim, HaveInfoForm, HaveSweepForm, IsNumber, MakeRequest, SweepRequest}
 use Rattle.check_steps.specs.declared.words.Info.{Info as InfoWords}
 use Rattle.check_steps.specs.declared.words.Make.{Make as MakeWords}
 use Rattle.check_steps.specs.declared.words.Restore.{Restore as RestoreWords}
 use Rattle.check_steps.specs.declared.words.Convert.{Convert as ConvertWords}
+use Rattle.check_steps.specs.declared.words.Flatten.{Flatten as FlattenWords}
+use Rattle.check_steps.specs.declared.words.Sweep.{Sweep as SweepWords}
 use Rattle.check_steps.specs.declared.words.Trim.{Trim as TrimWords}
 
 -- a text of which a test said that it isn't empty
@@ -112,6 +114,16 @@ not_make words word is none request asks =
     let same : asks.word ≡ word = sym (ap (λ (words : List (List ℕ)). get_or words 1 []) asks.form) ∙ is in
     none request.number (subst (λ w. IsNumber w request.number) same asks.number_is)
 
+-- where the fourth word of four is no number, no netlist is to be swept
+pub not_sweep : (words : List (List ℕ)) (word : List ℕ) → length words ≡ 4 → get_or words 3 [] ≡ word → ((value : ℕ) → IsNumber word value → ⊥) → (request : SweepRequest) → AsksSweep words request → ⊥
+not_sweep words word many is none request asks =
+    elim asks.form [
+      | inl (form, same) ↦ omega (arith, many, ap length form)
+      | inr (other, form, number) ↦
+          let same : other ≡ word = sym (ap (λ (words : List (List ℕ)). get_or words 3 []) form) ∙ is in
+          none request.allowance (subst (λ w. IsNumber w request.allowance) same number)
+    ]
+
 -- what nothing says
 pub none_says : {X : Type 0} (P : Type 0) (result : Option X) → P → IfNone result P
 none_says P None holds = holds
@@ -185,6 +197,30 @@ asks_convert words account converted None form are names_are = tt
 asks_convert words account converted (Some asked) form are names_are = record {
   form = form ∙ ap (λ name. codes "convert" ∷ name ∷ converted ∷ []) (sym are.0) ∙ ap (λ name. codes "convert" ∷ asked.account.now ∷ name ∷ []) (sym are.1);
   names = subst (λ name. AreTwoNames name asked.converted.now) (sym are.0) (subst (AreTwoNames account) (sym are.1) names_are);
+}
+
+-- and for a file of models to be flattened
+pub asks_flatten : (words : List (List ℕ)) (file flat : List ℕ) (result : Option FlattenWords)
+    → words ≡ codes "flatten" ∷ file ∷ flat ∷ []
+    → IfSome result (λ asked. (asked.file.now ≡ file) × (asked.flat.now ≡ flat))
+    → IfSome result (λ asked. AreTwoNames file flat)
+    → IfSome result (λ asked. AsksFlatten words (flatten_request asked))
+asks_flatten words file flat None form are names_are = tt
+asks_flatten words file flat (Some asked) form are names_are = record {
+  form = form ∙ ap (λ name. codes "flatten" ∷ name ∷ flat ∷ []) (sym are.0) ∙ ap (λ name. codes "flatten" ∷ asked.file.now ∷ name ∷ []) (sym are.1);
+  names = subst (λ name. AreTwoNames name asked.flat.now) (sym are.0) (subst (AreTwoNames file) (sym are.1) names_are);
+}
+
+-- what two names make of words of the form, with an allowance
+pub asks_sweep : (words : List (List ℕ)) (file swept : List ℕ) (allowance : ℕ) (result : Option SweepWords)
+    → HaveSweepForm words (record { file = file; swept = swept; allowance = allowance })
+    → IfSome result (λ asked. (asked.file.now ≡ file) × (asked.swept.now ≡ swept) × (asked.allowance ≡ allowance))
+    → IfSome result (λ asked. AreTwoNames file swept)
+    → IfSome result (λ asked. AsksSweep words (sweep_request asked))
+asks_sweep words file swept allowance None form are names_are = tt
+asks_sweep words file swept allowance (Some asked) form are names_are = record {
+  form = subst (λ name. HaveSweepForm words (record { file = name; swept = asked.swept.now; allowance = asked.allowance })) (sym are.0) (subst (λ name. HaveSweepForm words (record { file = file; swept = name; allowance = asked.allowance })) (sym are.1) (subst (λ n. HaveSweepForm words (record { file = file; swept = swept; allowance = n })) (sym are.2) form));
+  names = subst (λ name. AreTwoNames name asked.swept.now) (sym are.0) (subst (AreTwoNames file) (sym are.1) names_are);
 }
 
 -- four names are two that are read with the one that is written, and the account with it

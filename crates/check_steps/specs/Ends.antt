@@ -2,7 +2,7 @@
 use Rattle.std.specs.Prelude.{◌≡◌, ℕ, ◌⊎◌, List, Option, None}
 use Rattle.check_steps.specs.Check.{LacksAccount}
 use Rattle.check_steps.specs.Held.{Netlist, HasNetlist, HasNetFault, HasTooMuch}
-use Rattle.check_steps.specs.Words.{AsksInfo, NameThree}
+use Rattle.check_steps.specs.Words.{NameOne, NameThree}
 use Rattle.check_steps.specs.declared.outcome.Which.{Which}
 use Rattle.check_steps.specs.declared.outcome.Which.TheVariants.{First, Second, Account}
 use Rattle.check_steps.specs.declared.outcome.Outcome.{Outcome}
@@ -36,11 +36,10 @@ pub record EndsAtSecond (held : List ℕ → Option (List ℕ)) (words : List (L
   pub first_held : HasNetlist (held first_name) first
   pub ends : EndsAt Second (held second_name) outcome
 
--- The words ask for what is known of a file, which ends the run.
+-- The words ask for what is known of a file, or for a netlist to be swept, and the file ends the run.
 pub record EndsAtOnly (held : List ℕ → Option (List ℕ)) (words : List (List ℕ)) (outcome : Outcome) : Type 0 where
   pub file_name : List ℕ
-  pub budget : ℕ
-  pub asks : AsksInfo words file_name budget
+  pub asks : NameOne words file_name
   pub ends : EndsAt First (held file_name) outcome
 
 -- a run ends at one of its netlists' files, which isn't there, or isn't read as a netlist

@@ -7,6 +7,7 @@ use Rattle.shelf_core.specs.State.{ShelfState}
 use Rattle.net_core.specs.Sides.{Graphs}
 use Rattle.net_core.specs.declared.matching.Matching.{Matching}
 use Rattle.net_file.specs.declared.named.Named.{Named}
+use Rattle.query_core.specs.Ledgers.{Ledgered}
 use Rattle.account_check.specs.Verdicts.{IsAccepted as Proves, IsRejected as IsBadAt}
 use Rattle.account_check.specs.declared.verdict.Verdict.TheVariants as verdict
 use Rattle.check_steps.specs.Lines.{HasMatching}
@@ -14,7 +15,7 @@ use Rattle.check_steps.specs.declared.outcome.Which.TheVariants.{Account}
 use Rattle.check_steps.specs.declared.outcome.Outcome.{Outcome}
 use Rattle.check_steps.specs.declared.outcome.Outcome.TheVariants.{AcceptedMatch, AcceptedRefusal, Rejected, Matched, NoMatching, Usage, Absent, Informed, Made}
 use Rattle.check_steps.specs.declared.outcome.Outcome.TheVariants.{Restored, Trimmed, Converted}
-use Rattle.check_steps.specs.declared.outcome.Outcome.TheVariants.{Tried, ReadFault, WriteFault}
+use Rattle.check_steps.specs.declared.outcome.Outcome.TheVariants.{Flattened, Swept, Tried, ReadFault, WriteFault}
 use Rattle.check_steps.specs.declared.files.ReadStop.{ReadStop}
 use Rattle.check_steps.specs.declared.files.ReadStop.TheVariants as stop
 
@@ -53,6 +54,8 @@ pub record IsJudged (outcome : Outcome) : Type 0 where
   pub no_netlist : (gates : ℕ) → outcome ≢ Restored gates
   pub untrimmed : (before after : ℕ) → outcome ≢ Trimmed before after
   pub unconverted : (from to records : ℕ) → outcome ≢ Converted from to records
+  pub unflattened : (models instances gates : ℕ) → outcome ≢ Flattened models instances gates
+  pub unswept : (before after : ℕ) (left : Option Ledgered) → outcome ≢ Swept before after left
   pub no_trial : (number : ℕ) (account : List ℕ) → outcome ≢ Tried number account
   pub unmatched : (matching : Matching) → outcome ≢ Matched matching
 

@@ -1,9 +1,10 @@
 -- What the program prints of an outcome.
-use Rattle.std.specs.Prelude.{◌≡◌, ◌≢◌, ℕ, ◌⊎◌, List, [], ◌∷◌, ◌++◌, codes}
+use Rattle.std.specs.Prelude.{◌≡◌, ◌≢◌, ℕ, ◌⊎◌, List, [], ◌∷◌, ◌++◌, Option, None, Some, codes}
 use Rattle.std.specs.Fmt.{decimal}
 use Rattle.net_file.specs.Kinds.{kind_number}
+use Rattle.hier_blif.specs.Kinds.{kind_number as hier_number}
 use Rattle.net_core.specs.declared.matching.Matching.{Matching}
-use Rattle.query_core.specs.Ledgers.{learned_in}
+use Rattle.query_core.specs.Ledgers.{Ledgered, learned_in}
 use Rattle.port_report.specs.Reports.{PortNames, table_text, rejected_text}
 use Rattle.account_check.specs.Words.{word_of}
 use Rattle.check_steps.specs.Held.{Netlist}
@@ -12,7 +13,7 @@ use Rattle.check_steps.specs.declared.outcome.Which.TheVariants.{First, Second, 
 use Rattle.check_steps.specs.declared.outcome.Outcome.{Outcome}
 use Rattle.check_steps.specs.declared.outcome.Outcome.TheVariants.{AcceptedMatch, AcceptedRefusal, Rejected, Matched, NoMatching, Spent, Usage, Absent}
 use Rattle.check_steps.specs.declared.outcome.Outcome.TheVariants.{TooLarge, Malformed, Informed, Made, Restored, Trimmed, Converted}
-use Rattle.check_steps.specs.declared.outcome.Outcome.TheVariants.{Tried, ReadFault, WriteFault, Memory}
+use Rattle.check_steps.specs.declared.outcome.Outcome.TheVariants.{BadHierarchy, Flattened, Swept, Tried, ReadFault, WriteFault, Memory}
 
 -- the word for a file
 abbrev pub file_word : Which → List ℕ
@@ -33,6 +34,21 @@ trimmed_line before after = codes "trimmed " ++ decimal before ++ 32 ∷ decimal
 abbrev pub converted_line : ℕ → ℕ → ℕ → List ℕ
 converted_line from to records = codes "converted " ++ decimal from ++ 32 ∷ decimal to ++ 32 ∷ decimal records ++ 10 ∷ []
 
+-- the line of a file of models that was flattened: how many models it has, how many instances, and how many gates
+abbrev pub flattened_line : ℕ → ℕ → ℕ → List ℕ
+flattened_line models instances gates =
+    codes "flattened " ++ decimal models ++ 32 ∷ decimal instances ++ 32 ∷ decimal gates ++ 10 ∷ []
+
+-- the line of a file that is malformed: which one it is, the number of its first fault's kind, and where it stands
+abbrev pub malformed_line : Which → ℕ → ℕ → List ℕ
+malformed_line file number at =
+    codes "malformed " ++ file_word file ++ 32 ∷ decimal number ++ 32 ∷ decimal at ++ 10 ∷ []
+
+-- the line of a netlist that was swept: how many gates it had, how many are left, and whether all signals were compared
+abbrev pub swept_line : ℕ → ℕ → Option Ledgered → List ℕ
+swept_line before after None = codes "swept " ++ decimal before ++ 32 ∷ decimal after ++ codes " whole" ++ 10 ∷ []
+swept_line before after (Some ledger) = codes "swept " ++ decimal before ++ 32 ∷ decimal after ++ codes " spent" ++ 10 ∷ []
+
 -- the line that names an outcome; a failed write has none, and what is known of a netlist is more than a line
 abbrev pub line_of : Outcome → List ℕ
 line_of (AcceptedMatch matching) = codes "accepted match" ++ 10 ∷ []
@@ -46,11 +62,14 @@ line_of Made = codes "made 64 32 2000" ++ 10 ∷ []
 line_of (Restored gates) = codes "restored " ++ decimal gates ++ 10 ∷ []
 line_of (Trimmed before after) = trimmed_line before after
 line_of (Converted from to records) = converted_line from to records
+line_of (Flattened models instances gates) = flattened_line models instances gates
+line_of (Swept before after left) = swept_line before after left
 line_of (Tried number account) = tried_line number
 line_of Usage = codes "usage" ++ 10 ∷ []
 line_of (Absent file) = codes "absent " ++ file_word file ++ 10 ∷ []
 line_of (TooLarge file) = codes "too large " ++ file_word file ++ 10 ∷ []
-line_of (Malformed file kind at) = codes "malformed " ++ file_word file ++ 32 ∷ decimal (kind_number kind) ++ 32 ∷ decimal at ++ 10 ∷ []
+line_of (Malformed file kind at) = malformed_line file (kind_number kind) at
+line_of (BadHierarchy fault) = malformed_line First (hier_number fault.kind) fault.at
 line_of ReadFault = codes "read fault" ++ 10 ∷ []
 line_of WriteFault = []
 line_of Memory = codes "out of memory" ++ 10 ∷ []

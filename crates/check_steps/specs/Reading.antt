@@ -5,6 +5,7 @@ use Rattle.circuits.specs.Functions.{Computes}
 use Rattle.circuits.specs.Levels.{IsAcyclic, IsOrderOf}
 use Rattle.circuits.specs.Netlists.{Net}
 use Rattle.net_core.specs.Limits.{most_ports}
+use Rattle.query_core.specs.Ledgers.{Ledgered}
 use Rattle.shelf_core.specs.Fault.{NoCallFollows, Rose}
 use Rattle.shelf_core.specs.State.{ShelfState, Closed}
 use Rattle.net_file.specs.declared.named.Named.{Named}
@@ -15,7 +16,7 @@ use Rattle.check_steps.specs.Lines.{IsOneLine}
 use Rattle.check_steps.specs.declared.outcome.Which.{Which}
 use Rattle.check_steps.specs.declared.outcome.Outcome.{Outcome}
 use Rattle.check_steps.specs.declared.outcome.Outcome.TheVariants.{AcceptedRefusal, NoMatching, Usage, Malformed, Made, Restored, Trimmed, Converted}
-use Rattle.check_steps.specs.declared.outcome.Outcome.TheVariants.{Tried, ReadFault, WriteFault, Memory}
+use Rattle.check_steps.specs.declared.outcome.Outcome.TheVariants.{Flattened, Swept, Tried, ReadFault, WriteFault, Memory}
 
 -- an outcome that ends a run early: it has a line, and is no answer and none of the words alone
 pub record IsEarly (outcome : Outcome) : Type 0 where
@@ -26,6 +27,8 @@ pub record IsEarly (outcome : Outcome) : Type 0 where
   pub no_netlist : (gates : ℕ) → outcome ≢ Restored gates
   pub untrimmed : (before after : ℕ) → outcome ≢ Trimmed before after
   pub unconverted : (from to records : ℕ) → outcome ≢ Converted from to records
+  pub unflattened : (models instances gates : ℕ) → outcome ≢ Flattened models instances gates
+  pub unswept : (before after : ℕ) (left : Option Ledgered) → outcome ≢ Swept before after left
   pub no_trial : (number : ℕ) (account : List ℕ) → outcome ≢ Tried number account
   pub asked : outcome ≢ Usage
 

@@ -104,6 +104,40 @@ pub record AsksConvert (words : List (List ℕ)) (request : ConvertRequest) : Ty
   pub form : words ≡ codes "convert" ∷ request.account ∷ request.converted ∷ []
   pub names : AreTwoNames request.account request.converted
 
+-- What `flatten` is asked for: a file of several models as one flat netlist, in a file that is written.
+pub record FlattenRequest : Type 0 where
+  pub file : List ℕ
+  pub flat : List ℕ
+
+-- `flatten FILE NEW`
+pub record AsksFlatten (words : List (List ℕ)) (request : FlattenRequest) : Type 0 where
+  pub form : words ≡ codes "flatten" ∷ request.file ∷ request.flat ∷ []
+  pub names : AreTwoNames request.file request.flat
+
+-- What `sweep` is asked for: a netlist with one signal in place of all that compute the same, in a file that is written,
+-- with so many learned clauses at most.
+pub record SweepRequest : Type 0 where
+  pub file : List ℕ
+  pub swept : List ℕ
+  pub allowance : ℕ
+
+-- the allowance where the words give none (this project's)
+abbrev pub default_allowance : ℕ
+default_allowance = 1000000
+
+-- `sweep FILE NEW`, whose allowance is the default one, or `sweep FILE NEW ALLOWANCE`
+abbrev pub HaveSweepForm : List (List ℕ) → SweepRequest → Type 0
+HaveSweepForm words request =
+    ((words ≡ codes "sweep" ∷ request.file ∷ request.swept ∷ []) × (request.allowance ≡ default_allowance))
+    ⊎ ((word : List ℕ)
+    × (words ≡ codes "sweep" ∷ request.file ∷ request.swept ∷ word ∷ [])
+    × IsNumber word request.allowance)
+
+-- `sweep FILE NEW [ALLOWANCE]`
+pub record AsksSweep (words : List (List ℕ)) (request : SweepRequest) : Type 0 where
+  pub form : HaveSweepForm words request
+  pub names : AreTwoNames request.file request.swept
+
 -- `match FIRST SECOND ACCOUNT [BUDGET [SEED]]`
 pub record AsksMatch (words : List (List ℕ)) (sought : MatchRequest) : Type 0 where
   pub numbers : List (List ℕ)
@@ -152,14 +186,21 @@ NameThree words first second account =
     ⊎ ((budget seed : ℕ)
     × AsksMatch words (record { first = first; second = second; account = account; budget = budget; seed = seed }))
 
+-- the words name one netlist, of which they ask what is known, or which is to be swept
+abbrev pub NameOne : List (List ℕ) → List ℕ → Type 0
+NameOne words file =
+    ((budget : ℕ) × AsksInfo words file budget)
+    ⊎ ((request : SweepRequest) × AsksSweep words request × (file ≡ request.file))
+
 -- the words name files that are read
 abbrev pub ReadFiles : List (List ℕ) → Type 0
 ReadFiles words =
     ((first second account : List ℕ) × NameThree words first second account)
-    ⊎ ((file : List ℕ) × (budget : ℕ) × AsksInfo words file budget)
+    ⊎ ((file : List ℕ) × NameOne words file)
     ⊎ ((request : RestoreRequest) × AsksRestore words request)
     ⊎ ((request : TrimRequest) × AsksTrim words request)
     ⊎ ((request : ConvertRequest) × AsksConvert words request)
+    ⊎ ((request : FlattenRequest) × AsksFlatten words request)
 
 -- words of no form that is known
 pub record AskNothing (words : List (List ℕ)) : Type 0 where
@@ -167,6 +208,8 @@ pub record AskNothing (words : List (List ℕ)) : Type 0 where
   pub no_restore : (request : RestoreRequest) → AsksRestore words request → ⊥
   pub no_trim : (request : TrimRequest) → AsksTrim words request → ⊥
   pub no_convert : (request : ConvertRequest) → AsksConvert words request → ⊥
+  pub no_flatten : (request : FlattenRequest) → AsksFlatten words request → ⊥
+  pub no_sweep : (request : SweepRequest) → AsksSweep words request → ⊥
   pub no_match : (sought : MatchRequest) → AsksMatch words sought → ⊥
   pub no_info : (file : List ℕ) (budget : ℕ) → AsksInfo words file budget → ⊥
   pub no_make : (request : MakeRequest) → AsksMake words request → ⊥

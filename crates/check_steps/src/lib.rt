@@ -16,6 +16,6 @@ pub use netlists::{NETLIST_LIMIT, read_netlist};
 pub use outcome::{Ending, Outcome, Which};
 pub use report::{report_line, report_named};
 pub use words::{
-    Check, Command, Convert, DEFAULT_BUDGET, DEFAULT_SEED, Info, MOST_DIGITS, Make, Match, Restore,
-    Trial, Trim, command_asked,
+    Check, Command, Convert, DEFAULT_ALLOWANCE, DEFAULT_BUDGET, DEFAULT_SEED, Flatten, Info,
+    MOST_DIGITS, Make, Match, Restore, Sweep, Trial, Trim, command_asked,
 };

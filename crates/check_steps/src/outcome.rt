@@ -5,6 +5,7 @@ ghost use Rattle.check_steps.specs.Status.{status_of};
 
 use crate::ReadStop;
 use account_check::Why;
+use hier_blif::HierFault;
 use items::Items;
 use net_core::Matching;
 use net_file::NetKind;
@@ -60,6 +61,21 @@ pub enum Outcome {
         to: u8,
         records: u64,
     },
+    /// The file of models was written as one flat netlist: how many models it has, how many instances the netlist is made
+    /// of, the top among them, and how many gates.
+    Flattened {
+        models: u64,
+        instances: u64,
+        gates: u64,
+    },
+    /// The netlist was written with one signal in place of all that compute the same, or the complement: how many gates
+    /// it had, and how many are left; and everything that was asked, where the allowance was spent before all signals
+    /// were compared.
+    Swept {
+        before: u64,
+        after: u64,
+        left: Option<Ledger>,
+    },
     /// A match of the pair of netlists that the number gives was found, and the account of it was accepted.
     Tried {
         number: u64,
@@ -79,6 +95,8 @@ pub enum Outcome {
         kind: NetKind,
         at: u64,
     },
+    /// The file of models is malformed: its first fault.
+    BadHierarchy(HierFault),
     /// A file couldn't be read.
     ReadFault,
     /// A file or the report couldn't be written.
@@ -113,12 +131,15 @@ impl Outcome {
             Outcome::Restored { .. } => 0,
             Outcome::Trimmed { .. } => 0,
             Outcome::Converted { .. } => 0,
+            Outcome::Flattened { .. } => 0,
+            Outcome::Swept { .. } => 0,
             Outcome::Tried { .. } => 0,
             Outcome::Spent(_) => 3,
             Outcome::Usage => 4,
             Outcome::Absent(_) => 5,
             Outcome::TooLarge(_) => 5,
             Outcome::Malformed { .. } => 5,
+            Outcome::BadHierarchy(_) => 5,
             Outcome::ReadFault => 6,
             Outcome::WriteFault => 6,
             Outcome::Memory => 7,

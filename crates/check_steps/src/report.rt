@@ -3,12 +3,15 @@
 ghost use Rattle.std.specs.Prelude.{◌≡◌, [], ◌∷◌, ◌++◌, OnOk, IfOk, codes};
 ghost use Rattle.std.specs.Fmt.{decimal};
 ghost use Rattle.port_report.specs.Reports.{names_of};
-ghost use Rattle.check_steps.specs.Lines.{converted_line, file_word, line_of, report_on, tried_line, trimmed_line};
+ghost use Rattle.check_steps.specs.Lines.{converted_line, file_word, flattened_line, line_of, malformed_line};
+ghost use Rattle.check_steps.specs.Lines.{report_on, swept_line, tried_line};
+ghost use Rattle.check_steps.specs.Lines.{trimmed_line};
 ghost use Rattle.check_steps.specs.Judged.{IsMatchIfAny};
 
 use crate::outcome::{Outcome, Which};
-use net_file::{Named, NetKind};
+use net_file::Named;
 use port_report::{put_match, put_rejected};
+use query_core::Ledger;
 use std::alloc::{AllocError, Global};
 use text_core::put_decimal;
 
@@ -55,11 +58,24 @@ fn put_line(outcome: &Outcome, out: &mut Vec<u8>) -> Result<(), AllocError>
         Outcome::Restored { gates } => put_count(b"restored ", *gates, out),
         Outcome::Trimmed { before, after } => put_trimmed(*before, *after, out),
         Outcome::Converted { from, to, records } => put_converted(*from, *to, *records, out),
+        Outcome::Flattened {
+            models,
+            instances,
+            gates,
+        } => put_flattened(*models, *instances, *gates, out),
+        Outcome::Swept {
+            before,
+            after,
+            left,
+        } => put_swept(*before, *after, left, out),
         Outcome::Tried { number, .. } => put_tried(*number, out),
         Outcome::Usage => out.extend_from_slice(b"usage\n"),
         Outcome::Absent(which) => put_file(b"absent ", *which, out),
         Outcome::TooLarge(which) => put_file(b"too large ", *which, out),
-        Outcome::Malformed { which, kind, at } => put_malformed(*which, *kind, *at, out),
+        Outcome::Malformed { which, kind, at } => put_malformed(*which, kind.number(), *at, out),
+        Outcome::BadHierarchy(fault) => {
+            put_malformed(Which::First, fault.kind.number(), fault.at, out)
+        }
         Outcome::ReadFault => out.extend_from_slice(b"read fault\n"),
         Outcome::WriteFault => Ok(()),
         Outcome::Memory => out.extend_from_slice(b"out of memory\n"),
@@ -100,6 +116,44 @@ fn put_converted(from: u8, to: u8, records: u64, out: &mut Vec<u8>) -> Result<()
     out.extend_from_slice(b"\n")
 }
 
+// Writes the line of a file of models that was flattened: how many models it has, how many instances, and how many gates.
+fn put_flattened(
+    models: u64,
+    instances: u64,
+    gates: u64,
+    out: &mut Vec<u8>,
+) -> Result<(), AllocError>
+    ensures { OnOk result (out.new.items ≡ out.old.items ++ flattened_line models instances gates) }
+{
+    out.extend_from_slice(b"flattened ")?;
+    put_decimal(models, out)?;
+    out.extend_from_slice(b" ")?;
+    put_decimal(instances, out)?;
+    out.extend_from_slice(b" ")?;
+    put_decimal(gates, out)?;
+    out.extend_from_slice(b"\n")
+}
+
+// Writes the line of a netlist that was swept: how many gates it had, how many are left, and whether all signals were
+// compared.
+fn put_swept(
+    before: u64,
+    after: u64,
+    left: &Option<Ledger>,
+    out: &mut Vec<u8>,
+) -> Result<(), AllocError>
+    ensures { OnOk result (out.new.items ≡ out.old.items ++ swept_line before after left.now) }
+{
+    out.extend_from_slice(b"swept ")?;
+    put_decimal(before, out)?;
+    out.extend_from_slice(b" ")?;
+    put_decimal(after, out)?;
+    match left {
+        None => out.extend_from_slice(b" whole\n"),
+        Some(_) => out.extend_from_slice(b" spent\n"),
+    }
+}
+
 // Writes the line of a pair that was tried: its number, the answer, the verdict on the account, and the numbers of
 // inputs, outputs and gates of one netlist, which are those of every pair.
 fn put_tried(number: u64, out: &mut Vec<u8>) -> Result<(), AllocError>
@@ -119,14 +173,14 @@ fn put_file(what: &[u8], which: Which, out: &mut Vec<u8>) -> Result<(), AllocErr
     out.extend_from_slice(b"\n")
 }
 
-// Writes the line of a malformed netlist: which file it is, the fault's number, and its offset.
-fn put_malformed(which: Which, kind: NetKind, at: u64, out: &mut Vec<u8>) -> Result<(), AllocError>
-    ensures { OnOk result (out.new.items ≡ out.old.items ++ line_of (Outcome.Malformed which kind at)) }
+// Writes the line of a malformed netlist: which file it is, the number of the fault's kind, and its offset.
+fn put_malformed(which: Which, number: u8, at: u64, out: &mut Vec<u8>) -> Result<(), AllocError>
+    ensures { OnOk result (out.new.items ≡ out.old.items ++ malformed_line which number at) }
 {
     out.extend_from_slice(b"malformed ")?;
     put_word(which, out)?;
     out.extend_from_slice(b" ")?;
-    put_decimal(u64::from(kind.number()), out)?;
+    put_decimal(u64::from(number), out)?;
     out.extend_from_slice(b" ")?;
     put_decimal(at, out)?;
     out.extend_from_slice(b"\n")

@@ -1,11 +1,13 @@
 //! The words of the command line.
 
 ghost use Rattle.std.specs.Prelude.{◌≡◌, ◌≢◌, ◌⊎◌, ℕ, [], ◌↔◌, IsTrue, List, map, IfSome, IfNone, string_bytes};
-ghost use Rattle.check_steps.specs.Asks.{Ask, convert_request, match_request, make_request};
-ghost use Rattle.check_steps.specs.Asks.{restore_request, trim_request};
+ghost use Rattle.check_steps.specs.Asks.{Ask, convert_request, flatten_request, match_request, make_request};
+ghost use Rattle.check_steps.specs.Asks.{restore_request, sweep_request, trim_request};
 ghost use Rattle.check_steps.specs.Words.{AreBudgetAndSeed, AreFourNames, AreNames, AreTwoNames, AskNothing, AsksCheck};
-ghost use Rattle.check_steps.specs.Words.{AsksConvert, AsksInfo, AsksMake, AsksMatch, AsksRestore, AsksTrial, AsksTrim};
-ghost use Rattle.check_steps.specs.Words.{ConvertRequest, MatchRequest, MakeRequest, RestoreRequest, TrimRequest};
+ghost use Rattle.check_steps.specs.Words.{AsksConvert, AsksFlatten, AsksInfo, AsksMake, AsksMatch, AsksRestore};
+ghost use Rattle.check_steps.specs.Words.{AsksSweep, AsksTrial, AsksTrim};
+ghost use Rattle.check_steps.specs.Words.{ConvertRequest, FlattenRequest, MatchRequest, MakeRequest, RestoreRequest};
+ghost use Rattle.check_steps.specs.Words.{SweepRequest, TrimRequest};
 ghost use Rattle.check_steps.specs.Words.{IsNumber};
 
 use text_core::{Cursor, decimal};
@@ -13,6 +15,10 @@ use text_core::{Cursor, decimal};
 /// The budget of `match` and `info` where the words give none, and of `trial`. At some 25,000 clauses a second it is
 /// learned in half a day, so that a run that nobody waits for ends.
 pub const DEFAULT_BUDGET: u64 = 1_000_000_000;
+
+/// The allowance of `sweep` where the words give none. At some 25,000 clauses a second it is learned in under a minute, so
+/// that a netlist whose signals are hard to compare is written soon, with fewer of them compared.
+pub const DEFAULT_ALLOWANCE: u64 = 1_000_000;
 
 /// The seed of `match` where the words give none, and of `trial`. Any number serves: a run is to be the same each time.
 pub const DEFAULT_SEED: u64 = 1;
@@ -64,6 +70,26 @@ pub struct Convert<'a> {
     pub account: &'a str,
     /// The file that is written.
     pub converted: &'a str,
+}
+
+/// The files of a netlist of several models that is flattened.
+#[derive(Clone, Copy, Debug)]
+pub struct Flatten<'a> {
+    /// The file of models.
+    pub file: &'a str,
+    /// The file that is written.
+    pub flat: &'a str,
+}
+
+/// The files of a netlist that is swept.
+#[derive(Clone, Copy, Debug)]
+pub struct Sweep<'a> {
+    /// The netlist.
+    pub file: &'a str,
+    /// The file that is written.
+    pub swept: &'a str,
+    /// How many clauses may be learned.
+    pub allowance: u64,
 }
 
 /// The netlists of which a match is sought.
@@ -119,6 +145,10 @@ pub enum Command<'a> {
     Trim(Trim<'a>),
     /// An account in the other version.
     Convert(Convert<'a>),
+    /// A file of several models as one flat netlist.
+    Flatten(Flatten<'a>),
+    /// A netlist with one signal in place of all that compute the same.
+    Sweep(Sweep<'a>),
     /// A match of two netlists, or that there is none.
     Match(Match<'a>),
     /// What each output of a netlist depends on, and how.
@@ -145,6 +175,12 @@ pub fn command_asked(words: &[String]) -> Option<Command<'_>>
     }
     if let Some(asked) = convert_asked(words) {
         return Some(Command::Convert(asked));
+    }
+    if let Some(asked) = flatten_asked(words) {
+        return Some(Command::Flatten(asked));
+    }
+    if let Some(asked) = sweep_asked(words) {
+        return Some(Command::Sweep(asked));
     }
     if let Some(asked) = match_asked(words) {
         return Some(Command::Match(asked));
@@ -290,6 +326,69 @@ fn convert_of<'a>(account: &'a str, converted: &'a str) -> Option<Convert<'a>>
         return None;
     }
     Some(Convert { account, converted })
+}
+
+/// What the words ask to flatten: `flatten`, and two names that aren't empty and differ.
+fn flatten_asked(words: &[String]) -> Option<Flatten<'_>>
+    ensures asked { IfSome result (λ asked. AsksFlatten (map string_bytes words.now) (flatten_request asked)) }
+    ensures not_asked { IfNone result
+        ((request : FlattenRequest) → AsksFlatten (map string_bytes words.now) request → ⊥) }
+{
+    match words {
+        [command, file, flat] if command.as_str() == "flatten" => {
+            flatten_of(file.as_str(), flat.as_str())
+        }
+        _ => None,
+    }
+}
+
+/// What two names ask to flatten.
+fn flatten_of<'a>(file: &'a str, flat: &'a str) -> Option<Flatten<'a>>
+    ensures some { IfSome result (λ asked. (asked.file.now ≡ file.now) × (asked.flat.now ≡ flat.now)) }
+    ensures apart { IfSome result (λ asked. AreTwoNames file.now flat.now) }
+    ensures none { IfNone result (AreTwoNames file.now flat.now → ⊥) }
+{
+    if !are_two_names(file, flat) {
+        return None;
+    }
+    Some(Flatten { file, flat })
+}
+
+/// What the words ask to sweep: `sweep`, two names that aren't empty and differ, and perhaps a number.
+fn sweep_asked(words: &[String]) -> Option<Sweep<'_>>
+    ensures asked { IfSome result (λ asked. AsksSweep (map string_bytes words.now) (sweep_request asked)) }
+    ensures not_asked { IfNone result
+        ((request : SweepRequest) → AsksSweep (map string_bytes words.now) request → ⊥) }
+{
+    match words {
+        [command, file, swept] if command.as_str() == "sweep" => {
+            sweep_of(file.as_str(), swept.as_str(), DEFAULT_ALLOWANCE)
+        }
+        [command, file, swept, allowance] if command.as_str() == "sweep" => sweep_of(
+            file.as_str(),
+            swept.as_str(),
+            number_of(allowance.as_str())?,
+        ),
+        _ => None,
+    }
+}
+
+/// What two names ask to sweep, within an allowance.
+fn sweep_of<'a>(file: &'a str, swept: &'a str, allowance: u64) -> Option<Sweep<'a>>
+    ensures some { IfSome result (λ asked. (asked.file.now ≡ file.now)
+        × (asked.swept.now ≡ swept.now)
+        × (asked.allowance ≡ allowance)) }
+    ensures apart { IfSome result (λ asked. AreTwoNames file.now swept.now) }
+    ensures none { IfNone result (AreTwoNames file.now swept.now → ⊥) }
+{
+    if !are_two_names(file, swept) {
+        return None;
+    }
+    Some(Sweep {
+        file,
+        swept,
+        allowance,
+    })
 }
 
 /// Whether four names aren't empty, and the last one is none of the others.

@@ -6,13 +6,14 @@ ghost use Rattle.shelf_core.specs.State.{Closed};
 
 use crate::account_lines::LineSearch;
 use crate::faults::FailedFile;
-use crate::malformed::{put_malformed, put_unread};
+use crate::malformed::{put_malformed, put_malformed_models, put_unread, put_unread_models};
 use crate::meanings::put_meaning;
 use crate::notice::FORMS;
-use crate::spending::{put_enough_of_one, put_enough_of_two, put_lines};
+use crate::spending::{put_allowance, put_enough_of_one, put_enough_of_two, put_lines};
 use crate::word_fault::fault_of_words;
 use account_check::Why;
 use check_steps::{Command, Outcome, ReadStop, Which, command_asked};
+use hier_blif::HierFault;
 use net_file::NetFault;
 use query_core::Ledger;
 use refusal_words::{TerminalText, put_refusal, seek_in};
@@ -48,6 +49,7 @@ pub fn explain<S: Shelf>(alloc: Global, ended: &EndedRun<'_>, shelf: &mut S) -> 
 pub fn files_read_again<'a>(words: &'a [String], outcome: &Outcome) -> [Option<&'a str>; 3] {
     match outcome {
         Outcome::Malformed { which, .. } => [name_of(words, *which), None, None],
+        Outcome::BadHierarchy(_) => [name_of(words, Which::First), None, None],
         Outcome::Rejected { .. } => [name_of(words, Which::Account), None, None],
         Outcome::NoMatching => [Which::First, Which::Second, Which::Account].map(|which| name_of(
             words, which,
@@ -77,6 +79,8 @@ fn name_of(words: &[String], which: Which) -> Option<&str> {
         (Command::Trim(asked), Which::Second) => Some(asked.second),
         (Command::Trim(asked), Which::Account) => Some(asked.account),
         (Command::Convert(asked), Which::Account) => Some(asked.account),
+        (Command::Flatten(asked), Which::First) => Some(asked.file),
+        (Command::Sweep(asked), Which::First) => Some(asked.file),
         (Command::Info(info), Which::First) => Some(info.file),
         _ => None,
     }
@@ -104,10 +108,15 @@ fn put_explanation<S: Shelf>(
             };
             put_netlist_fault(alloc, ended, *which, fault, shelf, text)
         }
+        Outcome::BadHierarchy(fault) => put_models_fault(alloc, ended, *fault, shelf, text),
         Outcome::Rejected { line, why } => { put_rejected(alloc, ended, *line, *why, shelf, text) }
         Outcome::Matched(_) => put_matched(ended.words, text),
         Outcome::NoMatching => put_no_matching(alloc, ended, shelf, text),
         Outcome::Spent(ledger) => put_spent(alloc, ended, ledger, shelf, text),
+        Outcome::Swept {
+            left: Some(ledger),
+            ..
+        } => put_allowance(alloc, ledger, text),
         _ => Ok(()),
     }
 }
@@ -174,6 +183,23 @@ fn put_netlist_fault<S: Shelf>(
     match name_of(ended.words, which) {
         Some(name) if ended.readable => put_malformed(alloc, name, fault, shelf, text),
         Some(name) => put_unread(name, fault, text),
+        None => Ok(()),
+    }
+}
+
+fn put_models_fault<S: Shelf>(
+    alloc: Global,
+    ended: &EndedRun<'_>,
+    fault: HierFault,
+    shelf: &mut S,
+    text: &mut String,
+) -> Result<(), ReadStop>
+    requires { (S.state shelf.old).mode ≡ Closed }
+    ensures { SameFiles (S.state shelf.old) (S.state shelf.new) }
+{
+    match name_of(ended.words, Which::First) {
+        Some(name) if ended.readable => put_malformed_models(alloc, name, fault, shelf, text),
+        Some(name) => put_unread_models(name, fault, text),
         None => Ok(()),
     }
 }

@@ -58,6 +58,8 @@ pub fn written_names(words: &[String]) -> [Option<&str>; 2] {
         Some(Command::Restore(asked)) => [Some(asked.restored), None],
         Some(Command::Trim(asked)) => [Some(asked.trimmed), None],
         Some(Command::Convert(asked)) => [Some(asked.converted), None],
+        Some(Command::Flatten(asked)) => [Some(asked.flat), None],
+        Some(Command::Sweep(asked)) => [Some(asked.swept), None],
         Some(Command::Make(asked)) => [Some(asked.first), Some(asked.second)],
         _ => [None, None],
     }

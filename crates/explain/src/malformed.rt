@@ -8,6 +8,7 @@ use crate::looks::FileLook;
 use crate::places::{line_around, place_of};
 use crate::remedies::Remedy;
 use check_steps::{File, NETLIST_LIMIT, ReadStop, read_file};
+use hier_blif::HierFault;
 use net_file::{NetFault, NetKind};
 use refusal_words::TerminalText;
 use shelf_core::Shelf;
@@ -34,6 +35,57 @@ pub(crate) fn put_malformed<S: Shelf>(
 pub(crate) fn put_unread(name: &str, fault: NetFault, text: &mut String) -> Result<(), ReadStop> {
     let (name, kind, at) = (TerminalText::name(name), fault.kind, fault.at);
     Ok(writeln!(text, "{name}: byte {at}: {kind}")?)
+}
+
+/// Says of a malformed file of models where its first fault stands, what its kind means, and what the line is.
+pub(crate) fn put_malformed_models<S: Shelf>(
+    alloc: Global,
+    name: &str,
+    fault: HierFault,
+    shelf: &mut S,
+    text: &mut String,
+) -> Result<(), ReadStop>
+    requires { (S.state shelf.old).mode ≡ Closed }
+    ensures { SameFiles (S.state shelf.old) (S.state shelf.new) }
+{
+    match read_file(alloc, shelf, name, NETLIST_LIMIT)? {
+        File::Bytes(bytes) => put_models_fault(name, &bytes, fault, text),
+        _ => put_unread_models(name, fault, text),
+    }
+}
+
+/// Says of a malformed file of models that can't be read again what its fault means.
+pub(crate) fn put_unread_models(
+    name: &str,
+    fault: HierFault,
+    text: &mut String,
+) -> Result<(), ReadStop> {
+    let (name, kind, at) = (TerminalText::name(name), fault.kind, fault.at);
+    Ok(writeln!(text, "{name}: byte {at}: {kind}")?)
+}
+
+fn put_models_fault(
+    name: &str,
+    bytes: &[u8],
+    fault: HierFault,
+    text: &mut String,
+) -> Result<(), ReadStop> {
+    let at = fault.at.min(bytes.len() as u64) as usize;
+    let (name, line) = (TerminalText::name(name), line_around(bytes, at));
+    let (kind, place) = (fault.kind, place_of(bytes, at));
+    writeln!(text, "{name}:{place}: {kind}")?;
+    let look = FileLook::of(bytes);
+    let is_text = match look {
+        Some(look) => look.is_text(),
+        None => true,
+    };
+    if is_text & !line.is_empty() {
+        writeln!(text, "  {}", TerminalText(line))?;
+    }
+    if let Some(look) = look {
+        writeln!(text, "{name}: {look}")?;
+    }
+    Ok(())
 }
 
 fn put_fault(name: &str, bytes: &[u8], fault: NetFault, text: &mut String) -> Result<(), ReadStop> {

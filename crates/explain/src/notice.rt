@@ -10,6 +10,8 @@ npnp check FIRST SECOND ACCOUNT
 npnp restore FIRST SECOND ACCOUNT NEW
 npnp trim FIRST SECOND OLD NEW
 npnp convert OLD NEW
+npnp flatten FILE NEW
+npnp sweep FILE NEW [ALLOWANCE]
 npnp info FILE [BUDGET]
 npnp make NUMBER FIRST SECOND
 npnp trial NUMBER
@@ -25,17 +27,21 @@ FIRST its partner in SECOND, plain or inverted. It prints `matched` and the port
 ACCOUNT, which proves either. `check` tests such an account, whoever wrote it. Where it proves a match, `restore` writes
 NEW, as binary AIGER: the gates of SECOND with the ports of FIRST, with their names. `trim` tests the account OLD, and
 writes NEW: OLD as text, without what its conclusion doesn't rest on. `convert` writes NEW: the account OLD in the other
-version, 1 (text) or 2 (bytes). `info` prints supports, unateness and symmetries. `make` writes the pair of netlists
-that NUMBER gives, FIRST as binary AIGER and SECOND as BLIF: they match. `trial` makes it in memory, looks for its match
-and checks the account.
+version, 1 (text) or 2 (bytes). `flatten` writes NEW, as AIGER text: FILE, which is BLIF and may have several models
+(`.subckt`), as one netlist. `sweep` writes NEW, as AIGER text: FILE with one signal in place of all that compute the
+same, or the complement. `info` prints supports, unateness and symmetries. `make` writes the pair of netlists that NUMBER
+gives, FIRST as binary AIGER and SECOND as BLIF: they match. `trial` makes it in memory, looks for its match and checks
+the account.
 
-BUDGET  how many clauses may be learned, by default 1000000000
-SEED    chooses the vectors that are simulated, by default 1
-NUMBER  gives the pair of netlists
-All three are 1 to 20 decimal digits, below 18446744073709551616.
+BUDGET     how many clauses may be learned, by default 1000000000
+SEED       chooses the vectors that are simulated, by default 1
+ALLOWANCE  how many clauses may be learned to compare signals, by default 1000000; then the others stay as they are
+NUMBER     gives the pair of netlists
+All four are 1 to 20 decimal digits, below 18446744073709551616.
 
 status  the report begins with
-0       `matched`, `accepted match`, `restored`, `trimmed`, `converted`, the rows of `info`, `made` or `trial`
+0       `matched`, `accepted match`, `restored`, `trimmed`, `converted`, `flattened`, `swept`, the rows of `info`, `made` or
+        `trial`
 1       `no matching` or `accepted refusal`
 2       `rejected`: a line of the account is wrong
 3       `spent`: the budget was spent before the answer

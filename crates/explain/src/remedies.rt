@@ -3,7 +3,7 @@
 use net_file::NetKind;
 use std::fmt;
 
-/// What to do with a netlist, and the line of yosys or ABC that does it: F is the file, G is made.
+/// What to do with a netlist, and the line that does it, of this program, yosys or ABC: F is the file, G is made.
 #[derive(Clone, Copy, Debug, PartialEq, Eq)]
 pub(crate) enum Remedy {
     /// Models that name others are to be one.
@@ -42,9 +42,7 @@ fn remedy_of_directive(line: &[u8]) -> Option<Remedy> {
 impl fmt::Display for Remedy {
     fn fmt<W: fmt::Write>(&self, f: &mut fmt::Formatter<W>) -> fmt::Result {
         f.write_str(match self {
-            Remedy::Flatten => {
-                "flatten it to one model: `yosys -p 'read_blif F; hierarchy -auto-top; flatten; write_blif G'`"
-            }
+            Remedy::Flatten => { "flatten it to one model: `npnp flatten F G`" }
             Remedy::Unmap => {
                 "replace the cells by what they compute, by their library: `abc -c 'read_genlib LIBRARY; \
                  read_blif F; unmap; write_blif G'`, or of Liberty `yosys -p 'read_liberty LIBRARY; read_blif F; \

@@ -57,6 +57,26 @@ pub(crate) fn put_lines(alloc: Global, ledger: &Ledger, text: &mut String) -> Re
         text,
         "npnp: the budget of {budget} learned clauses was spent"
     )?;
+    put_charged(alloc, ledger, text)
+}
+
+/// Says that the allowance of a sweep was spent, and how many literals the lines have that were charged.
+pub(crate) fn put_allowance(
+    alloc: Global,
+    ledger: &Ledger,
+    text: &mut String,
+) -> Result<(), ReadStop> {
+    let allowance = ledger.budget();
+    writeln!(
+        text,
+        "npnp: the allowance of {allowance} learned clauses was spent: signals that weren't compared by then stay as \
+         they are"
+    )?;
+    put_charged(alloc, ledger, text)
+}
+
+/// Says how many literals the lines have that were charged.
+fn put_charged(alloc: Global, ledger: &Ledger, text: &mut String) -> Result<(), ReadStop> {
     let mut lines = ledger.charged_lines();
     let lengths = lengths_of(alloc, ledger.learned().saturating_add(1), &mut lines)?;
     put_lengths(&lengths, text)

@@ -15,6 +15,7 @@ pub enum Slot {
     Number,
     Budget,
     Seed,
+    Allowance,
     Old,
     New,
 }
@@ -30,6 +31,7 @@ impl fmt::Display for Slot {
             Slot::Number => "NUMBER",
             Slot::Budget => "BUDGET",
             Slot::Seed => "SEED",
+            Slot::Allowance => "ALLOWANCE",
             Slot::Old => "OLD",
             Slot::New => "NEW",
         })
@@ -64,6 +66,12 @@ const TRIM: &[Slot] = &[Slot::First, Slot::Second, Slot::Old, Slot::New];
 /// The words after `convert`: an account, and the file that is written.
 const CONVERT: &[Slot] = &[Slot::Old, Slot::New];
 
+/// The words after `flatten`: a file of models, and the file that is written.
+const FLATTEN: &[Slot] = &[Slot::File, Slot::New];
+
+/// The words after `sweep`, of which ALLOWANCE may be left out.
+const SWEEP: &[Slot] = &[Slot::File, Slot::New, Slot::Allowance];
+
 /// The words after `info`, of which BUDGET may be left out.
 const INFO: &[Slot] = &[Slot::File, Slot::Budget];
 
@@ -81,6 +89,8 @@ fn form_of(command: &str) -> Option<CommandForm> {
         "restore" => (RESTORE, 4),
         "trim" => (TRIM, 4),
         "convert" => (CONVERT, 2),
+        "flatten" => (FLATTEN, 2),
+        "sweep" => (SWEEP, 2),
         "info" => (INFO, 1),
         "make" => (MAKE, 3),
         "trial" => (TRIAL, 1),
@@ -182,7 +192,7 @@ fn fault_of_operands<'a>(slots: &[Slot], operands: &'a [String]) -> Option<WordF
 
 fn fault_of_operand(slot: Slot, word: &str) -> Option<WordFault<'_>> {
     match slot {
-        Slot::Number | Slot::Budget | Slot::Seed => fault_of_number(slot, word),
+        Slot::Number | Slot::Budget | Slot::Seed | Slot::Allowance => fault_of_number(slot, word),
         _ if word.is_empty() => Some(WordFault::Empty(slot)),
         _ => None,
     }
@@ -225,6 +235,12 @@ fn same_file<'a>(command: &str, operands: &[String]) -> Option<WordFault<'a>> {
             same_as(Slot::New, new.as_str(), &others)
         }
         ("convert", [old, new]) => same_as(Slot::New, new.as_str(), &[(Slot::Old, old.as_str())]),
+        ("flatten", [file, new]) => {
+            same_as(Slot::New, new.as_str(), &[(Slot::File, file.as_str())])
+        }
+        ("sweep", [file, new, ..]) => {
+            same_as(Slot::New, new.as_str(), &[(Slot::File, file.as_str())])
+        }
         ("make", [_, first, second]) => {
             same_as(
                 Slot::Second,

@@ -1,8 +1,9 @@
 //! One run of the program: words in, files read, one report out.
 
-ghost use Rattle.std.specs.Prelude.{◌≡◌, ◌≢◌, ℕ, ◌++◌, ◌↔◌, ◌⊎◌, List, IsTrue, Some, Err};
+ghost use Rattle.std.specs.Prelude.{◌≡◌, ◌≢◌, ℕ, ◌++◌, ◌↔◌, ◌⊎◌, List, IsTrue, Option, Some, Err};
 ghost use Rattle.net_core.specs.declared.matching.Matching.{Matching};
 ghost use Rattle.net_file.specs.declared.fault.NetKind.{NetKind};
+ghost use Rattle.hier_blif.specs.declared.fault.HierFault.{HierFault};
 ghost use Rattle.shelf_core.specs.Fault.{NoCallFollows, NoPutFollows, Rose};
 ghost use Rattle.shelf_core.specs.State.{Closed};
 ghost use Rattle.account_check.specs.declared.verdict.Why.{Why as Reason};
@@ -21,6 +22,9 @@ ghost use Rattle.run_steps.specs.Restore.{AsChecked, HasRestored, IsRestorable, 
 ghost use Rattle.run_steps.specs.Trim.{AsRead, HasTrimmed, IsAskedToTrim, IsOfTrim, IsTrimmedTo, NamesTrimmed};
 ghost use Rattle.run_steps.specs.Convert.{HasConverted, IsAskedToConvert, IsConvertedTo, IsIllFormed, IsOfConvert};
 ghost use Rattle.run_steps.specs.Convert.{LacksOld, NamesConverted};
+ghost use Rattle.run_steps.specs.Flatten.{HasFlattened, IsAskedToFlatten, IsBadHierarchy, IsFlattenedTo, IsOfFlatten};
+ghost use Rattle.run_steps.specs.Flatten.{LacksModels, NamesFlattened};
+ghost use Rattle.run_steps.specs.Sweep.{HasSwept, IsAskedToSweep, IsOfSweep, IsSweptTo, NamesSwept};
 ghost use Rattle.run_steps.specs.Report.{IsReport};
 ghost use Rattle.check_steps.specs.Lines.{line_of};
 ghost use Rattle.run_steps.specs.Steps.{Decides, SaysLine, PutsText, WritesPart};
@@ -35,7 +39,7 @@ use account_check::Verdict;
 pub use check_steps::Ending;
 use check_steps::{Command, Outcome, Which, check_files, command_asked, report_line};
 use restore_steps::restore_files;
-use rewrite_steps::{convert_files, trim_files};
+use rewrite_steps::{convert_files, flatten_files, sweep_files, trim_files};
 use run_steps::make_files;
 use shelf_core::{Shelf, ShelfStop, Sink};
 use std::alloc::Global;
@@ -64,6 +68,13 @@ const OUT_OF_MEMORY: &[u8] = b"out of memory\n";
 /// - `convert OLD NEW`: where OLD is an account, in the text or in the binary form, without a fault of form, NEW is
 ///   written: the same records in the other form, the binary one with drops of facts and bans that no later record
 ///   names. The two names differ.
+/// - `flatten FILE NEW`: FILE is in BLIF, and may have several models with instances of one another (`.subckt`). NEW is
+///   written, in the ASCII form of AIGER: the first model as one flat netlist, with its ports and their names. The two
+///   names differ.
+/// - `sweep FILE NEW [ALLOWANCE]`: FILE is a netlist. NEW is written, in the ASCII form of AIGER: the netlist with one
+///   signal in place of all that compute the same, or the complement, and without the gates that no output reaches. At
+///   most ALLOWANCE clauses are learned to compare signals, by default 1,000,000; where they are spent, the signals
+///   that weren't compared stay as they are. The two names differ.
 /// - `info FILE [BUDGET]`: FILE is a netlist. Its supports, unateness and symmetries are decided; at most BUDGET
 ///   clauses are learned for that, by default 1,000,000,000.
 /// - `make NUMBER FIRST SECOND`: the pair of netlists that NUMBER gives is made, and written to the files FIRST, in the
@@ -73,8 +84,8 @@ const OUT_OF_MEMORY: &[u8] = b"out of memory\n";
 ///
 /// The files are opened in this order, each read and closed before the next. A netlist of more than 67,108,864
 /// bytes is closed unread. An account is written once it is known: its records in pieces of 65,536 bytes, and its
-/// last one by itself. The files of a pair, and a netlist that is restored, are written one after the other in such
-/// pieces. After a failure no further call of the shelf is made.
+/// last one by itself. The files of a pair, and a netlist that is restored, flattened or swept, are written one after the
+/// other in such pieces. After a failure no further call of the shelf is made.
 ///
 /// The sink gets what the run is at, and gets the report at the end.
 ///
@@ -110,7 +121,8 @@ pub fn run<S: Shelf, K: Sink>(
     // Where no call failed and memory did not run out, the words and the files decide the outcome: an account that is
     // accepted, or its first bad record; a netlist that isn't there, is too large, or is malformed, and where. For
     // `restore` and `trim` the first three files decide as for a check of them, but for an account that is accepted: of
-    // a match, or any. For `convert` a bad record is one that has a fault of form.
+    // a match, or any. For `convert` a bad record is one that has a fault of form. For `flatten` a file of models has its
+    // own first fault.
     ensures accepted { IsTrue S.tells → IsDecided result → (matching : Matching)
         → ((result ≡ Outcome.AcceptedMatch matching)
         ↔ IsAccepted (S.state shelf.old).held (bytes_of words.now) (Verdict.Match matching)) }
@@ -125,17 +137,22 @@ pub fn run<S: Shelf, K: Sink>(
     ensures absent { IsTrue S.tells → IsDecided result → (which : AnyFile)
         → ((result ≡ Outcome.Absent which)
         ↔ (AsRead (λ checked. IsAbsent (S.state shelf.old).held checked which) (bytes_of words.now)
-        ⊎ ((which ≡ Which.Account) × LacksOld (S.state shelf.old).held (bytes_of words.now)))) }
+        ⊎ ((which ≡ Which.Account) × LacksOld (S.state shelf.old).held (bytes_of words.now))
+        ⊎ LacksModels (S.state shelf.old).held (bytes_of words.now) (Outcome.Absent which))) }
     ensures too_large { IsTrue S.tells → IsDecided result → (which : AnyFile)
         → ((result ≡ Outcome.TooLarge which)
-        ↔ AsRead (λ checked. EndsEarly (S.state shelf.old).held checked (Outcome.TooLarge which))
-        (bytes_of words.now)) }
+        ↔ (AsRead (λ checked. EndsEarly (S.state shelf.old).held checked (Outcome.TooLarge which))
+        (bytes_of words.now)
+        ⊎ LacksModels (S.state shelf.old).held (bytes_of words.now) (Outcome.TooLarge which))) }
     ensures malformed { IsTrue S.tells → IsDecided result
         → (which : AnyFile) (kind : NetKind) (at : ℕ)
         → ((result ≡ Outcome.Malformed which kind at)
         ↔ AsRead
         (λ checked. EndsEarly (S.state shelf.old).held checked (Outcome.Malformed which kind at))
         (bytes_of words.now)) }
+    ensures bad_hierarchy { IsTrue S.tells → IsDecided result → (fault : HierFault)
+        → ((result ≡ Outcome.BadHierarchy fault)
+        ↔ IsBadHierarchy (S.state shelf.old).held (bytes_of words.now) fault) }
 
     // A matching is accepted only where it is a match of the two files' netlists, whoever wrote the account.
     ensures sound { IsTrue S.tells → (matching : Matching) → result ≡ Outcome.AcceptedMatch matching
@@ -191,6 +208,31 @@ pub fn run<S: Shelf, K: Sink>(
     ensures converted_file { IsTrue S.tells → (from to records : ℕ) → result ≡ Outcome.Converted from to records
         → HasConverted (S.state shelf.old).held (S.state shelf.new).held (bytes_of words.now) from to records }
 
+    // A file of models is flattened exactly where the words ask for it and it has no fault, unless a fault of the
+    // outside came or memory ran out. The new file has the netlist then: read as a circuit it has the names of the first
+    // model's ports, and computes the function of the models, for exactly one nested valuation fits each vector.
+    ensures flattened { IsTrue S.tells → IsDecided result → (models instances gates : ℕ)
+        → ((result ≡ Outcome.Flattened models instances gates)
+        ↔ IsFlattenedTo (S.state shelf.old).held (bytes_of words.now) models instances gates) }
+    ensures flattens { IsTrue S.tells → IsDecided result
+        → IsAskedToFlatten (S.state shelf.old).held (bytes_of words.now) → IsOfFlatten result }
+    ensures flattened_file { IsTrue S.tells → (models instances gates : ℕ)
+        → result ≡ Outcome.Flattened models instances gates
+        → HasFlattened (S.state shelf.old).held (S.state shelf.new).held (bytes_of words.now) models instances gates }
+
+    // A netlist is swept where the words ask for it and the file is a netlist, unless a fault came or memory ran out.
+    // The new file has it then, with the same ports and no more gates: it computes what the netlist does. Where nothing
+    // is left over, one signal stands for all that compute the same, or the complement; else the allowance was spent by
+    // comparing signals, and wasn't enough.
+    ensures swept { IsTrue S.tells → (before after : ℕ) (left : Option Ledgered)
+        → result ≡ Outcome.Swept before after left
+        → IsSweptTo (S.state shelf.old).held (bytes_of words.now) before after left }
+    ensures sweeps { IsTrue S.tells → IsDecided result
+        → IsAskedToSweep (S.state shelf.old).held (bytes_of words.now) → IsOfSweep result }
+    ensures swept_file { IsTrue S.tells → (before after : ℕ) (left : Option Ledgered)
+        → result ≡ Outcome.Swept before after left
+        → HasSwept (S.state shelf.old).held (S.state shelf.new).held (bytes_of words.now) before after left }
+
     // A pair was tried only where its number is that of the words and the account, which the outcome has, is accepted
     // for it: it proves a matching that is a match. Nothing else comes of a trial, but that the budget is spent on the
     // pair.
@@ -220,16 +262,18 @@ pub fn run<S: Shelf, K: Sink>(
     ensures no_put_follows { NoPutFollows (K.state out.old) (K.state out.new) }
 
     // No file changes but the account of a match, and that one only where there is an answer, the two files of a pair,
-    // that of a netlist which is restored, and that of an account which is trimmed or converted. A failed write or
-    // running out of memory may leave a first part of an account that is accepted, of a netlist that is restored, of an
-    // account that is trimmed or converted, or of the pair's first netlist, and only where that is whole a part of the
-    // second.
+    // that of a netlist which is restored, flattened or swept, and that of an account which is trimmed or converted. A
+    // failed write or running out of memory may leave a first part of an account that is accepted, of a netlist that is
+    // restored, flattened or swept, of an account that is trimmed or converted, or of the pair's first netlist, and only
+    // where that is whole a part of the second.
     ensures files { IsTrue S.tells → (name : List ℕ)
         → (NamesAccount (bytes_of words.now) name → ⊥)
         → (NamesPair (bytes_of words.now) name → ⊥)
         → (NamesRestored (bytes_of words.now) name → ⊥)
         → (NamesTrimmed (bytes_of words.now) name → ⊥)
         → (NamesConverted (bytes_of words.now) name → ⊥)
+        → (NamesFlattened (bytes_of words.now) name → ⊥)
+        → (NamesSwept (bytes_of words.now) name → ⊥)
         → (S.state shelf.new).held name ≡ (S.state shelf.old).held name }
     ensures kept { IsTrue S.tells → LeavesFiles result → (name : List ℕ)
         → (S.state shelf.new).held name ≡ (S.state shelf.old).held name }
@@ -267,6 +311,8 @@ fn answer<S: Shelf, W: Watch>(alloc: Global, words: &[String], shelf: &mut S, wa
         → (NamesRestored (bytes_of words.now) name → ⊥)
         → (NamesTrimmed (bytes_of words.now) name → ⊥)
         → (NamesConverted (bytes_of words.now) name → ⊥)
+        → (NamesFlattened (bytes_of words.now) name → ⊥)
+        → (NamesSwept (bytes_of words.now) name → ⊥)
         → (S.state shelf.new).held name ≡ (S.state shelf.old).held name }
     ensures left { IsTrue S.tells
         → Leaves (S.state shelf.old).held (S.state shelf.new).held (bytes_of words.now) result.outcome }
@@ -307,6 +353,8 @@ fn follow<S: Shelf, W: Watch>(
         Command::Restore(asked) => restore_files(alloc, asked, shelf, watch),
         Command::Trim(asked) => trim_files(alloc, asked, shelf, watch),
         Command::Convert(asked) => convert_files(alloc, asked, shelf),
+        Command::Flatten(asked) => flatten_files(alloc, asked, shelf),
+        Command::Sweep(asked) => sweep_files(alloc, asked, shelf, watch),
         Command::Match(asked) => match_files(alloc, asked, shelf, watch),
         Command::Info(info) => inform(alloc, info, shelf, watch),
         Command::Make(asked) => make_files(alloc, asked, shelf),

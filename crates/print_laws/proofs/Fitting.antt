@@ -9,13 +9,13 @@ use Rattle.std.proofs.lemmas.List.FromFn.{get_or-range_with_len, length-range_wi
 use Rattle.circuits.specs.Literals.{signal_of}
 use Rattle.circuits.specs.declared.netlist.Lit.{Lit}
 use Rattle.circuits.specs.declared.netlist.Gate.{Gate}
-use Rattle.aiger_reader.specs.Bodies.{Role, Input, Output, Gate as GateLine, wanted, defines, defined, first_of}
+use Rattle.aiger_reader.specs.Bodies.{Role, Input, Output, Gate as GateLine, width_of, defines, defined, first_of}
 use Rattle.aiger_reader.proofs.GoodLemmas.{defined_by}
 use Rattle.net_print.specs.Rows.{input_row, output_row, gate_row, gate_rows}
 
 -- A row has the width of its role, literals of variables up to the greatest, and a plain one where it defines.
 pub record IsFit (greatest : ℕ) (role : Role) (row : List ℕ) : Type 0 where
-  pub width : length row ≡ wanted role
+  pub width : length row ≡ width_of role
   pub in_range : All (λ literal. literal ≤ 2 * greatest + 1) row
   pub plain : IsTrue (defines role) → (first_of row % 2 ≡ 0) × (2 ≤ first_of row)
 

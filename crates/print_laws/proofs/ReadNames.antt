@@ -139,8 +139,19 @@ aiger_names bytes circuit i o is =
 
 -- the names of a BLIF file: words of its lines
 
-abbrev IsGoodWord : Piece → Type 0
-IsGoodWord word = IsNameOnLine word.bytes
+abbrev IsNoBlank : ℕ → Type 0
+IsNoBlank byte = is_blank byte ≡ false
+
+abbrev pub IsGoodWord : Piece → Type 0
+IsGoodWord word = IsNameOnLine word.bytes × All IsNoBlank word.bytes
+
+-- a carriage return is a blank, so a symbol's line can have such a word as it is
+pub good_symbol : (word : Piece) → IsGoodWord word → IsSymbolName word.bytes
+good_symbol word good = record {
+  filled = good.0.0;
+  on_line = good.0.1;
+  no_return = λ front is. false≢true (sym (All-head IsNoBlank 13 [] (All-back IsNoBlank front (13 ∷ []) (subst (All IsNoBlank) is good.1))));
+}
 
 abbrev IsLinePiece : Piece → Type 0
 IsLinePiece line = IsLine line.bytes
@@ -151,18 +162,22 @@ placed_all P at (part ∷ parts) all =
     All-cons (λ (piece : Piece). P piece.bytes) (record { bytes = part; at = at }) (placed (at + length part + 1) parts) (All-head P part parts all)
     (placed_all P (at + length part + 1) parts (All-tail P part parts all))
 
-split_by : (t : Bool) (byte : ℕ) (parts : List (List ℕ)) → IsNoFeed byte → All IsLine parts → All IsLine (cond t ([] ∷ parts) (onto_first byte parts))
-split_by true byte parts here rest = All-cons IsLine [] parts (All-nil IsNoFeed) rest
-split_by false byte [] here rest =
-    All-cons IsLine (byte ∷ []) [] (All-cons IsNoFeed byte [] here (All-nil IsNoFeed)) (All-nil IsLine)
-split_by false byte (part ∷ parts) here rest =
-    All-cons IsLine (byte ∷ part) parts (All-cons IsNoFeed byte part here (All-head IsLine part parts rest)) (All-tail IsLine part parts rest)
+split_by : (P : ℕ → Type 0) (t : Bool) (byte : ℕ) (parts : List (List ℕ)) → (t ≡ false → P byte) → All (All P) parts → All (All P) (cond t ([] ∷ parts) (onto_first byte parts))
+split_by P true byte parts here rest = All-cons (All P) [] parts (All-nil P) rest
+split_by P false byte [] here rest =
+    All-cons (All P) (byte ∷ []) [] (All-cons P byte [] (here refl) (All-nil P)) (All-nil (All P))
+split_by P false byte (part ∷ parts) here rest =
+    All-cons (All P) (byte ∷ part) parts (All-cons P byte part (here refl) (All-head (All P) part parts rest)) (All-tail (All P) part parts rest)
 
 split_lines : (line : List ℕ) → IsLine line → All IsLine (slice_split is_blank line)
 split_lines [] on_line = All-cons IsLine [] [] (All-nil IsNoFeed) (All-nil IsLine)
 split_lines (byte ∷ bytes) on_line =
-    split_by (is_blank byte) byte (slice_split is_blank bytes) (All-head IsNoFeed byte bytes on_line)
+    split_by IsNoFeed (is_blank byte) byte (slice_split is_blank bytes) (λ other. All-head IsNoFeed byte bytes on_line)
     (split_lines bytes (All-tail IsNoFeed byte bytes on_line))
+
+split_words : (line : List ℕ) → All (All IsNoBlank) (slice_split is_blank line)
+split_words [] = All-cons (All IsNoBlank) [] [] (All-nil IsNoBlank) (All-nil (All IsNoBlank))
+split_words (byte ∷ bytes) = split_by IsNoBlank (is_blank byte) byte (slice_split is_blank bytes) (λ other. other) (split_words bytes)
 
 without : (t : Bool) (bytes : List ℕ) → IsLine bytes → IsLine (if t then take (length bytes - 1) bytes else bytes)
 without true bytes on_line = All-take IsNoFeed (length bytes - 1) bytes on_line
@@ -177,9 +192,14 @@ words_good : (line : Piece) → IsLinePiece line → All IsGoodWord (line_words 
 words_good line on_line = λ k d h.
     let is_word : Piece → Bool = λ word. is_not_empty word.bytes in
     let parts = placed line.at (slice_split is_blank (without_backslash (content line.bytes))) in
-    let all : All IsLinePiece parts = placed_all IsLine line.at (slice_split is_blank (without_backslash (content line.bytes))) (split_lines (without_backslash (content line.bytes)) (content_line line.bytes on_line)) in (
-      λ none. false≢true (sym (ap is_not_empty none) ∙ filter_passes is_word parts k d h),
-      All-filter is_word IsLinePiece parts all k d h,
+    let split = slice_split is_blank (without_backslash (content line.bytes)) in
+    let all : All IsLinePiece parts = placed_all IsLine line.at split (split_lines (without_backslash (content line.bytes)) (content_line line.bytes on_line)) in
+    let no_blanks : All (λ (word : Piece). All IsNoBlank word.bytes) parts = placed_all (All IsNoBlank) line.at split (split_words (without_backslash (content line.bytes))) in (
+      (
+        λ none. false≢true (sym (ap is_not_empty none) ∙ filter_passes is_word parts k d h),
+        All-filter is_word IsLinePiece parts all k d h,
+      ),
+      All-filter is_word (λ (word : Piece). All IsNoBlank word.bytes) parts no_blanks k d h,
     )
 
 joined_by : (t : Bool) (words : List Piece) (more : List (List Piece)) → All IsGoodWord words → All (All IsGoodWord) more → All (All IsGoodWord) (if t then onto_next words more else words ∷ more)
@@ -193,7 +213,7 @@ joined_good [] on_lines = All-nil (All IsGoodWord)
 joined_good (line ∷ all) on_lines =
     joined_by (goes_on line.bytes) (line_words line) (joined all) (words_good line (All-head IsLinePiece line all on_lines)) (joined_good all (All-tail IsLinePiece line all on_lines))
 
-blif_words_good : (bytes : List ℕ) → All (All IsGoodWord) (blif_lines bytes)
+pub blif_words_good : (bytes : List ℕ) → All (All IsGoodWord) (blif_lines bytes)
 blif_words_good bytes =
     let text : Piece = record { bytes = bytes; at = 0 } in
     All-filter has_words (All IsGoodWord) (joined (lines_at text)) (joined_good (lines_at text) (placed_all IsLine 0 (lines bytes) (lines-each bytes)))
@@ -220,7 +240,8 @@ ports_good kind (line ∷ all) good =
     (ports_good kind all (All-tail (All IsGoodWord) line all good)))
 
 bytes_good : (words : List Piece) (names : List (List ℕ)) → names ≡ map (λ word. word.bytes) words → All IsGoodWord words → All IsNameOnLine names
-bytes_good words names are good = subst (All IsNameOnLine) (sym are) (All-map IsNameOnLine (λ word. word.bytes) words good)
+bytes_good words names are good =
+    subst (All IsNameOnLine) (sym are) (All-map IsNameOnLine (λ word. word.bytes) words (λ k d h. (good k d h).0))
 
 pub blif_names : (bytes : List ℕ) (circuit : Circuit) (i o : List (List ℕ)) → IsBlif bytes circuit i o → All IsNameOnLine i × All IsNameOnLine o
 blif_names bytes circuit i o is =

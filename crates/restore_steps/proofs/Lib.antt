@@ -1,3 +1,2 @@
-mod GateLemmas
 mod RestoreLemmas
 mod WrittenLemmas

@@ -76,7 +76,7 @@ module _ (tells : Bool) (asked : RestoreWords) (old now : ShelfState) (answer : 
       let judged = judges.judged in
       record {
         files = λ t n unwritten. judges.files n;
-        left = λ t words asks. subst (Leaves old.held now.held words) (sym is) (leaves old.held now.held words answer.outcome judged.unmatched judged.no_match judged.no_pair judged.no_netlist judged.untrimmed judged.unconverted judges.files);
+        left = λ t words asks. subst (Leaves old.held now.held words) (sym is) (leaves old.held now.held words answer.outcome judged.unmatched judged.no_match judged.no_pair judged.no_netlist judged.untrimmed judged.unconverted judged.unflattened judged.unswept judges.files);
         right = λ t words asks. subst (IsRight old.held words) (sym is) (checked_right other t words asks);
         by_words = λ words asks. subst (FollowsWords words) (sym is) (follows_files words answer.outcome (reads asked words asks) judged.no_pair judged.no_trial);
         sound = λ t words asks. subst (IsSoundAnswer old.held words) (sym is) (sound_answer other t words asks);

@@ -1,5 +1,5 @@
 -- The netlist that is printed is a file of one that has the first netlist's ports and computes what it does.
-use Rattle.std.proofs.Common.{◌≡◌, ◌⊎◌, ℕ, inl, inr, Bool, IsTrue, List, length, map, All, Option, Some, Result, Ok, Err, refl, sym, ap, subst, ◌∙◌, arith}
+use Rattle.std.proofs.Common.{◌≡◌, ℕ, inl, inr, Bool, List, length, map, Option, Result, Ok, Err, refl, sym, ap, subst, ◌∙◌, arith}
 use Rattle.std.proofs.lemmas.List.{length-map}
 use Rattle.circuits.specs.Circuits.{Circuit}
 use Rattle.circuits.specs.Functions.{Computes, as_circuit, gate_def}
@@ -7,30 +7,23 @@ use Rattle.net_file.specs.declared.named.Named.{Named}
 use Rattle.net_print.specs.Files.{aig_text}
 use Rattle.aiger_reader.specs.Aiger.{IsAiger}
 use Rattle.print_laws.specs.Ordered.{greater_first, with_greater_first}
-use Rattle.print_laws.specs.Printable.{IsPrintable, IsSymbolName, symbol_name}
+use Rattle.print_laws.specs.Printable.{IsPrintable, symbol_name}
 use Rattle.print_laws.proofs.Aig.{aig_is}
 use Rattle.print_laws.proofs.OperandOrder.{computes_too}
-use Rattle.print_laws.proofs.ReadNames.{IsNameOnLine, aiger_names, blif_names, symbol_names_good}
 use Rattle.port_moves.proofs.EqualCircuits.{equal_circuits}
 use Rattle.shelf_core.specs.State.{ShelfState}
 use Rattle.shelf_core.proofs.FaultLemmas.{none_failed}
-use Rattle.check_steps.specs.Circuits.{IsCircuit}
 use Rattle.check_steps.specs.Held.{HasGraph, HasNetlist}
 use Rattle.check_steps.specs.Lines.{line_of}
 use Rattle.check_steps.specs.Reading.{netlist_of}
 use Rattle.check_steps.specs.declared.outcome.Ending.{Ending}
 use Rattle.check_steps.specs.declared.outcome.Outcome.{Outcome}
 use Rattle.check_steps.specs.declared.outcome.Outcome.TheVariants.{Restored, Memory}
-use Rattle.check_steps.proofs.CircuitLemmas.{few_ports, ports_named}
+use Rattle.check_steps.proofs.GateLemmas.{few_gates}
 use Rattle.run_steps.specs.Restore.{IsRestored}
 use Rattle.run_steps.specs.Steps.{WritesText}
+use Rattle.run_steps.proofs.PrintedLemmas.{printable}
 use Rattle.restore_steps.specs.Restoring.{HasFirstPorts, Restores}
-use Rattle.restore_steps.proofs.GateLemmas.{few_gates}
-
--- the names of a file's ports stand on lines
-names_on_lines : (bytes : List ℕ) (circuit : Circuit) (i o : List (List ℕ)) → IsCircuit bytes circuit i o → All IsNameOnLine i × All IsNameOnLine o
-names_on_lines bytes circuit i o is =
-    elim is [ inl (begins, aiger) ↦ aiger_names bytes circuit i o aiger | inr (not, blif) ↦ blif_names bytes circuit i o blif ]
 
 -- two files were read, and this is the second netlist with the first one's ports
 module _ (content other : Option (List ℕ)) (circuit : Circuit) (first second restored : Named)
@@ -38,23 +31,9 @@ module _ (content other : Option (List ℕ)) (circuit : Circuit) (first second r
     (ported : HasFirstPorts first second restored) where
   good : IsPrintable restored
   good =
-      let few = few_ports holds.bytes circuit first.input_names first.output_names holds.is in
-      let named = ports_named holds.bytes circuit first.input_names first.output_names holds.is in
-      let names = names_on_lines holds.bytes circuit first.input_names first.output_names holds.is in
       let net = graph.netlist in
       let gates = few_gates graph.holds.bytes net.circuit second.graph net.input_names net.output_names graph.holds.is graph.numbered in
-      record {
-        within = record {
-          ordered = ported.sound.ordered;
-          inputs = omega (arith, few.0, computes.inputs, ported.equal.inputs);
-          outputs = omega (arith, few.1, computes.outputs, ported.equal.outputs);
-          gates = omega (arith, gates, ported.gates);
-        };
-        inputs_named = ap length ported.input_names ∙ (length-map first.input_names symbol_name ∙ (named.0 ∙ (sym computes.inputs ∙ sym ported.equal.inputs)));
-        outputs_named = ap length ported.output_names ∙ (length-map first.output_names symbol_name ∙ (named.1 ∙ (sym computes.outputs ∙ sym ported.equal.outputs)));
-        input_names = subst (All IsSymbolName) (sym ported.input_names) (symbol_names_good first.input_names names.0);
-        output_names = subst (All IsSymbolName) (sym ported.output_names) (symbol_names_good first.output_names names.1);
-      }
+      printable content circuit first restored holds computes ported.equal ported.sound.ordered (omega (arith, gates, ported.gates)) ported.input_names ported.output_names
 
   pub is_restored : IsRestored (netlist_of circuit first) second.graph (length restored.graph.gates) (aig_text restored)
   is_restored =

@@ -2,7 +2,6 @@
 //! `restore`.
 #![tactic(auto)]
 
-mod naming;
 mod restoring;
 
 pub use restoring::restore_files;

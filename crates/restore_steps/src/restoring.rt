@@ -7,13 +7,12 @@ ghost use Rattle.run_steps.specs.Commands.{asked_restore};
 ghost use Rattle.run_steps.specs.Steps.{Decides};
 ghost use Rattle.restore_steps.specs.Restoring.{HasFirstPorts, Restores};
 
-use crate::naming::symbol_names;
 use check_steps::{Check, Ending, Judgement, Outcome, Restore, judge_files, report_line};
 use net_core::Matching;
 use net_file::Named;
 use net_print::AigParts;
 use port_moves::restored;
-use run_steps::{reported, write_named};
+use run_steps::{reported, symbol_names, write_named};
 use shelf_core::Shelf;
 use std::alloc::{AllocError, Global};
 use watch_core::Watch;

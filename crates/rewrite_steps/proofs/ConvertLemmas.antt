@@ -1,5 +1,5 @@
 -- What an account that is converted says of the words and the files, and what it leaves.
-use Rattle.std.proofs.Common.{◌≡◌, ℕ, inr, Bool, IsTrue, List, take, None, Some, Result, IfErr, IfOk, refl, sym, ap, subst, ◌∙◌}
+use Rattle.std.proofs.Common.{◌≡◌, ℕ, inl, inr, Bool, IsTrue, List, take, None, Some, Result, IfErr, IfOk, refl, sym, ap, subst, ◌∙◌}
 use Rattle.shelf_core.specs.Fault.{NoCallFollows}
 use Rattle.shelf_core.specs.State.{ShelfState}
 use Rattle.check_steps.specs.Asks.{convert_request}
@@ -27,7 +27,7 @@ module _ (tells : Bool) (asked : ConvertWords) (old : ShelfState) where
       → Decides tells (asked_convert asked) old now result
   no_old now result files last none same line memory =
       refused_decides tells (asked_convert asked) tt tt old now (Absent Account) result tt same line memory files
-      (λ t words asks. inr (refl, record { request = convert_request asked; asks = asks; absent = none t }))
+      (λ t words asks. inr (inl (refl, record { request = convert_request asked; asks = asks; absent = none t })))
       last
 
   -- it was read
@@ -66,12 +66,12 @@ module _ (tells : Bool) (asked : ConvertWords) (old : ShelfState) where
         subst (Leaves old.held new.held words) (sym made.outcome_is) (record { conversion = converted_to o bytes made t words asks; there = there ∙ ap Some made.bytes_are })
 
     made_part : (new : ShelfState) (o : Outcome) (bytes : List ℕ) → IsInOtherVersion account o bytes → HasFirst bytes (new.held asked.converted.now) → IsTrue tells → (words : List (List ℕ)) → AsksConvert words (convert_request asked) → MayBeCut old.held new.held words
-    made_part new o bytes made first t words asks = inr (inr (inr (inr (inr (record {
+    made_part new o bytes made first t words asks = inr (inr (inr (inr (inr (inl (record {
       converted = made.converted;
       is = (converted_to o bytes made t words asks).is;
       count = first.0;
       part = first.1 ∙ ap (λ text. Some (take first.0 text)) made.bytes_are;
-    })))))
+    }))))))
 
     pub converts_decides : (now new : ShelfState) (result : Result Ending Outcome) → ((n : List ℕ) → now.held n ≡ old.held n) → now.faults ≡ old.faults → Rewrites (IsInOtherVersion account) (IsFaultOfForm account) tells asked.converted.now now new result → Decides tells (asked_convert asked) old new result
     converts_decides now new result files clean rewrites =

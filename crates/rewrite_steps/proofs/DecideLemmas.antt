@@ -1,4 +1,4 @@
--- What a run decides that reads an account, and ends by an outcome of it.
+-- What a run decides that reads an account or a netlist, and ends by an outcome of it.
 use Rattle.std.proofs.Common.{◌≡◌, ◌≢◌, ℕ, inl, inr, Bool, IsTrue, List, Option, Some, Result, Ok, Err, IfOk, IfErr, refl, sym, ap, subst, ◌∙◌}
 use Rattle.std.specs.Str.{bytes_eq}
 use Rattle.shelf_core.specs.Fault.{NoCallFollows}
@@ -12,7 +12,7 @@ use Rattle.check_steps.specs.declared.files.ReadStop.TheVariants as stop
 use Rattle.check_steps.specs.declared.words.Command.{Command}
 use Rattle.check_steps.specs.declared.outcome.Ending.{Ending}
 use Rattle.check_steps.specs.declared.outcome.Outcome.{Outcome}
-use Rattle.check_steps.specs.declared.outcome.Outcome.TheVariants.{Rejected, Absent, Trimmed, Converted, ReadFault, Memory}
+use Rattle.check_steps.specs.declared.outcome.Outcome.TheVariants.{Rejected, Absent, TooLarge, BadHierarchy, Trimmed, Converted, Flattened, Swept, ReadFault, Memory}
 use Rattle.check_steps.proofs.EndLemmas.{of_reading}
 use Rattle.run_steps.specs.Commands.{IsNotWritten, IsReadingCommand, IsWritingCommand}
 use Rattle.run_steps.specs.Outcomes.{IsRight, Leaves, MayBeCut}
@@ -24,21 +24,27 @@ use Rattle.run_steps.proofs.MatchLemmas.{everywhere}
 use Rattle.run_steps.proofs.OutcomeLemmas.{early_unwritten, of_unwritten}
 use Rattle.rewrite_steps.specs.Rewriting.{Rewrites}
 
--- outcomes of an account, and those of them after which no file has changed
+-- outcomes of what was read, and those of them after which no file has changed
 
 abbrev pub IsRefused : Outcome → Type 0
 IsRefused (Rejected line why) = Unit {0}
 IsRefused (Absent which) = Unit {0}
+IsRefused (TooLarge which) = Unit {0}
+IsRefused (BadHierarchy fault) = Unit {0}
 IsRefused other = ⊥
 
 abbrev pub IsTold : Outcome → Type 0
 IsTold (Trimmed before after) = Unit {0}
 IsTold (Converted from to records) = Unit {0}
+IsTold (Flattened models instances gates) = Unit {0}
+IsTold (Swept before after left) = Unit {0}
 IsTold other = IsRefused other
 
 told_of_refused : (o : Outcome) → IsRefused o → IsTold o
 told_of_refused (Trimmed before after) is = tt
 told_of_refused (Converted from to records) is = tt
+told_of_refused (Flattened models instances gates) is = tt
+told_of_refused (Swept before after left) is = tt
 told_of_refused other is = is
 
 -- where a file isn't read nothing is to be right
@@ -47,7 +53,7 @@ stop_right held words stop.ReadFault = tt
 stop_right held words stop.Memory = tt
 
 module _ (tells : Bool) (command : Command) (reading : IsReadingCommand command) (writing : IsWritingCommand command) (old : ShelfState) where
-  -- an outcome of an account was told
+  -- an outcome of what was read was told
   pub told_decides : (new : ShelfState) (ending : Ending) → IsTold ending.outcome → ending.report.items ≡ line_of ending.outcome
       → (IsTrue tells → (n : List ℕ) → IsNotWritten command n → new.held n ≡ old.held n)
       → (IsTrue tells → (words : List (List ℕ)) → Ask words command → Leaves old.held new.held words ending.outcome)
@@ -75,7 +81,7 @@ module _ (tells : Bool) (command : Command) (reading : IsReadingCommand command)
   leaves_refused new words o is same =
       leaves old.held new.held words o
       (λ matching e. subst IsRefused e is) (λ e. subst IsRefused e is) (λ e. subst IsRefused e is) (λ gates e. subst IsRefused e is)
-      (λ count left e. subst IsRefused e is) (λ from to records e. subst IsRefused e is) same
+      (λ count left e. subst IsRefused e is) (λ from to records e. subst IsRefused e is) (λ models instances gates e. subst IsRefused e is) (λ count rest left e. subst IsRefused e is) same
 
   -- an outcome was reported after which no file has changed
   pub refused_decides : (now : ShelfState) (o : Outcome) (result : Result Ending Outcome) → IsRefused o
@@ -94,7 +100,7 @@ module _ (tells : Bool) (command : Command) (reading : IsReadingCommand command)
   refused_decides now o (Err e) is same line memory files right last =
       stopped tells command old now (Err e) Memory reading (ap Err memory) files (λ t words asks. tt) (of_reading Memory tt) last (λ fault. cc)
 
-  -- An account was made of the one that was read, and written, or there is none.
+  -- An account or a netlist was made of the one that was read, and written, or there is none.
   module _ (Makes : Outcome → List ℕ → Type 0) (Refuses : Outcome → Type 0) (name : List ℕ) (now new : ShelfState)
       (named : (n : List ℕ) → IsNotWritten command n → n ≢ name)
       (files : (n : List ℕ) → now.held n ≡ old.held n) (clean : now.faults ≡ old.faults)

@@ -1,5 +1,7 @@
 mod ConvertLemmas
 mod DecideLemmas
 mod EndingLemmas
+mod FlattenLemmas
 mod RewriteLemmas
+mod SweepLemmas
 mod TrimLemmas

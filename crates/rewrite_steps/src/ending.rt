@@ -1,13 +1,16 @@
-//! The end of a run that wrote an account.
+//! The end of a run that wrote an account or a netlist.
 
 ghost use Rattle.std.specs.Prelude.{◌≡◌, ◌≤◌, length};
+ghost use Rattle.net_print.specs.Files.{aag_text};
 ghost use Rattle.shelf_core.specs.State.{Closed};
 ghost use Rattle.rewrite_steps.specs.Rewriting.{EndsWritten};
 
 use crate::bytes_left::BytesLeft;
 use account_file::is_binary;
 use check_steps::{Ending, Outcome, report_line};
-use run_steps::write_named_with_end;
+use net_file::Named;
+use net_print::AagParts;
+use run_steps::{write_named, write_named_with_end};
 use shelf_core::Shelf;
 use std::alloc::Global;
 
@@ -34,6 +37,25 @@ pub(crate) fn end_written<S: Shelf>(
     let (records, end) = account.split_at(place_of_end(account));
     let mut text = BytesLeft::new(records);
     write_named_with_end(alloc, shelf, name, &mut text, end)?;
+    Ok(Ending { outcome, report })
+}
+
+/// Writes a netlist under a name, in the ASCII form of AIGER. Then the run ends by the outcome, which its line says. The
+/// error is that memory ran out, or that the file wasn't written.
+pub(crate) fn end_printed<S: Shelf>(
+    alloc: Global,
+    shelf: &mut S,
+    name: &str,
+    netlist: &Named,
+    outcome: Outcome,
+) -> Result<Ending, Outcome>
+    requires { (S.state shelf.old).mode ≡ Closed }
+    ensures { EndsWritten S.tells outcome (aag_text netlist.now) name.now (S.state shelf.old) (S.state shelf.new)
+        result }
+{
+    let report = report_line(alloc, &outcome)?;
+    let mut text = AagParts::new(netlist);
+    write_named(alloc, shelf, name, &mut text)?;
     Ok(Ending { outcome, report })
 }
 

@@ -1,5 +1,5 @@
 -- The words and the files determine what is answered.
-use Rattle.std.proofs.Common.{◌≡◌, ◌≢◌, ℕ, ◌↔◌, ◌⊎◌, inl, inr, zero, suc, Bool, IsTrue, List, [], length, get_or, Option, None, Some, Result, Ok, Err, refl, sym, ◌∙◌, ap, subst, arith}
+use Rattle.std.proofs.Common.{◌≡◌, ◌≢◌, ℕ, ◌≤◌, ◌↔◌, ◌⊎◌, inl, inr, zero, suc, Bool, IsTrue, List, [], length, get_or, Option, None, Some, Result, Ok, Err, refl, sym, ◌∙◌, ap, subst, arith}
 use Rattle.shelf_core.specs.Fault.{NoCallFollows, Rose}
 use Rattle.circuits.specs.Levels.{IsOrderOf}
 use Rattle.circuits.specs.Netlists.{Net}
@@ -22,8 +22,16 @@ use Rattle.account_trim.proofs.OutcomeLemmas.{one_trimmed}
 use Rattle.account_convert.specs.declared.conversion.Converted.{Converted as Other}
 use Rattle.account_convert.specs.Conversions.{IsConverted, IsFaultAt}
 use Rattle.account_convert.proofs.LawLemmas.{converted_or_fault, one_converted, one_fault_at}
-use Rattle.check_steps.specs.Words.{AsksCheck, AsksConvert, AsksInfo, AsksMatch, AsksRestore, AsksTrim, AskNothing, NameThree, ReadFiles}
-use Rattle.check_steps.specs.Words.{ConvertRequest, MatchRequest, RestoreRequest, TrimRequest, check_words}
+use Rattle.net_core.specs.Limits.{most_bytes}
+use Rattle.net_file.specs.declared.named.Named.{Named}
+use Rattle.blif_reader.specs.Blif.{blif_lines}
+use Rattle.hier_blif.specs.declared.fault.HierFault.{HierFault}
+use Rattle.hier_blif.specs.Hierarchies.{IsHierFault, ReadAs as ReadFlat}
+use Rattle.hier_blif.specs.Models.{models_of, top_of}
+use Rattle.hier_blif.proofs.DepthLemmas.{same_instances}
+use Rattle.hier_blif.proofs.OneHierLemmas.{lines_or_fault, one_fault_of_lines, one_hierarchy}
+use Rattle.check_steps.specs.Words.{AsksCheck, AsksConvert, AsksFlatten, AsksInfo, AsksMatch, AsksRestore, AsksSweep, AsksTrim, AskNothing, NameOne, NameThree, ReadFiles}
+use Rattle.check_steps.specs.Words.{ConvertRequest, FlattenRequest, MatchRequest, RestoreRequest, SweepRequest, TrimRequest, check_words}
 use Rattle.run_steps.specs.Match.{HasNoMatch, IsAskedToMatch, IsMatchFound, IsSought, IsSpentOnTwo}
 use Rattle.circuits.specs.Matches.{AreNpnpEqual}
 use Rattle.check_steps.specs.Check.{HasAccount, IsAccepted, IsRejected, LacksAccount}
@@ -32,6 +40,8 @@ use Rattle.check_steps.specs.Ends.{EndsAt, EndsEarly, IsAbsent}
 use Rattle.run_steps.specs.Outcomes.{FollowsWords, IsAskedOf, IsSpentOn, IsOfOne, IsOfMatch, IsRight, IsDecided, IsSoundAnswer, IsReported, Leaves}
 use Rattle.run_steps.specs.Restore.{AsChecked, IsRestorable}
 use Rattle.run_steps.specs.Trim.{AsRead, IsAskedToTrim, IsOfTrim, IsTrimmedTo}
+use Rattle.run_steps.specs.Flatten.{HasNoModels, IsAskedToFlatten, IsBadHierarchy, IsFlattenable, IsFlattenedTo, IsOfFlatten, LacksModels}
+use Rattle.run_steps.specs.Sweep.{IsAskedToSweep, IsOfSweep, IsSweptTo}
 use Rattle.run_steps.specs.Convert.{IsAskedToConvert, IsConvertedTo, IsIllFormed, IsOfConvert, LacksOld}
 use Rattle.account_file.specs.Accounts.{HasFormFault}
 use Rattle.account_file.proofs.VersionLemmas.{account_or_fault}
@@ -48,9 +58,11 @@ use Rattle.check_steps.specs.declared.outcome.Which.{Which}
 use Rattle.check_steps.specs.declared.outcome.Which.TheVariants.{First, Second, Account}
 use Rattle.check_steps.specs.declared.outcome.Outcome.{Outcome}
 use Rattle.check_steps.specs.declared.outcome.Outcome.TheVariants.{AcceptedMatch, AcceptedRefusal, Rejected, Matched, NoMatching, Spent, Usage, Absent}
-use Rattle.check_steps.specs.declared.outcome.Outcome.TheVariants.{TooLarge, Malformed, Informed, Made, Restored, Trimmed, Converted, Tried, ReadFault, WriteFault, Memory}
+use Rattle.check_steps.specs.declared.outcome.Outcome.TheVariants.{TooLarge, Malformed, Informed, Made, Restored, Trimmed, Converted, Flattened, BadHierarchy, Swept, Tried, ReadFault, WriteFault, Memory}
 use Rattle.run_steps.proofs.FormLemmas.{convert_or_check, convert_or_info, convert_or_match, convert_or_restore, convert_or_trim}
+use Rattle.run_steps.proofs.FormLemmas.{flatten_or_check, flatten_or_convert, flatten_or_info, flatten_or_match, flatten_or_restore, flatten_or_trim}
 use Rattle.run_steps.proofs.FormLemmas.{check_of_trim, trim_or_check, trim_or_info, trim_or_match, trim_or_restore}
+use Rattle.run_steps.proofs.FormLemmas.{sweep_or_check, sweep_or_convert, sweep_or_flatten, sweep_or_info, sweep_or_match, sweep_or_restore, sweep_or_trim, swept_named}
 use Rattle.run_steps.proofs.FormLemmas.{names_one, file_named, sought_one, check_of_restore, check_or_info, match_or_info, check_or_match, read_or_make, read_or_trial, reads_of, restore_or_check, restore_or_info, restore_or_match}
 use Rattle.check_steps.specs.Asks.{Ask}
 use Rattle.check_steps.specs.Checks.{Checks, IsOfCheck, IsSound}
@@ -186,6 +198,36 @@ other_answer_one account a b one other =
       ]
     ]
 
+-- what the bytes of a file answer that is to be flattened
+abbrev pub IsFlatAnswer : List ℕ → Outcome → Type 0
+IsFlatAnswer file o =
+    ((flat : Named) × (models : ℕ) × (instances : ℕ) × ReadFlat file flat.graph flat.input_names flat.output_names models instances × (o ≡ Flattened models instances (length flat.graph.gates)))
+    ⊎ ((fault : HierFault) × (o ≡ BadHierarchy fault) × IsHierFault file fault)
+
+-- a file is one flat circuit, so its graph is one
+flat_one : (file : List ℕ) (a b : Named) (models instances models' instances' : ℕ) → ReadFlat file a.graph a.input_names a.output_names models instances → ReadFlat file b.graph b.input_names b.output_names models' instances' → (a.graph ≡ b.graph) × (models ≡ models') × (instances ≡ instances')
+flat_one file a b models instances models' instances' one other =
+    let e = one_hierarchy (length file) (blif_lines file) one.depth other.depth one.circuit other.circuit one.is other.is in (
+      one_order one.circuit a.graph b.graph one.is.acyclic one.numbered (subst (λ circuit. IsOrderOf circuit b.graph) (sym e) other.numbered),
+      one.models_are ∙ sym other.models_are,
+      one.instances_are ∙ (same_instances one.depth other.depth (models_of (blif_lines file)) (top_of (models_of (blif_lines file))) one.is.few.small.within other.is.few.small.within ∙ sym other.instances_are),
+    )
+
+flat_answer_one : (file : List ℕ) (a b : Outcome) → IsFlatAnswer file a → IsFlatAnswer file b → a ≡ b
+flat_answer_one file a b one other =
+    elim one [
+      | inl (flat, models, instances, is, e) ↦ elim other [
+        | inl (flat', models', instances', is', e') ↦
+            let same = flat_one file flat flat' models instances models' instances' is is' in
+            e ∙ (ap (λ n. Flattened n instances (length flat.graph.gates)) same.1 ∙ (ap (λ n. Flattened models' n (length flat.graph.gates)) same.2 ∙ (ap (λ (net : Net). Flattened models' instances' (length net.gates)) same.0 ∙ sym e')))
+        | inr (fault, e', wrong) ↦ absurd (lines_or_fault (length file) (blif_lines file) is.depth is.circuit fault is.is wrong)
+      ]
+      | inr (fault, e, wrong) ↦ elim other [
+        | inl (flat, models, instances, is, e') ↦ absurd (lines_or_fault (length file) (blif_lines file) is.depth is.circuit fault is.is wrong)
+        | inr (fault', e', wrong') ↦ e ∙ (ap BadHierarchy (one_fault_of_lines (length file) (blif_lines file) fault fault' wrong wrong') ∙ sym e')
+      ]
+    ]
+
 -- the outcome is what the words say, or what the files under their names say
 
 abbrev pub SaysAccount : ℕ → (List ℕ → Option (List ℕ)) → List ℕ → List ℕ → List ℕ → Outcome → Type 0
@@ -234,19 +276,39 @@ SaysOld held account o =
 abbrev pub SaysConvert : (List ℕ → Option (List ℕ)) → List (List ℕ) → Outcome → Type 0
 SaysConvert held words o = (request : ConvertRequest) × AsksConvert words request × SaysOld held request.account o
 
+-- what is said of a file that is to be flattened
+abbrev pub SaysModels : Option (List ℕ) → Outcome → Type 0
+SaysModels content o =
+    ((o ≡ Absent First) × (content ≡ None))
+    ⊎ ((o ≡ TooLarge First) × HasTooMuch content)
+    ⊎ ((file : List ℕ) × (content ≡ Some file) × (length file ≤ most_bytes) × IsFlatAnswer file o)
+
+abbrev pub SaysFlatten : (List ℕ → Option (List ℕ)) → List (List ℕ) → Outcome → Type 0
+SaysFlatten held words o = (request : FlattenRequest) × AsksFlatten words request × SaysModels (held request.file) o
+
 abbrev pub SaysMatch : (List ℕ → Option (List ℕ)) → List (List ℕ) → Outcome → Type 0
 SaysMatch held words o = (sought : MatchRequest) × AsksMatch words sought × SaysTwo held sought.first sought.second IsOfMatch o
 
-abbrev pub SaysInfo : (List ℕ → Option (List ℕ)) → List (List ℕ) → Outcome → Type 0
-SaysInfo held words o = (file : List ℕ) × (budget : ℕ) × AsksInfo words file budget × SaysFile First (held file) IsOfOne o
+-- the words name one netlist, by their command: 0 asks what is known of it, and any other number for it to be swept
+abbrev pub AskOneBy : List (List ℕ) → ℕ → List ℕ → Type 0
+AskOneBy words k file =
+    ((budget : ℕ) × AsksInfo words file budget × (k ≡ 0))
+    ⊎ ((request : SweepRequest) × AsksSweep words request × (file ≡ request.file) × (k ≡ 1))
+
+abbrev pub IsOf : ℕ → Outcome → Type 0
+IsOf zero o = IsOfOne o
+IsOf (suc k) o = IsOfSweep o
+
+abbrev pub SaysOne : (List ℕ → Option (List ℕ)) → List (List ℕ) → Outcome → Type 0
+SaysOne held words o = (k : ℕ) × (file : List ℕ) × AskOneBy words k file × SaysFile First (held file) (IsOf k) o
 
 abbrev pub Says : (List ℕ → Option (List ℕ)) → List (List ℕ) → Outcome → Type 0
 Says held words o =
-    ((o ≡ Usage) × AskNothing words) ⊎ SaysCheck held words o ⊎ SaysMatch held words o ⊎ SaysInfo held words o ⊎ SaysConvert held words o
+    ((o ≡ Usage) × AskNothing words) ⊎ SaysCheck held words o ⊎ SaysMatch held words o ⊎ SaysOne held words o ⊎ SaysConvert held words o ⊎ SaysFlatten held words o
 
--- one outcome, or both are of one netlist, or of two of which a match is sought
+-- one outcome, or both are of one netlist and a command that names one, or of two of which a match is sought
 abbrev pub AreAlike : Outcome → Outcome → Type 0
-AreAlike a b = (a ≡ b) ⊎ (IsOfOne a × IsOfOne b) ⊎ (IsOfMatch a × IsOfMatch b)
+AreAlike a b = (a ≡ b) ⊎ ((k : ℕ) × IsOf k a × IsOf k b) ⊎ (IsOfMatch a × IsOfMatch b)
 
 graphs_same : (a b : Graphs) → a.first ≡ b.first → a.second ≡ b.second → a ≡ b
 graphs_same a b e f = λ i. record { first = e i; second = f i }
@@ -375,6 +437,64 @@ judged_or_info words k f g t file budget judge asked =
       | inr (inr (r, asks, is)) ↦ trim_or_info words (trim_of f g t r) file budget asks asked
     ]
 
+judged_or_sweep : (words : List (List ℕ)) (k : ℕ) (f g t : List ℕ) (request : SweepRequest) → JudgeBy words k f g t → AsksSweep words request → ⊥
+judged_or_sweep words k f g t request judge asked =
+    elim judge [
+      | inl (asks, is) ↦ sweep_or_check words request f g t asked asks
+      | inr (inl (r, asks, is)) ↦ sweep_or_restore words request (request_of f g t r) asked asks
+      | inr (inr (r, asks, is)) ↦ sweep_or_trim words request (trim_of f g t r) asked asks
+    ]
+
+-- words that name one netlist are of no other form, and name no other one
+
+one_or_nothing : (words : List (List ℕ)) (k : ℕ) (file : List ℕ) → AskOneBy words k file → AskNothing words → ⊥
+one_or_nothing words k file one nothing =
+    elim one [
+      | inl (budget, asks, is) ↦ nothing.no_info file budget asks
+      | inr (request, asks, same, is) ↦ nothing.no_sweep request asks
+    ]
+
+judged_or_one : (words : List (List ℕ)) (k : ℕ) (f g t : List ℕ) (j : ℕ) (file : List ℕ) → JudgeBy words k f g t → AskOneBy words j file → ⊥
+judged_or_one words k f g t j file judge one =
+    elim one [
+      | inl (budget, asks, is) ↦ judged_or_info words k f g t file budget judge asks
+      | inr (request, asks, same, is) ↦ judged_or_sweep words k f g t request judge asks
+    ]
+
+match_or_one : (words : List (List ℕ)) (sought : MatchRequest) (k : ℕ) (file : List ℕ) → AsksMatch words sought → AskOneBy words k file → ⊥
+match_or_one words sought k file asked one =
+    elim one [
+      | inl (budget, asks, is) ↦ match_or_info words sought file budget asked asks
+      | inr (request, asks, same, is) ↦ sweep_or_match words request sought asks asked
+    ]
+
+convert_or_one : (words : List (List ℕ)) (converted : ConvertRequest) (k : ℕ) (file : List ℕ) → AsksConvert words converted → AskOneBy words k file → ⊥
+convert_or_one words converted k file asked one =
+    elim one [
+      | inl (budget, asks, is) ↦ convert_or_info words converted file budget asked asks
+      | inr (request, asks, same, is) ↦ sweep_or_convert words request converted asks asked
+    ]
+
+flatten_or_one : (words : List (List ℕ)) (flattened : FlattenRequest) (k : ℕ) (file : List ℕ) → AsksFlatten words flattened → AskOneBy words k file → ⊥
+flatten_or_one words flattened k file asked one =
+    elim one [
+      | inl (budget, asks, is) ↦ flatten_or_info words flattened file budget asked asks
+      | inr (request, asks, same, is) ↦ sweep_or_flatten words request flattened asks asked
+    ]
+
+named_once : (words : List (List ℕ)) (k : ℕ) (file : List ℕ) (j : ℕ) (other : List ℕ) → AskOneBy words k file → AskOneBy words j other → (j ≡ k) × (other ≡ file)
+named_once words k file j other one also =
+    elim one [
+      | inl (budget, asks, is) ↦ elim also [
+        | inl (budget', asks', is') ↦ (is' ∙ sym is, sym (file_named words other budget' asks') ∙ file_named words file budget asks)
+        | inr (request', asks', same', is') ↦ absurd (sweep_or_info words request' file budget asks' asks)
+      ]
+      | inr (request, asks, same, is) ↦ elim also [
+        | inl (budget', asks', is') ↦ absurd (sweep_or_info words request other budget' asks asks')
+        | inr (request', asks', same', is') ↦ (is' ∙ sym is, same' ∙ (sym (swept_named words request' asks') ∙ (swept_named words request asks ∙ sym same)))
+      ]
+    ]
+
 judged_or_convert : (words : List (List ℕ)) (k : ℕ) (f g t : List ℕ) (request : ConvertRequest) → JudgeBy words k f g t → AsksConvert words request → ⊥
 judged_or_convert words k f g t request judge asked =
     elim judge [
@@ -382,6 +502,45 @@ judged_or_convert words k f g t request judge asked =
       | inr (inl (r, asks, is)) ↦ convert_or_restore words request (request_of f g t r) asked asks
       | inr (inr (r, asks, is)) ↦ convert_or_trim words request (trim_of f g t r) asked asks
     ]
+
+judged_or_flatten : (words : List (List ℕ)) (k : ℕ) (f g t : List ℕ) (request : FlattenRequest) → JudgeBy words k f g t → AsksFlatten words request → ⊥
+judged_or_flatten words k f g t request judge asked =
+    elim judge [
+      | inl (asks, is) ↦ flatten_or_check words request f g t asked asks
+      | inr (inl (r, asks, is)) ↦ flatten_or_restore words request (request_of f g t r) asked asks
+      | inr (inr (r, asks, is)) ↦ flatten_or_trim words request (trim_of f g t r) asked asks
+    ]
+
+models_one : (content : Option (List ℕ)) (a b : Outcome) → SaysModels content a → SaysModels content b → a ≡ b
+models_one content a b one other =
+    elim one [
+      | inl (e, none) ↦ elim other [
+        | inl (e', none') ↦ e ∙ sym e'
+        | inr (inl (e', much)) ↦ let there = much.there in cc
+        | inr (inr (file, there, short, answer)) ↦ cc
+      ]
+      | inr (inl (e, much)) ↦ elim other [
+        | inl (e', none) ↦ let there = much.there in cc
+        | inr (inl (e', much')) ↦ e ∙ sym e'
+        | inr (inr (file, there, short, answer)) ↦
+            let same : file ≡ much.bytes = let e' = much.there in cc in
+            absurd (omega (arith, much.long, short, ap length same))
+      ]
+      | inr (inr (file, there, short, answer)) ↦ elim other [
+        | inl (e, none) ↦ cc
+        | inr (inl (e, much)) ↦
+            let same : file ≡ much.bytes = let e' = much.there in cc in
+            absurd (omega (arith, much.long, short, ap length same))
+        | inr (inr (file', there', short', answer')) ↦
+            let text : file' ≡ file = cc in
+            flat_answer_one file a b answer (subst (λ t. IsFlatAnswer t b) text answer')
+      ]
+    ]
+
+flatten_one : (held : List ℕ → Option (List ℕ)) (words : List (List ℕ)) (a b : Outcome) → SaysFlatten held words a → SaysFlatten held words b → a ≡ b
+flatten_one held words a b (request, asks, says) (other, asks', says') =
+    let same : other.file ≡ request.file = ap (word_at 1) (sym asks'.form ∙ asks.form) in
+    models_one (held request.file) a b says (subst (λ name. SaysModels (held name) b) same says')
 
 convert_one : (held : List ℕ → Option (List ℕ)) (words : List (List ℕ)) (a b : Outcome) → SaysConvert held words a → SaysConvert held words b → a ≡ b
 convert_one held words a b (request, asks, says) (other, asks', says') =
@@ -414,10 +573,13 @@ match_one held words a b (sought, asks, says) (other, asks', says') =
     let e = sought_one words sought other asks asks' in
     two_one held sought.first sought.second IsOfMatch a b says (subst (λ n. SaysTwo held n sought.second IsOfMatch b) e.0 (subst (λ n. SaysTwo held other.first n IsOfMatch b) e.1 says'))
 
-info_one : (held : List ℕ → Option (List ℕ)) (words : List (List ℕ)) (a b : Outcome) → SaysInfo held words a → SaysInfo held words b → (a ≡ b) ⊎ (IsOfOne a × IsOfOne b)
-info_one held words a b (file, budget, asks, says) (file', budget', asks', says') =
-    let e = sym (file_named words file' budget' asks') ∙ file_named words file budget asks in
-    file_one First (held file) IsOfOne a b says (subst (λ n. SaysFile First (held n) IsOfOne b) e says')
+one_one : (held : List ℕ → Option (List ℕ)) (words : List (List ℕ)) (a b : Outcome) → SaysOne held words a → SaysOne held words b → (a ≡ b) ⊎ ((k : ℕ) × IsOf k a × IsOf k b)
+one_one held words a b (k, file, asks, says) (k', file', asks', says') =
+    let e = named_once words k file k' file' asks asks' in
+    elim (file_one First (held file) (IsOf k) a b says (subst (λ n. SaysFile First (held file) (IsOf n) b) e.0 (subst (λ name. SaysFile First (held name) (IsOf k') b) e.1 says'))) [
+      | inl same ↦ inl same
+      | inr (of, of') ↦ inr (k, of, of')
+    ]
 
 says_one : (held : List ℕ → Option (List ℕ)) (words : List (List ℕ)) (a b : Outcome) → Says held words a → Says held words b → AreAlike a b
 says_one held words a b one other =
@@ -426,36 +588,49 @@ says_one held words a b one other =
         | inl (e', nothing') ↦ inl (e ∙ sym e')
         | inr (inl (k, f, g, t, judge, says)) ↦ absurd (judged_or_nothing words k f g t judge nothing)
         | inr (inr (inl (sought, asks, says))) ↦ absurd (nothing.no_match sought asks)
-        | inr (inr (inr (inl (file, budget, asks, says)))) ↦ absurd (nothing.no_info file budget asks)
-        | inr (inr (inr (inr (request, asks, says)))) ↦ absurd (nothing.no_convert request asks)
+        | inr (inr (inr (inl (k, file, asks, says)))) ↦ absurd (one_or_nothing words k file asks nothing)
+        | inr (inr (inr (inr (inl (request, asks, says))))) ↦ absurd (nothing.no_convert request asks)
+        | inr (inr (inr (inr (inr (request, asks, says))))) ↦ absurd (nothing.no_flatten request asks)
       ]
       | inr (inl (k, f, g, t, judge, says)) ↦ elim other [
         | inl (e', nothing) ↦ absurd (judged_or_nothing words k f g t judge nothing)
         | inr (inl other') ↦ inl (check_one held words a b (k, f, g, t, judge, says) other')
         | inr (inr (inl (sought, asks', says'))) ↦ absurd (judged_or_match words k f g t sought judge asks')
-        | inr (inr (inr (inl (file, budget, asks', says')))) ↦ absurd (judged_or_info words k f g t file budget judge asks')
-        | inr (inr (inr (inr (request, asks', says')))) ↦ absurd (judged_or_convert words k f g t request judge asks')
+        | inr (inr (inr (inl (j, file, asks', says')))) ↦ absurd (judged_or_one words k f g t j file judge asks')
+        | inr (inr (inr (inr (inl (request, asks', says'))))) ↦ absurd (judged_or_convert words k f g t request judge asks')
+        | inr (inr (inr (inr (inr (request, asks', says'))))) ↦ absurd (judged_or_flatten words k f g t request judge asks')
       ]
       | inr (inr (inl (sought, asks, says))) ↦ elim other [
         | inl (e', nothing) ↦ absurd (nothing.no_match sought asks)
         | inr (inl (k, f, g, t, judge, says')) ↦ absurd (judged_or_match words k f g t sought judge asks)
         | inr (inr (inl other')) ↦ elim (match_one held words a b (sought, asks, says) other') [ inl same ↦ inl same | inr both ↦ inr (inr both) ]
-        | inr (inr (inr (inl (file, budget, asks', says')))) ↦ absurd (match_or_info words sought file budget asks asks')
-        | inr (inr (inr (inr (request, asks', says')))) ↦ absurd (convert_or_match words request sought asks' asks)
+        | inr (inr (inr (inl (k, file, asks', says')))) ↦ absurd (match_or_one words sought k file asks asks')
+        | inr (inr (inr (inr (inl (request, asks', says'))))) ↦ absurd (convert_or_match words request sought asks' asks)
+        | inr (inr (inr (inr (inr (request, asks', says'))))) ↦ absurd (flatten_or_match words request sought asks' asks)
       ]
-      | inr (inr (inr (inl (file, budget, asks, says)))) ↦ elim other [
-        | inl (e', nothing) ↦ absurd (nothing.no_info file budget asks)
-        | inr (inl (k, f, g, t, judge, says')) ↦ absurd (judged_or_info words k f g t file budget judge asks)
-        | inr (inr (inl (sought, asks', says'))) ↦ absurd (match_or_info words sought file budget asks' asks)
-        | inr (inr (inr (inl other'))) ↦ elim (info_one held words a b (file, budget, asks, says) other') [ inl same ↦ inl same | inr both ↦ inr (inl both) ]
-        | inr (inr (inr (inr (request, asks', says')))) ↦ absurd (convert_or_info words request file budget asks' asks)
+      | inr (inr (inr (inl (j, file, asks, says)))) ↦ elim other [
+        | inl (e', nothing) ↦ absurd (one_or_nothing words j file asks nothing)
+        | inr (inl (k, f, g, t, judge, says')) ↦ absurd (judged_or_one words k f g t j file judge asks)
+        | inr (inr (inl (sought, asks', says'))) ↦ absurd (match_or_one words sought j file asks' asks)
+        | inr (inr (inr (inl other'))) ↦ elim (one_one held words a b (j, file, asks, says) other') [ inl same ↦ inl same | inr both ↦ inr (inl both) ]
+        | inr (inr (inr (inr (inl (request, asks', says'))))) ↦ absurd (convert_or_one words request j file asks' asks)
+        | inr (inr (inr (inr (inr (request, asks', says'))))) ↦ absurd (flatten_or_one words request j file asks' asks)
       ]
-      | inr (inr (inr (inr (request, asks, says)))) ↦ elim other [
+      | inr (inr (inr (inr (inl (request, asks, says))))) ↦ elim other [
         | inl (e', nothing) ↦ absurd (nothing.no_convert request asks)
         | inr (inl (k, f, g, t, judge, says')) ↦ absurd (judged_or_convert words k f g t request judge asks)
         | inr (inr (inl (sought, asks', says'))) ↦ absurd (convert_or_match words request sought asks asks')
-        | inr (inr (inr (inl (file, budget, asks', says')))) ↦ absurd (convert_or_info words request file budget asks asks')
-        | inr (inr (inr (inr other'))) ↦ inl (convert_one held words a b (request, asks, says) other')
+        | inr (inr (inr (inl (k, file, asks', says')))) ↦ absurd (convert_or_one words request k file asks asks')
+        | inr (inr (inr (inr (inl other')))) ↦ inl (convert_one held words a b (request, asks, says) other')
+        | inr (inr (inr (inr (inr (flattened, asks', says'))))) ↦ absurd (flatten_or_convert words flattened request asks' asks)
+      ]
+      | inr (inr (inr (inr (inr (request, asks, says))))) ↦ elim other [
+        | inl (e', nothing) ↦ absurd (nothing.no_flatten request asks)
+        | inr (inl (k, f, g, t, judge, says')) ↦ absurd (judged_or_flatten words k f g t request judge asks)
+        | inr (inr (inl (sought, asks', says'))) ↦ absurd (flatten_or_match words request sought asks asks')
+        | inr (inr (inr (inl (k, file, asks', says')))) ↦ absurd (flatten_or_one words request k file asks asks')
+        | inr (inr (inr (inr (inl (converted, asks', says'))))) ↦ absurd (flatten_or_convert words request converted asks asks')
+        | inr (inr (inr (inr (inr other')))) ↦ inl (flatten_one held words a b (request, asks, says) other')
       ]
     ]
 
@@ -479,7 +654,12 @@ says_early held words o decided early =
             | inl asks ↦ inr (inl (0, at.first_name, at.second_name, at.account_name, inl (asks, refl), inr (at.first, at.first_held, inl end)))
             | inr (budget, seed, asks) ↦ inr (inr (inl (named at.first_name at.second_name at.account_name budget seed, asks, inr (at.first, at.first_held, inl end))))
           ]
-      | inr (inr at) ↦ inr (inr (inr (inl (at.file_name, at.budget, at.asks, inl (end_of First (held at.file_name) o decided at.ends)))))
+      | inr (inr at) ↦
+          let end = end_of First (held at.file_name) o decided at.ends in
+          elim at.asks [
+            | inl (budget, asks) ↦ inr (inr (inr (inl (0, at.file_name, inl (budget, asks, refl), inl end))))
+            | inr (request, asks, is) ↦ inr (inr (inr (inl (1, at.file_name, inr (request, asks, is, refl), inl end))))
+          ]
     ]
 
 says_answer : (held : List ℕ → Option (List ℕ)) (words : List (List ℕ)) (graphs : Graphs) (bytes : List ℕ) (o : Outcome) → HasAccount held words graphs bytes → IsAnswer 0 graphs bytes o → Says held words o
@@ -491,7 +671,11 @@ says_absent held words which e lacks =
     inr (inl (0, lacks.asked.first_name, lacks.asked.second_name, lacks.account_name, inl (lacks.asked.asks, refl), inr (lacks.first, lacks.asked.first_held, inr (lacks.second, lacks.asked.second_held, inl (ap Absent e, lacks.absent)))))
 
 says_of : (held : List ℕ → Option (List ℕ)) (words : List (List ℕ)) (o : Outcome) → IsAskedOf held words → IsOfOne o → Says held words o
-says_of held words o asked one = inr (inr (inr (inl (asked.file_name, asked.budget, asked.asks, inr (asked.netlist, asked.there, one)))))
+says_of held words o asked one = inr (inr (inr (inl (0, asked.file_name, inl (asked.budget, asked.asks, refl), inr (asked.netlist, asked.there, one)))))
+
+says_swept : (held : List ℕ → Option (List ℕ)) (words : List (List ℕ)) (before after : ℕ) (left : Option Ledgered) → IsSweptTo held words before after left → Says held words (Swept before after left)
+says_swept held words before after left is =
+    inr (inr (inr (inl (1, is.request.file, inr (is.request, is.asks, refl, refl), inr (is.there.netlist, is.there.holds, (before, after, left, refl))))))
 
 says_match : (held : List ℕ → Option (List ℕ)) (words : List (List ℕ)) (first second : Netlist) (o : Outcome) → IsSought held words first second → IsOfMatch o → Says held words o
 says_match held words first second o is of_match =
@@ -538,8 +722,9 @@ says_by held words k f g t o by check too says =
           let same : SaysThree 0 held f g t o = subst (λ n. SaysThree n held f g t o) e.0 (subst (λ n. SaysThree k' held n g t o) e.1 (subst (λ n. SaysThree k' held f' n t o) e.2 (subst (λ n. SaysThree k' held f' g' n o) e.3 fact))) in
           inr (inl (k, f, g, t, by, three_too k held f g t o too same))
       | inr (inr (inl (sought, asks', fact))) ↦ absurd (check_or_match checked f g t sought check asks')
-      | inr (inr (inr (inl (file, budget, asks', fact)))) ↦ absurd (check_or_info checked f g t file budget check asks')
-      | inr (inr (inr (inr (request, asks', fact)))) ↦ absurd (convert_or_check checked request f g t asks' check)
+      | inr (inr (inr (inl (j, file, asks', fact)))) ↦ absurd (judged_or_one checked 0 f g t j file (inl (check, refl)) asks')
+      | inr (inr (inr (inr (inl (request, asks', fact))))) ↦ absurd (convert_or_check checked request f g t asks' check)
+      | inr (inr (inr (inr (inr (request, asks', fact))))) ↦ absurd (flatten_or_check checked request f g t asks' check)
     ]
 
 says_restore : (held : List ℕ → Option (List ℕ)) (words : List (List ℕ)) (request : RestoreRequest) (o : Outcome) → AsksRestore words request → ((matching : Matching) → o ≢ AcceptedMatch matching) → Says held (check_words request.first request.second request.account) o → Says held words o
@@ -595,14 +780,32 @@ says_converted held words from to records is =
     let t = is.to_is in
     let r = is.records_are in
     let told : Converted from to records ≡ Converted is.converted.from is.converted.to is.converted.records = cc in
-    inr (inr (inr (inr (is.is.request, is.is.asks, inr (is.is.account, is.is.there, inl (is.converted, is.is.is, told))))))
+    inr (inr (inr (inr (inl (is.is.request, is.is.asks, inr (is.is.account, is.is.there, inl (is.converted, is.is.is, told)))))))
 
 says_ill : (held : List ℕ → Option (List ℕ)) (words : List (List ℕ)) (line : ℕ) (why : Why) → IsIllFormed held words line why → Says held words (Rejected line why)
 says_ill held words line why is =
-    inr (inr (inr (inr (is.request, is.asks, inr (is.account, is.there, inr (line, is.fault, ap (Rejected line) is.why_is, is.first))))))
+    inr (inr (inr (inr (inl (is.request, is.asks, inr (is.account, is.there, inr (line, is.fault, ap (Rejected line) is.why_is, is.first)))))))
 
 says_no_old : (held : List ℕ → Option (List ℕ)) (words : List (List ℕ)) (which : Which) → which ≡ Account → LacksOld held words → Says held words (Absent which)
-says_no_old held words which e lacks = inr (inr (inr (inr (lacks.request, lacks.asks, inl (ap Absent e, lacks.absent)))))
+says_no_old held words which e lacks = inr (inr (inr (inr (inl (lacks.request, lacks.asks, inl (ap Absent e, lacks.absent))))))
+
+-- and so are a file of models that is flattened, its first fault, and that it isn't read
+
+says_flattened : (held : List ℕ → Option (List ℕ)) (words : List (List ℕ)) (models instances gates : ℕ) → IsFlattenedTo held words models instances gates → Says held words (Flattened models instances gates)
+says_flattened held words models instances gates is =
+    inr (inr (inr (inr (inr (is.is.request, is.is.asks, inr (inr (is.is.file, is.is.there, is.is.short, inl (is.flat, models, instances, is.is.is, ap (Flattened models instances) is.gates_are))))))))
+
+says_bad_hierarchy : (held : List ℕ → Option (List ℕ)) (words : List (List ℕ)) (fault : HierFault) → IsBadHierarchy held words fault → Says held words (BadHierarchy fault)
+says_bad_hierarchy held words fault is =
+    inr (inr (inr (inr (inr (is.request, is.asks, inr (inr (is.file, is.there, is.short, inr (fault, refl, is.first))))))))
+
+no_models : (content : Option (List ℕ)) (o : Outcome) → HasNoModels content o → SaysModels content o
+no_models content (Absent which) lacks = inl (ap Absent lacks.0, lacks.1)
+no_models content (TooLarge which) lacks = inr (inl (ap TooLarge lacks.0, lacks.1))
+no_models content other lacks = absurd lacks
+
+says_no_models : (held : List ℕ → Option (List ℕ)) (words : List (List ℕ)) (o : Outcome) → LacksModels held words o → Says held words o
+says_no_models held words o lacks = inr (inr (inr (inr (inr (lacks.request, lacks.asks, no_models (held lacks.request.file) o lacks.lacks)))))
 
 -- a budget is spent on a file that is a netlist, or on two
 asked_of_spent : (held : List ℕ → Option (List ℕ)) (words : List (List ℕ)) (ledger : Ledgered) → IsSpentOn held words ledger → IsAskedOf held words
@@ -644,17 +847,24 @@ says held words Made reads decided right = absurd (read_or_make words reads righ
 says held words (Restored gates) reads decided right = says_restored held words gates right
 says held words (Trimmed before after) reads decided right = says_trimmed held words before after right
 says held words (Converted from to records) reads decided right = says_converted held words from to records right
+says held words (Flattened models instances gates) reads decided right = says_flattened held words models instances gates right
+says held words (Swept before after left) reads decided right = says_swept held words before after left right
 says held words (Tried number account) reads decided right = absurd (read_or_trial words number reads right.asks)
 says held words Usage reads decided right = inl (refl, right)
 says held words (Absent which) reads decided right =
     elim right [
       | inl read ↦ says_read held words (Absent which) (λ checked. IsAbsent held checked which) (λ checked is. elim is [ inl early ↦ says_early held checked (Absent which) decided early | inr (e, lacks) ↦ says_absent held checked which e lacks ]) (λ matching e. cc) (λ e. cc) read
-      | inr (e, lacks) ↦ says_no_old held words which e lacks
+      | inr (inl (e, lacks)) ↦ says_no_old held words which e lacks
+      | inr (inr lacks) ↦ says_no_models held words (Absent which) lacks
     ]
 says held words (TooLarge which) reads decided right =
-    says_read held words (TooLarge which) (λ checked. EndsEarly held checked (TooLarge which)) (λ checked is. says_early held checked (TooLarge which) decided is) (λ matching e. cc) (λ e. cc) right
+    elim right [
+      | inl read ↦ says_read held words (TooLarge which) (λ checked. EndsEarly held checked (TooLarge which)) (λ checked is. says_early held checked (TooLarge which) decided is) (λ matching e. cc) (λ e. cc) read
+      | inr lacks ↦ says_no_models held words (TooLarge which) lacks
+    ]
 says held words (Malformed which kind at) reads decided right =
     says_read held words (Malformed which kind at) (λ checked. EndsEarly held checked (Malformed which kind at)) (λ checked is. says_early held checked (Malformed which kind at) decided is) (λ matching e. cc) (λ e. cc) right
+says held words (BadHierarchy fault) reads decided right = says_bad_hierarchy held words fault right
 says held words ReadFault reads decided right = absurd (decided.read refl)
 says held words WriteFault reads decided right = absurd (decided.reported.written refl)
 says held words Memory reads decided right = absurd (decided.reported.room refl)
@@ -667,7 +877,7 @@ right_of_check held words (AcceptedMatch matching) is = is
 right_of_check held words AcceptedRefusal is = inl is
 right_of_check held words (Rejected line why) is = inl (inl (inl is))
 right_of_check held words (Absent which) is = inl (inl (inl is))
-right_of_check held words (TooLarge which) is = inl (inl is)
+right_of_check held words (TooLarge which) is = inl (inl (inl is))
 right_of_check held words (Malformed which kind at) is = inl (inl is)
 right_of_check held words ReadFault is = tt
 right_of_check held words Memory is = tt
@@ -679,7 +889,7 @@ right_of_restore held words request (AcceptedMatch matching) asks other is = abs
 right_of_restore held words request AcceptedRefusal asks other is = inr (request, asks, is)
 right_of_restore held words request (Rejected line why) asks other is = inl (inl (inr (request, asks, is)))
 right_of_restore held words request (Absent which) asks other is = inl (inl (inr (request, asks, is)))
-right_of_restore held words request (TooLarge which) asks other is = inl (inr (request, asks, is))
+right_of_restore held words request (TooLarge which) asks other is = inl (inl (inr (request, asks, is)))
 right_of_restore held words request (Malformed which kind at) asks other is = inl (inr (request, asks, is))
 right_of_restore held words request ReadFault asks other is = tt
 right_of_restore held words request Memory asks other is = tt
@@ -691,7 +901,7 @@ right_of_trim held words request (AcceptedMatch matching) asks other no_refusal 
 right_of_trim held words request AcceptedRefusal asks other no_refusal is = absurd (no_refusal refl)
 right_of_trim held words request (Rejected line why) asks other no_refusal is = inl (inr (request, asks, is))
 right_of_trim held words request (Absent which) asks other no_refusal is = inl (inr (request, asks, is))
-right_of_trim held words request (TooLarge which) asks other no_refusal is = inr (request, asks, is)
+right_of_trim held words request (TooLarge which) asks other no_refusal is = inl (inr (request, asks, is))
 right_of_trim held words request (Malformed which kind at) asks other no_refusal is = inr (request, asks, is)
 right_of_trim held words request ReadFault asks other no_refusal is = tt
 right_of_trim held words request Memory asks other no_refusal is = tt
@@ -703,14 +913,23 @@ right_at_first held words f g t asks o ends = right_of_check held words o (at_fi
 pub right_at_second : (held : List ℕ → Option (List ℕ)) (words : List (List ℕ)) (f g t : List ℕ) (first : Netlist) → NameThree words f g t → HasNetlist (held f) first → (o : Outcome) → EndsAt Second (held g) o → IsRight held words o
 right_at_second held words f g t first asks there o ends = right_of_check held words o (at_second held words f g t first asks there o ends)
 
-pub right_at_only : (held : List ℕ → Option (List ℕ)) (words : List (List ℕ)) (file : List ℕ) (budget : ℕ) → AsksInfo words file budget → (o : Outcome) → EndsAt First (held file) o → IsRight held words o
-right_at_only held words file budget asks o ends = right_of_check held words o (at_only held words file budget asks o ends)
+pub right_at_only : (held : List ℕ → Option (List ℕ)) (words : List (List ℕ)) (file : List ℕ) → NameOne words file → (o : Outcome) → EndsAt First (held file) o → IsRight held words o
+right_at_only held words file asks o ends = right_of_check held words o (at_only held words file asks o ends)
 
 informed_of_match : IsOfMatch Informed → ⊥
 informed_of_match is = elim is [ inl (matching, e) ↦ cc | inr (inl e) ↦ cc | inr (inr (ledger, e)) ↦ cc ]
 
-none_of_one : IsOfOne NoMatching → ⊥
-none_of_one is = elim is [ inl e ↦ cc | inr (ledger, e) ↦ cc ]
+none_of_one : (k : ℕ) → IsOf k NoMatching → ⊥
+none_of_one zero is = elim is [ inl e ↦ cc | inr (ledger, e) ↦ cc ]
+none_of_one (suc k) (before, after, left, e) = cc
+
+informed_of_sweep : IsOfSweep Informed → ⊥
+informed_of_sweep (before, after, left, e) = cc
+
+-- where what is known of a netlist is an outcome of a command that names one, all its outcomes are such
+informed_alike : (k : ℕ) (o : Outcome) → IsOf k o → IsOf k Informed → IsOfOne o
+informed_alike zero o is informed = is
+informed_alike (suc k) o is sweep = absurd (informed_of_sweep sweep)
 
 -- a match of two files is one of the circuits of which there is none
 found_or_none : (held : List ℕ → Option (List ℕ)) (words : List (List ℕ)) (matching : Matching) → IsMatchFound held words matching → HasNoMatch held words → ⊥
@@ -728,13 +947,16 @@ IsExact (Rejected line why) = Unit {0}
 IsExact (Restored gates) = Unit {0}
 IsExact (Trimmed before after) = Unit {0}
 IsExact (Converted from to records) = Unit {0}
+IsExact (Flattened models instances gates) = Unit {0}
 IsExact (Absent which) = Unit {0}
 IsExact (TooLarge which) = Unit {0}
 IsExact (Malformed which kind at) = Unit {0}
+IsExact (BadHierarchy fault) = Unit {0}
 IsExact other = ⊥
 
-exact_of_one : (o : Outcome) → IsExact o → IsOfOne o → ⊥
-exact_of_one o exact one = elim one [ inl e ↦ subst IsExact e exact | inr (ledger, e) ↦ subst IsExact e exact ]
+exact_of_one : (k : ℕ) (o : Outcome) → IsExact o → IsOf k o → ⊥
+exact_of_one zero o exact one = elim one [ inl e ↦ subst IsExact e exact | inr (ledger, e) ↦ subst IsExact e exact ]
+exact_of_one (suc k) o exact (before, after, left, e) = subst IsExact e exact
 
 exact_of_match : (o : Outcome) → IsExact o → IsOfMatch o → ⊥
 exact_of_match o exact two = elim two [ inl (matching, e) ↦ subst IsExact e exact | inr (inl e) ↦ subst IsExact e exact | inr (inr (ledger, e)) ↦ subst IsExact e exact ]
@@ -744,7 +966,7 @@ early_reads held words o early =
     elim early [
       | inl at ↦ inl (at.first_name, at.second_name, at.account_name, at.asks)
       | inr (inl at) ↦ inl (at.first_name, at.second_name, at.account_name, at.asks)
-      | inr (inr at) ↦ inr (inl (at.file_name, at.budget, at.asks))
+      | inr (inr at) ↦ inr (inl (at.file_name, at.asks))
     ]
 
 account_reads : (held : List ℕ → Option (List ℕ)) (words : List (List ℕ)) (graphs : Graphs) (account : List ℕ) → HasAccount held words graphs account → ReadFiles words
@@ -758,7 +980,10 @@ read_reads : (P : List (List ℕ) → Type 0) (words : List (List ℕ)) → (P w
 read_reads P words reads right = elim right [ inl is ↦ checked_reads P words reads is | inr (request, asks, is) ↦ inr (inr (inr (inl (request, asks)))) ]
 
 convert_reads : (words : List (List ℕ)) (request : ConvertRequest) → AsksConvert words request → ReadFiles words
-convert_reads words request asks = inr (inr (inr (inr (request, asks))))
+convert_reads words request asks = inr (inr (inr (inr (inl (request, asks)))))
+
+flatten_reads : (words : List (List ℕ)) (request : FlattenRequest) → AsksFlatten words request → ReadFiles words
+flatten_reads words request asks = inr (inr (inr (inr (inr (request, asks)))))
 
 -- where such an outcome is right the words name files
 exact_reads : (held : List ℕ → Option (List ℕ)) (words : List (List ℕ)) (o : Outcome) → IsExact o → IsRight held words o → ReadFiles words
@@ -771,15 +996,21 @@ exact_reads held words (Rejected line why) exact right = elim right [
 exact_reads held words (Restored gates) exact right = inr (inr (inl (right.request, right.asks)))
 exact_reads held words (Trimmed before after) exact right = inr (inr (inr (inl (right.is.request, right.is.asks))))
 exact_reads held words (Converted from to records) exact right = convert_reads words right.is.request right.is.asks
+exact_reads held words (Flattened models instances gates) exact right = flatten_reads words right.is.request right.is.asks
 exact_reads held words (Absent which) exact right = elim right [
   | inl read ↦ read_reads (λ checked. IsAbsent held checked which) words (λ is. elim is [
     | inl early ↦ early_reads held words (Absent which) early
     | inr (e, lacks) ↦ inl (lacks.asked.first_name, lacks.asked.second_name, lacks.account_name, inl lacks.asked.asks)
   ]) read
-  | inr (e, lacks) ↦ convert_reads words lacks.request lacks.asks
+  | inr (inl (e, lacks)) ↦ convert_reads words lacks.request lacks.asks
+  | inr (inr lacks) ↦ flatten_reads words lacks.request lacks.asks
 ]
-exact_reads held words (TooLarge which) exact right = read_reads (λ checked. EndsEarly held checked (TooLarge which)) words (λ is. early_reads held words (TooLarge which) is) right
+exact_reads held words (TooLarge which) exact right = elim right [
+  | inl read ↦ read_reads (λ checked. EndsEarly held checked (TooLarge which)) words (λ is. early_reads held words (TooLarge which) is) read
+  | inr lacks ↦ flatten_reads words lacks.request lacks.asks
+]
 exact_reads held words (Malformed which kind at) exact right = read_reads (λ checked. EndsEarly held checked (Malformed which kind at)) words (λ is. early_reads held words (Malformed which kind at) is) right
+exact_reads held words (BadHierarchy fault) exact right = flatten_reads words right.request right.asks
 exact_reads held words other exact right = absurd exact
 
 sought_reads : (held : List ℕ → Option (List ℕ)) (words : List (List ℕ)) (first second : Netlist) → IsSought held words first second → ReadFiles words
@@ -818,7 +1049,7 @@ module _ (held : List ℕ → Option (List ℕ)) (words : List (List ℕ)) (aske
         let reads = exact_reads held words o exact fact in
         elim (says_one held words answer o (stays_said reads) (says held words o reads known fact)) [
           | inl same ↦ same
-          | inr (inl both) ↦ absurd (exact_of_one o exact both.1)
+          | inr (inl (k, of, also)) ↦ absurd (exact_of_one k o exact also)
           | inr (inr both) ↦ absurd (exact_of_match o exact both.1)
         ],
   )
@@ -826,9 +1057,9 @@ module _ (held : List ℕ → Option (List ℕ)) (words : List (List ℕ)) (aske
   pub exactly_informed : ((ledger : Ledgered) → answer ≢ Spent ledger) → (answer ≡ Informed) ↔ IsAskedOf held words
   exactly_informed unspent = (
     λ is. subst (IsRight held words) is stays_right,
-    λ asked. elim (says_one held words answer Informed (stays_said (inr (inl (asked.file_name, asked.budget, asked.asks)))) (says_of held words Informed asked (inl refl))) [
+    λ asked. elim (says_one held words answer Informed (stays_said (inr (inl (asked.file_name, inl (asked.budget, asked.asks))))) (says_of held words Informed asked (inl refl))) [
       | inl same ↦ same
-      | inr (inl both) ↦ elim both.0 [ inl same ↦ same | inr (ledger, same) ↦ absurd (unspent ledger same) ]
+      | inr (inl (k, of, also)) ↦ elim (informed_alike k answer of also) [ inl same ↦ same | inr (ledger, same) ↦ absurd (unspent ledger same) ]
       | inr (inr both) ↦ absurd (informed_of_match both.1)
     ],
   )
@@ -836,7 +1067,7 @@ module _ (held : List ℕ → Option (List ℕ)) (words : List (List ℕ)) (aske
   pub of_match : IsAskedToMatch held words → IsOfMatch answer
   of_match asked = elim (says_one held words answer NoMatching (stays_said (sought_reads held words asked.first asked.second asked.files)) (says_match held words asked.first asked.second NoMatching asked.files (inr (inl refl)))) [
     | inl same ↦ inr (inl same)
-    | inr (inl both) ↦ absurd (none_of_one both.1)
+    | inr (inl (k, of, also)) ↦ absurd (none_of_one k also)
     | inr (inr both) ↦ both.0
   ]
 
@@ -857,8 +1088,9 @@ module _ (held : List ℕ → Option (List ℕ)) (words : List (List ℕ)) (aske
             (subst (λ name. held name ≡ Some is.account) (e.2 ∙ names.3) is.has.there)
             is.accepted says
         | inr (inr (inl (sought, asks, says))) ↦ absurd (trim_or_match words request sought asked.asks asks)
-        | inr (inr (inr (inl (file, budget, asks, says)))) ↦ absurd (trim_or_info words request file budget asked.asks asks)
-        | inr (inr (inr (inr (other, asks, says)))) ↦ absurd (convert_or_trim words other request asks asked.asks)
+        | inr (inr (inr (inl (j, file, asks, says)))) ↦ absurd (judged_or_one words 2 request.first request.second request.account j file by asks)
+        | inr (inr (inr (inr (inl (other, asks, says))))) ↦ absurd (convert_or_trim words other request asks asked.asks)
+        | inr (inr (inr (inr (inr (other, asks, says))))) ↦ absurd (flatten_or_trim words other request asks asked.asks)
       ]
 
   pub of_convert : IsAskedToConvert held words → IsOfConvert answer
@@ -867,8 +1099,9 @@ module _ (held : List ℕ → Option (List ℕ)) (words : List (List ℕ)) (aske
         | inl (same, nothing) ↦ absurd (nothing.no_convert asked.request asked.asks)
         | inr (inl (k, f, g, t, judge, says)) ↦ absurd (judged_or_convert words k f g t asked.request judge asked.asks)
         | inr (inr (inl (sought, asks, says))) ↦ absurd (convert_or_match words asked.request sought asked.asks asks)
-        | inr (inr (inr (inl (file, budget, asks, says)))) ↦ absurd (convert_or_info words asked.request file budget asked.asks asks)
-        | inr (inr (inr (inr (other, asks, says)))) ↦
+        | inr (inr (inr (inl (k, file, asks, says)))) ↦ absurd (convert_or_one words asked.request k file asked.asks asks)
+        | inr (inr (inr (inr (inr (other, asks, says))))) ↦ absurd (flatten_or_convert words other asked.request asks asked.asks)
+        | inr (inr (inr (inr (inl (other, asks, says))))) ↦
             let same : other.account ≡ asked.request.account = ap (word_at 1) (sym asks.form ∙ asked.asks.form) in
             elim (subst (λ name. SaysOld held name answer) same says) [
               | inl (e, none) ↦ let there = asked.there in cc
@@ -877,6 +1110,31 @@ module _ (held : List ℕ → Option (List ℕ)) (words : List (List ℕ)) (aske
                   let text : bytes ≡ asked.account = let there' = asked.there in cc in
                   absurd (account_or_fault asked.account asked.records wrong.before fault asked.formed (subst (λ b. HasFormFault b wrong.before fault) text wrong.has))
             ]
+      ]
+
+  pub of_flatten : IsAskedToFlatten held words → IsOfFlatten answer
+  of_flatten asked =
+      let gates = length asked.flat.graph.gates in
+      let told = Flattened asked.models asked.instances gates in
+      let known : IsDecided told = record { read = λ e. cc; reported = record { written = λ e. cc; room = λ e. cc } } in
+      (asked.models, asked.instances, gates, (exactly told known tt).1 (record { flat = asked.flat; is = asked.is; gates_are = refl }))
+
+  pub of_sweep : IsAskedToSweep held words → IsOfSweep answer
+  of_sweep asked =
+      let request = asked.request in
+      let by : AskOneBy words 1 request.file = inr (request, asked.asks, refl, refl) in
+      elim (stays_said (inr (inl (request.file, inr (request, asked.asks, refl))))) [
+        | inl (same, nothing) ↦ absurd (nothing.no_sweep request asked.asks)
+        | inr (inl (k, f, g, t, judge, says)) ↦ absurd (judged_or_sweep words k f g t request judge asked.asks)
+        | inr (inr (inl (sought, asks, says))) ↦ absurd (sweep_or_match words request sought asked.asks asks)
+        | inr (inr (inr (inl (k, file, asks, says)))) ↦
+            let names = named_once words 1 request.file k file by asks in
+            elim (subst (λ name. SaysFile First (held name) (IsOf k) answer) names.1 says) [
+              | inl end ↦ absurd (end_or_netlist First (held request.file) answer asked.netlist end asked.there)
+              | inr (f, there, of) ↦ subst (λ n. IsOf n answer) names.0 of
+            ]
+        | inr (inr (inr (inr (inl (other, asks, says))))) ↦ absurd (sweep_or_convert words request other asked.asks asks)
+        | inr (inr (inr (inr (inr (other, asks, says))))) ↦ absurd (sweep_or_flatten words request other asked.asks asks)
       ]
 
   pub exactly_none : ((ledger : Ledgered) → answer ≢ Spent ledger) → (answer ≡ NoMatching) ↔ HasNoMatch held words
@@ -907,19 +1165,21 @@ pub reported_read : IsReported ReadFault
 reported_read = record { written = λ e. cc; room = λ e. cc }
 
 -- where no file changes, each outcome that isn't of a file that is written leaves what it says
-pub leaves : (before after : List ℕ → Option (List ℕ)) (words : List (List ℕ)) (o : Outcome) → ((matching : Matching) → o ≢ Matched matching) → o ≢ NoMatching → o ≢ Made → ((gates : ℕ) → o ≢ Restored gates) → ((count left : ℕ) → o ≢ Trimmed count left) → ((from to records : ℕ) → o ≢ Converted from to records) → ((n : List ℕ) → after n ≡ before n) → Leaves before after words o
-leaves before after words (Matched matching) unmatched no_match no_pair no_netlist untrimmed unconverted same = absurd (unmatched matching refl)
-leaves before after words NoMatching unmatched no_match no_pair no_netlist untrimmed unconverted same = absurd (no_match refl)
-leaves before after words Made unmatched no_match no_pair no_netlist untrimmed unconverted same = absurd (no_pair refl)
-leaves before after words (Restored gates) unmatched no_match no_pair no_netlist untrimmed unconverted same = absurd (no_netlist gates refl)
-leaves before after words (Trimmed count left) unmatched no_match no_pair no_netlist untrimmed unconverted same = absurd (untrimmed count left refl)
-leaves before after words (Converted from to records) unmatched no_match no_pair no_netlist untrimmed unconverted same = absurd (unconverted from to records refl)
-leaves before after words WriteFault unmatched no_match no_pair no_netlist untrimmed unconverted same = inl same
-leaves before after words Memory unmatched no_match no_pair no_netlist untrimmed unconverted same = inl same
-leaves before after words other unmatched no_match no_pair no_netlist untrimmed unconverted same = same
+pub leaves : (before after : List ℕ → Option (List ℕ)) (words : List (List ℕ)) (o : Outcome) → ((matching : Matching) → o ≢ Matched matching) → o ≢ NoMatching → o ≢ Made → ((gates : ℕ) → o ≢ Restored gates) → ((count left : ℕ) → o ≢ Trimmed count left) → ((from to records : ℕ) → o ≢ Converted from to records) → ((models instances gates : ℕ) → o ≢ Flattened models instances gates) → ((count rest : ℕ) (left : Option Ledgered) → o ≢ Swept count rest left) → ((n : List ℕ) → after n ≡ before n) → Leaves before after words o
+leaves before after words (Matched matching) unmatched no_match no_pair no_netlist untrimmed unconverted unflattened unswept same = absurd (unmatched matching refl)
+leaves before after words NoMatching unmatched no_match no_pair no_netlist untrimmed unconverted unflattened unswept same = absurd (no_match refl)
+leaves before after words Made unmatched no_match no_pair no_netlist untrimmed unconverted unflattened unswept same = absurd (no_pair refl)
+leaves before after words (Restored gates) unmatched no_match no_pair no_netlist untrimmed unconverted unflattened unswept same = absurd (no_netlist gates refl)
+leaves before after words (Trimmed count left) unmatched no_match no_pair no_netlist untrimmed unconverted unflattened unswept same = absurd (untrimmed count left refl)
+leaves before after words (Converted from to records) unmatched no_match no_pair no_netlist untrimmed unconverted unflattened unswept same = absurd (unconverted from to records refl)
+leaves before after words (Flattened models instances gates) unmatched no_match no_pair no_netlist untrimmed unconverted unflattened unswept same = absurd (unflattened models instances gates refl)
+leaves before after words (Swept count rest left) unmatched no_match no_pair no_netlist untrimmed unconverted unflattened unswept same = absurd (unswept count rest left refl)
+leaves before after words WriteFault unmatched no_match no_pair no_netlist untrimmed unconverted unflattened unswept same = inl same
+leaves before after words Memory unmatched no_match no_pair no_netlist untrimmed unconverted unflattened unswept same = inl same
+leaves before after words other unmatched no_match no_pair no_netlist untrimmed unconverted unflattened unswept same = same
 
 pub leaves_early : (before after : List ℕ → Option (List ℕ)) (words : List (List ℕ)) (o : Outcome) → IsEarly o → ((n : List ℕ) → after n ≡ before n) → Leaves before after words o
-leaves_early before after words o early same = leaves before after words o (λ matching e. early.line.unmatched matching (inr e)) early.no_match early.no_pair early.no_netlist early.untrimmed early.unconverted same
+leaves_early before after words o early same = leaves before after words o (λ matching e. early.line.unmatched matching (inr e)) early.no_match early.no_pair early.no_netlist early.untrimmed early.unconverted early.unflattened early.unswept same
 
 -- the files were read up to an outcome that ends the run
 pub stopped : (tells : Bool) (command : Command) (old new : ShelfState) (result : Result Ending Outcome) (o : Outcome) → IsReadingCommand command → result ≡ Err o → ((n : List ℕ) → new.held n ≡ old.held n) → (IsTrue tells → (words : List (List ℕ)) → Ask words command → IsRight old.held words o) → IsOfReading o → NoCallFollows old new → (o ≡ ReadFault → Rose old.faults new.faults) → Decides tells command old new result
@@ -953,7 +1213,7 @@ check_decides tells command check old new result is checks =
     decides : (result : Result Ending Outcome) → Checks tells check old new result → Decides tells (asked_check check) old new result
     decides (Ok ending) checks = record {
       files = λ t n other. checks.files n;
-      left = λ t words asks. leaves old.held new.held words ending.outcome checks.judged.unmatched checks.judged.no_match checks.judged.no_pair checks.judged.no_netlist checks.judged.untrimmed checks.judged.unconverted checks.files;
+      left = λ t words asks. leaves old.held new.held words ending.outcome checks.judged.unmatched checks.judged.no_match checks.judged.no_pair checks.judged.no_netlist checks.judged.untrimmed checks.judged.unconverted checks.judged.unflattened checks.judged.unswept checks.files;
       right = λ t words asks. right_of_check old.held words ending.outcome (checks.right t words asks);
       by_words = λ words asks. follows_files words ending.outcome (reads_of words (asked_check check) tt asks) checks.judged.no_pair checks.judged.no_trial;
       sound = λ t words asks. sound_answer old.held words ending.outcome (checks.sound t words asks);

@@ -1,11 +1,11 @@
 -- Words have one form, and one reading in it.
 use Rattle.std.proofs.Common.{◌≡◌, ℕ, ◌<◌, ◌⊎◌, inl, inr, List, [], length, get_or, refl, sym, ◌∙◌, ap, arith}
-use Rattle.check_steps.specs.Words.{AskForPair, AsksCheck, AsksConvert, AsksInfo, AsksMatch, AsksRestore, AsksTrial, AsksTrim, AskNothing, ReadFiles}
-use Rattle.check_steps.specs.Words.{ConvertRequest, MatchRequest, RestoreRequest, TrimRequest, check_words}
-use Rattle.check_steps.specs.Asks.{Ask, convert_request, match_request, make_request, restore_request, trim_request}
+use Rattle.check_steps.specs.Words.{AskForPair, AsksCheck, AsksConvert, AsksFlatten, AsksInfo, AsksMatch, AsksRestore, AsksSweep, AsksTrial, AsksTrim, AskNothing, ReadFiles}
+use Rattle.check_steps.specs.Words.{ConvertRequest, FlattenRequest, MatchRequest, RestoreRequest, SweepRequest, TrimRequest, check_words}
+use Rattle.check_steps.specs.Asks.{Ask, convert_request, flatten_request, match_request, make_request, restore_request, sweep_request, trim_request}
 use Rattle.run_steps.specs.Commands.{IsReadingCommand, IsTrialCommand}
 use Rattle.check_steps.specs.declared.words.Command.{Command}
-use Rattle.check_steps.specs.declared.words.Command.TheVariants.{Check, Restore, Trim, Convert, Match, Info, Make, Trial}
+use Rattle.check_steps.specs.declared.words.Command.TheVariants.{Check, Restore, Trim, Convert, Flatten, Sweep, Match, Info, Make, Trial}
 
 pub names_one : (words : List (List ℕ)) (f g t f' g' t' : List ℕ) → AsksCheck words f g t → AsksCheck words f' g' t' → (f' ≡ f) × (g' ≡ g) × (t' ≡ t)
 names_one words f g t f' g' t' one other = let e = one.form in let e' = other.form in (cc, cc, cc)
@@ -13,6 +13,14 @@ names_one words f g t f' g' t' one other = let e = one.form in let e' = other.fo
 -- the second word is the file's name
 pub file_named : (words : List (List ℕ)) (file : List ℕ) (budget : ℕ) → AsksInfo words file budget → get_or words 1 [] ≡ file
 file_named words file budget asks =
+    elim asks.form [
+      | inl (form, is) ↦ ap (λ (words : List (List ℕ)). get_or words 1 []) form
+      | inr (word, form, is) ↦ ap (λ (words : List (List ℕ)). get_or words 1 []) form
+    ]
+
+-- and of a netlist that is to be swept
+pub swept_named : (words : List (List ℕ)) (request : SweepRequest) → AsksSweep words request → get_or words 1 [] ≡ request.file
+swept_named words request asks =
     elim asks.form [
       | inl (form, is) ↦ ap (λ (words : List (List ℕ)). get_or words 1 []) form
       | inr (word, form, is) ↦ ap (λ (words : List (List ℕ)). get_or words 1 []) form
@@ -84,7 +92,16 @@ convert_or_restore words request restored convert restore = omega (arith, ap len
 pub convert_or_trim : (words : List (List ℕ)) (request : ConvertRequest) (trimmed : TrimRequest) → AsksConvert words request → AsksTrim words trimmed → ⊥
 convert_or_trim words request trimmed convert trim = omega (arith, ap length convert.form, ap length trim.form)
 
--- commands by the fourth letter of the first word: `check` and `match` have the same, and no others
+pub flatten_or_check : (words : List (List ℕ)) (request : FlattenRequest) (f g t : List ℕ) → AsksFlatten words request → AsksCheck words f g t → ⊥
+flatten_or_check words request f g t flatten check = omega (arith, ap length flatten.form, ap length check.form)
+
+pub flatten_or_restore : (words : List (List ℕ)) (request : FlattenRequest) (restored : RestoreRequest) → AsksFlatten words request → AsksRestore words restored → ⊥
+flatten_or_restore words request restored flatten restore = omega (arith, ap length flatten.form, ap length restore.form)
+
+pub flatten_or_trim : (words : List (List ℕ)) (request : FlattenRequest) (trimmed : TrimRequest) → AsksFlatten words request → AsksTrim words trimmed → ⊥
+flatten_or_trim words request trimmed flatten trim = omega (arith, ap length flatten.form, ap length trim.form)
+
+-- commands by the fourth letter of the first word: `check` and `match` have the same, and so have `restore` and `flatten`
 
 abbrev fourth : List (List ℕ) → ℕ
 fourth words = get_or (get_or words 0 []) 3 0
@@ -112,20 +129,81 @@ convert_or_info words request file budget convert info =
     let is : 118 ≡ 111 = sym (ap fourth convert.form) ∙ fourth_of_info words file budget info in
     omega (arith, is)
 
+pub flatten_or_match : (words : List (List ℕ)) (request : FlattenRequest) (sought : MatchRequest) → AsksFlatten words request → AsksMatch words sought → ⊥
+flatten_or_match words request sought flatten asks =
+    let is : 116 ≡ 99 = sym (ap fourth flatten.form) ∙ ap fourth asks.form in
+    omega (arith, is)
+
+pub flatten_or_info : (words : List (List ℕ)) (request : FlattenRequest) (file : List ℕ) (budget : ℕ) → AsksFlatten words request → AsksInfo words file budget → ⊥
+flatten_or_info words request file budget flatten info =
+    let is : 116 ≡ 111 = sym (ap fourth flatten.form) ∙ fourth_of_info words file budget info in
+    omega (arith, is)
+
+pub flatten_or_convert : (words : List (List ℕ)) (request : FlattenRequest) (converted : ConvertRequest) → AsksFlatten words request → AsksConvert words converted → ⊥
+flatten_or_convert words request converted flatten convert =
+    let is : 116 ≡ 118 = sym (ap fourth flatten.form) ∙ ap fourth convert.form in
+    omega (arith, is)
+
+-- words that ask for a netlist to be swept begin with a letter that no others begin with
+
+abbrev first_letter : List (List ℕ) → ℕ
+first_letter words = get_or (get_or words 0 []) 0 0
+
+letter_of_sweep : (words : List (List ℕ)) (request : SweepRequest) → AsksSweep words request → first_letter words ≡ 115
+letter_of_sweep words request sweep = elim sweep.form [ inl (form, is) ↦ ap first_letter form | inr (word, form, is) ↦ ap first_letter form ]
+
+other_than_sweep : (words : List (List ℕ)) (request : SweepRequest) (letter : ℕ) → AsksSweep words request → first_letter words ≡ letter → (letter < 115) ⊎ (115 < letter) → ⊥
+other_than_sweep words request letter sweep is apart =
+    let same : 115 ≡ letter = sym (letter_of_sweep words request sweep) ∙ is in
+    elim apart [ inl low ↦ omega (arith, same, low) | inr high ↦ omega (arith, same, high) ]
+
+pub sweep_or_check : (words : List (List ℕ)) (request : SweepRequest) (f g t : List ℕ) → AsksSweep words request → AsksCheck words f g t → ⊥
+sweep_or_check words request f g t sweep check = other_than_sweep words request 99 sweep (ap first_letter check.form) (inl (omega arith))
+
+pub sweep_or_restore : (words : List (List ℕ)) (request : SweepRequest) (restored : RestoreRequest) → AsksSweep words request → AsksRestore words restored → ⊥
+sweep_or_restore words request restored sweep restore = other_than_sweep words request 114 sweep (ap first_letter restore.form) (inl (omega arith))
+
+pub sweep_or_trim : (words : List (List ℕ)) (request : SweepRequest) (trimmed : TrimRequest) → AsksSweep words request → AsksTrim words trimmed → ⊥
+sweep_or_trim words request trimmed sweep trim = other_than_sweep words request 116 sweep (ap first_letter trim.form) (inr (omega arith))
+
+pub sweep_or_convert : (words : List (List ℕ)) (request : SweepRequest) (converted : ConvertRequest) → AsksSweep words request → AsksConvert words converted → ⊥
+sweep_or_convert words request converted sweep convert = other_than_sweep words request 99 sweep (ap first_letter convert.form) (inl (omega arith))
+
+pub sweep_or_flatten : (words : List (List ℕ)) (request : SweepRequest) (flattened : FlattenRequest) → AsksSweep words request → AsksFlatten words flattened → ⊥
+sweep_or_flatten words request flattened sweep flatten = other_than_sweep words request 102 sweep (ap first_letter flatten.form) (inl (omega arith))
+
+pub sweep_or_match : (words : List (List ℕ)) (request : SweepRequest) (sought : MatchRequest) → AsksSweep words request → AsksMatch words sought → ⊥
+sweep_or_match words request sought sweep asks = other_than_sweep words request 109 sweep (ap first_letter asks.form) (inl (omega arith))
+
+pub sweep_or_info : (words : List (List ℕ)) (request : SweepRequest) (file : List ℕ) (budget : ℕ) → AsksSweep words request → AsksInfo words file budget → ⊥
+sweep_or_info words request file budget sweep info =
+    elim info.form [
+      | inl (form, is) ↦ other_than_sweep words request 105 sweep (ap first_letter form) (inl (omega arith))
+      | inr (word, form, is) ↦ other_than_sweep words request 105 sweep (ap first_letter form) (inl (omega arith))
+    ]
+
+sweep_or_make : (words : List (List ℕ)) (request : SweepRequest) → AsksSweep words request → AskForPair words → ⊥
+sweep_or_make words request sweep (made, make) = other_than_sweep words request 109 sweep (ap first_letter make.form) (inl (omega arith))
+
+sweep_or_trial : (words : List (List ℕ)) (request : SweepRequest) (number : ℕ) → AsksSweep words request → AsksTrial words number → ⊥
+sweep_or_trial words request number sweep trial = other_than_sweep words request 116 sweep (ap first_letter trial.form) (inr (omega arith))
+
 -- words that ask for a pair or for a trial name no file that is read
 
 abbrev IsFourthOfRead : ℕ → Type 0
 IsFourthOfRead letter = (letter ≡ 99) ⊎ (letter ≡ 111) ⊎ (letter ≡ 116) ⊎ (letter ≡ 109) ⊎ (letter ≡ 118)
 
-fourth_of_read : (words : List (List ℕ)) → ReadFiles words → IsFourthOfRead (fourth words)
-fourth_of_read words reads =
+fourth_of_read : (words : List (List ℕ)) → ((request : SweepRequest) → AsksSweep words request → ⊥) → ReadFiles words → IsFourthOfRead (fourth words)
+fourth_of_read words unswept reads =
     elim reads [
       | inl (first, second, account, inl asks) ↦ inl (ap fourth asks.form)
       | inl (first, second, account, inr (budget, seed, asks)) ↦ inl (ap fourth asks.form)
-      | inr (inl (file, budget, asks)) ↦ inr (inl (fourth_of_info words file budget asks))
+      | inr (inl (file, inl (budget, asks))) ↦ inr (inl (fourth_of_info words file budget asks))
+      | inr (inl (file, inr (request, asks, is))) ↦ absurd (unswept request asks)
       | inr (inr (inl (request, asks))) ↦ inr (inr (inl (ap fourth asks.form)))
       | inr (inr (inr (inl (request, asks)))) ↦ inr (inr (inr (inl (ap fourth asks.form))))
-      | inr (inr (inr (inr (request, asks)))) ↦ inr (inr (inr (inr (ap fourth asks.form))))
+      | inr (inr (inr (inr (inl (request, asks))))) ↦ inr (inr (inr (inr (ap fourth asks.form))))
+      | inr (inr (inr (inr (inr (request, asks))))) ↦ inr (inr (inl (ap fourth asks.form)))
     ]
 
 -- a letter of no such command
@@ -150,11 +228,11 @@ other_letter letter other read is apart =
 
 pub read_or_make : (words : List (List ℕ)) → ReadFiles words → AskForPair words → ⊥
 read_or_make words reads (request, make) =
-    other_letter (fourth words) 101 (fourth_of_read words reads) (ap fourth make.form) (inr (omega arith, omega arith))
+    other_letter (fourth words) 101 (fourth_of_read words (λ swept sweep. sweep_or_make words swept sweep (request, make)) reads) (ap fourth make.form) (inr (omega arith, omega arith))
 
 pub read_or_trial : (words : List (List ℕ)) (number : ℕ) → ReadFiles words → AsksTrial words number → ⊥
 read_or_trial words number reads trial =
-    other_letter (fourth words) 97 (fourth_of_read words reads) (ap fourth trial.form) (inl (omega arith))
+    other_letter (fourth words) 97 (fourth_of_read words (λ swept sweep. sweep_or_trial words swept number sweep trial) reads) (ap fourth trial.form) (inl (omega arith))
 
 pub make_or_trial : (words : List (List ℕ)) (number : ℕ) → AskForPair words → AsksTrial words number → ⊥
 make_or_trial words number (request, make) trial =
@@ -165,10 +243,12 @@ make_or_trial words number (request, make) trial =
 pub reads_of : (words : List (List ℕ)) (command : Command) → IsReadingCommand command → Ask words command → ReadFiles words
 reads_of words (Check check) is asks = inl (check.first.now, check.second.now, check.account.now, inl asks)
 reads_of words (Match sought) is asks = inl (sought.first.now, sought.second.now, sought.account.now, inr (sought.budget, sought.seed, asks))
-reads_of words (Info info) is asks = inr (inl (info.file.now, info.budget, asks))
+reads_of words (Info info) is asks = inr (inl (info.file.now, inl (info.budget, asks)))
 reads_of words (Restore asked) is asks = inr (inr (inl (restore_request asked, asks)))
 reads_of words (Trim asked) is asks = inr (inr (inr (inl (trim_request asked, asks))))
-reads_of words (Convert asked) is asks = inr (inr (inr (inr (convert_request asked, asks))))
+reads_of words (Convert asked) is asks = inr (inr (inr (inr (inl (convert_request asked, asks)))))
+reads_of words (Flatten asked) is asks = inr (inr (inr (inr (inr (flatten_request asked, asks)))))
+reads_of words (Sweep asked) is asks = inr (inl (asked.file.now, inr (sweep_request asked, asks, refl)))
 reads_of words (Make asked) is asks = absurd is
 reads_of words (Trial trial) is asks = absurd is
 
@@ -179,6 +259,8 @@ trial_command words (Match sought) number asks trial = absurd (read_or_trial wor
 trial_command words (Restore asked) number asks trial = absurd (read_or_trial words number (reads_of words (Restore asked) tt asks) trial)
 trial_command words (Trim asked) number asks trial = absurd (read_or_trial words number (reads_of words (Trim asked) tt asks) trial)
 trial_command words (Convert asked) number asks trial = absurd (read_or_trial words number (reads_of words (Convert asked) tt asks) trial)
+trial_command words (Flatten asked) number asks trial = absurd (read_or_trial words number (reads_of words (Flatten asked) tt asks) trial)
+trial_command words (Sweep asked) number asks trial = absurd (read_or_trial words number (reads_of words (Sweep asked) tt asks) trial)
 trial_command words (Info info) number asks trial = absurd (read_or_trial words number (reads_of words (Info info) tt asks) trial)
 trial_command words (Make asked) number asks trial = absurd (make_or_trial words number (make_request asked, asks) trial)
 trial_command words (Trial tried) number asks trial = tt
@@ -189,6 +271,8 @@ known_form words (Check check) asks nothing = nothing.no_check check.first.now c
 known_form words (Restore asked) asks nothing = nothing.no_restore (restore_request asked) asks
 known_form words (Trim asked) asks nothing = nothing.no_trim (trim_request asked) asks
 known_form words (Convert asked) asks nothing = nothing.no_convert (convert_request asked) asks
+known_form words (Flatten asked) asks nothing = nothing.no_flatten (flatten_request asked) asks
+known_form words (Sweep asked) asks nothing = nothing.no_sweep (sweep_request asked) asks
 known_form words (Match sought) asks nothing = nothing.no_match (match_request sought) asks
 known_form words (Info info) asks nothing = nothing.no_info info.file.now info.budget asks
 known_form words (Make asked) asks nothing = nothing.no_make (make_request asked) asks

@@ -44,7 +44,7 @@ informs tells info old new named (Ok ending) files clean read is =
         netlist = netlist_of read.circuit named;
         there = read.held t;
       });
-      by_words = λ words asks. subst (FollowsWords words) (sym rows.0) (follows_files words Informed (inr (inl (info.file.now, info.budget, asks))) (λ e. cc) (λ number account e. cc));
+      by_words = λ words asks. subst (FollowsWords words) (sym rows.0) (follows_files words Informed (inr (inl (info.file.now, inl (info.budget, asks)))) (λ e. cc) (λ number account e. cc));
       sound = λ t words asks. subst (IsSoundAnswer old.held words) (sym rows.0) (record { matches = λ matching e. cc; refuses = λ e. cc });
       report = λ words asks. inr (inr (
         rows.0,

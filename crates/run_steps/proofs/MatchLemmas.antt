@@ -8,6 +8,7 @@ use Rattle.circuits.proofs.MatchLaws.{match_from_functions, functions_from_equal
 use Rattle.net_print.specs.BlifLines.{blif_text}
 use Rattle.net_file.specs.declared.named.Named.{Named}
 use Rattle.shelf_core.specs.State.{ShelfState}
+use Rattle.query_core.specs.Ledgers.{Ledgered}
 use Rattle.account_check.specs.Verdicts.{IsAccepted as Proves}
 use Rattle.account_check.specs.declared.verdict.Verdict.{Verdict}
 use Rattle.account_check.specs.declared.verdict.Verdict.TheVariants as verdict
@@ -17,8 +18,10 @@ use Rattle.run_steps.specs.Make.{HasMadePair, HasPartOfPair, NamesPair, WriteFil
 use Rattle.run_steps.specs.Restore.{HasPartOfRestored, HasRestored, NamesRestored}
 use Rattle.run_steps.specs.Trim.{HasPartOfTrimmed, HasTrimmed, NamesTrimmed}
 use Rattle.run_steps.specs.Convert.{HasConverted, HasPartOfConverted, NamesConverted}
+use Rattle.run_steps.specs.Flatten.{HasFlattened, HasPartOfFlattened, NamesFlattened}
+use Rattle.run_steps.specs.Sweep.{HasPartOfSwept, HasSwept, NamesSwept}
 use Rattle.run_steps.specs.Outcomes.{FollowsWords, IsRight, IsSoundAnswer, Leaves, LeavesFiles, MayBeCut}
-use Rattle.check_steps.specs.Asks.{Ask, convert_request, match_request, make_request, restore_request, trim_request}
+use Rattle.check_steps.specs.Asks.{Ask, convert_request, flatten_request, match_request, make_request, restore_request, sweep_request, trim_request}
 use Rattle.run_steps.specs.Commands.{IsWritingCommand, IsNotWritten, asked_match}
 use Rattle.run_steps.specs.Steps.{Decides, Finds, IsAnswered, IsCutOf, IsEnding, IsStopOfMatch, IsStopWithin}
 use Rattle.check_steps.specs.Reading.{IsEarly, IsReadFrom, netlist_of}
@@ -26,10 +29,10 @@ use Rattle.check_steps.specs.Judged.{graphs_of}
 use Rattle.check_steps.specs.Words.{AsksMatch, ReadFiles, check_words}
 use Rattle.check_steps.specs.declared.words.Match.{Match as MatchWords}
 use Rattle.check_steps.specs.declared.words.Command.{Command}
-use Rattle.check_steps.specs.declared.words.Command.TheVariants.{Restore, Trim, Convert, Match, Make}
+use Rattle.check_steps.specs.declared.words.Command.TheVariants.{Restore, Trim, Convert, Flatten, Sweep, Match, Make}
 use Rattle.check_steps.specs.declared.outcome.Ending.{Ending}
 use Rattle.check_steps.specs.declared.outcome.Outcome.{Outcome}
-use Rattle.check_steps.specs.declared.outcome.Outcome.TheVariants.{Matched, NoMatching, Informed, Made, Restored, Trimmed, Converted, ReadFault, WriteFault, Memory}
+use Rattle.check_steps.specs.declared.outcome.Outcome.TheVariants.{Matched, NoMatching, Informed, Made, Restored, Trimmed, Converted, Flattened, Swept, ReadFault, WriteFault, Memory}
 use Rattle.run_steps.proofs.CheckLemmas.{follows_files, follows_unwritten, leaves_early}
 use Rattle.run_steps.proofs.PartLemmas.{whole_by_end}
 use Rattle.run_steps.proofs.OutcomeLemmas.{early_unwritten, no_fault, of_answer, of_stop, of_unwritten, stop_line}
@@ -95,6 +98,32 @@ part_of_converted before after words from to records is =
       part = is.there ∙ ap Some (sym (take_all (length bytes) bytes (omega arith)));
     }
 
+-- a whole netlist that is flattened is its first part
+part_of_flattened : (before after : List ℕ → Option (List ℕ)) (words : List (List ℕ)) (models instances gates : ℕ) → HasFlattened before after words models instances gates → HasPartOfFlattened before after words
+part_of_flattened before after words models instances gates is = record {
+  flat = is.flattening.flat;
+  models = models;
+  instances = instances;
+  is = is.flattening.is;
+  bytes = is.bytes;
+  file = is.file;
+  count = length is.bytes;
+  part = is.there ∙ ap Some (sym (take_all (length is.bytes) is.bytes (omega arith)));
+}
+
+-- a whole netlist that is swept is its first part
+part_of_swept : (held held_now : List ℕ → Option (List ℕ)) (words : List (List ℕ)) (before after : ℕ) (left : Option Ledgered) → HasSwept held held_now words before after left → HasPartOfSwept held held_now words
+part_of_swept held held_now words before after left is = record {
+  before = before;
+  after = after;
+  left = left;
+  sweep = is.sweep;
+  bytes = is.bytes;
+  file = is.file;
+  count = length is.bytes;
+  part = is.there ∙ ap Some (sym (take_all (length is.bytes) is.bytes (omega arith)));
+}
+
 -- a whole pair is its first part
 part_of_pair : (before after : List ℕ → Option (List ℕ)) (words : List (List ℕ)) → HasMadePair after words → HasPartOfPair before after words
 part_of_pair before after words is =
@@ -113,7 +142,9 @@ may_be_cut before after words NoMatching left = inr (inl (part_of after words ve
 may_be_cut before after words Made left = inr (inr (inl (part_of_pair before after words left)))
 may_be_cut before after words (Restored gates) left = inr (inr (inr (inl (part_of_restored before after words gates left))))
 may_be_cut before after words (Trimmed count rest) left = inr (inr (inr (inr (inl (part_of_trimmed before after words count rest left)))))
-may_be_cut before after words (Converted from to records) left = inr (inr (inr (inr (inr (part_of_converted before after words from to records left)))))
+may_be_cut before after words (Converted from to records) left = inr (inr (inr (inr (inr (inl (part_of_converted before after words from to records left))))))
+may_be_cut before after words (Flattened models instances gates) left = inr (inr (inr (inr (inr (inr (inl (part_of_flattened before after words models instances gates left)))))))
+may_be_cut before after words (Swept gates rest ledger) left = inr (inr (inr (inr (inr (inr (inr (part_of_swept before after words gates rest ledger left)))))))
 may_be_cut before after words WriteFault left = left
 may_be_cut before after words Memory left = left
 may_be_cut before after words other left = inl left
@@ -125,25 +156,31 @@ kept before after words Made none left = absurd (none.no_pair refl)
 kept before after words (Restored gates) none left = absurd (none.no_netlist gates refl)
 kept before after words (Trimmed count rest) none left = absurd (none.untrimmed count rest refl)
 kept before after words (Converted from to records) none left = absurd (none.unconverted from to records refl)
+kept before after words (Flattened models instances gates) none left = absurd (none.unflattened models instances gates refl)
+kept before after words (Swept gates rest ledger) none left = absurd (none.unswept gates rest ledger refl)
 kept before after words WriteFault none left = absurd (none.reported.written refl)
 kept before after words Memory none left = absurd (none.reported.room refl)
 kept before after words other none left = left
 
 -- a name that is none of those that a command writes isn't written
-pub not_written : (words : List (List ℕ)) (command : Command) (name : List ℕ) → Ask words command → (NamesAccount words name → ⊥) → (NamesPair words name → ⊥) → (NamesRestored words name → ⊥) → (NamesTrimmed words name → ⊥) → (NamesConverted words name → ⊥) → IsNotWritten command name
-not_written words (Match asked) name asks other apart unrestored untrimmed unconverted = λ same. other (match_request asked, asks, same)
-not_written words (Make asked) name asks other apart unrestored untrimmed unconverted = (λ same. apart (make_request asked, asks, inl same), λ same. apart (make_request asked, asks, inr same))
-not_written words (Restore asked) name asks other apart unrestored untrimmed unconverted = λ same. unrestored (restore_request asked, asks, same)
-not_written words (Trim asked) name asks other apart unrestored untrimmed unconverted = λ same. untrimmed (trim_request asked, asks, same)
-not_written words (Convert asked) name asks other apart unrestored untrimmed unconverted = λ same. unconverted (convert_request asked, asks, same)
-not_written words command name asks other apart unrestored untrimmed unconverted = tt
+pub not_written : (words : List (List ℕ)) (command : Command) (name : List ℕ) → Ask words command → (NamesAccount words name → ⊥) → (NamesPair words name → ⊥) → (NamesRestored words name → ⊥) → (NamesTrimmed words name → ⊥) → (NamesConverted words name → ⊥) → (NamesFlattened words name → ⊥) → (NamesSwept words name → ⊥) → IsNotWritten command name
+not_written words (Match asked) name asks other apart unrestored untrimmed unconverted unflattened unswept = λ same. other (match_request asked, asks, same)
+not_written words (Make asked) name asks other apart unrestored untrimmed unconverted unflattened unswept = (λ same. apart (make_request asked, asks, inl same), λ same. apart (make_request asked, asks, inr same))
+not_written words (Restore asked) name asks other apart unrestored untrimmed unconverted unflattened unswept = λ same. unrestored (restore_request asked, asks, same)
+not_written words (Trim asked) name asks other apart unrestored untrimmed unconverted unflattened unswept = λ same. untrimmed (trim_request asked, asks, same)
+not_written words (Convert asked) name asks other apart unrestored untrimmed unconverted unflattened unswept = λ same. unconverted (convert_request asked, asks, same)
+not_written words (Flatten asked) name asks other apart unrestored untrimmed unconverted unflattened unswept = λ same. unflattened (flatten_request asked, asks, same)
+not_written words (Sweep asked) name asks other apart unrestored untrimmed unconverted unflattened unswept = λ same. unswept (sweep_request asked, asks, same)
+not_written words command name asks other apart unrestored untrimmed unconverted unflattened unswept = tt
 
 pub writes_of : (words : List (List ℕ)) (command : Command) → Ask words command → IsWritingCommand command → WriteFiles words
 writes_of words (Match asked) asks is = inl (match_request asked, asks)
 writes_of words (Make asked) asks is = inr (inl (make_request asked, asks))
 writes_of words (Restore asked) asks is = inr (inr (inl (restore_request asked, asks)))
 writes_of words (Trim asked) asks is = inr (inr (inr (inl (trim_request asked, asks))))
-writes_of words (Convert asked) asks is = inr (inr (inr (inr (convert_request asked, asks))))
+writes_of words (Convert asked) asks is = inr (inr (inr (inr (inl (convert_request asked, asks)))))
+writes_of words (Flatten asked) asks is = inr (inr (inr (inr (inr (inl (flatten_request asked, asks))))))
+writes_of words (Sweep asked) asks is = inr (inr (inr (inr (inr (inr (sweep_request asked, asks))))))
 writes_of words other asks is = absurd is
 
 -- where one name holds what it held, and so do all others, nothing changed

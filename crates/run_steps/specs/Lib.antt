@@ -1,5 +1,6 @@
 pub mod Commands
 pub mod Convert
+pub mod Flatten
 pub mod Info
 pub mod Make
 pub mod Match
@@ -8,6 +9,7 @@ pub mod Report
 pub mod Restore
 pub mod Steps
 pub mod Stops
+pub mod Sweep
 pub mod Trial
 pub mod Trim
 pub mod Writing
@@ -28,6 +30,7 @@ pub use Rattle.check_steps.specs.Words
 pub use Rattle.claim_core.specs.Rows
 pub use Rattle.gen_pair.specs.Names
 pub use Rattle.gen_pair.specs.Pairs
+pub use Rattle.hier_blif.specs.Hierarchies
 pub use Rattle.net_print.specs.BlifLines
 pub use Rattle.net_print.specs.Files as PrintedFiles
 pub use Rattle.oracle_core.specs.Enough
@@ -37,3 +40,4 @@ pub use Rattle.port_report.specs.Infos
 pub use Rattle.port_report.specs.Reports
 pub use Rattle.print_laws.specs.Printable
 pub use Rattle.query_core.specs.Ledgers
+pub use Rattle.sweep.specs.Swept

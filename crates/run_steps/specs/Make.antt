@@ -10,8 +10,8 @@ use Rattle.gen_pair.specs.Pairs.{ArePairOf, HasSizes}
 use Rattle.net_print.specs.BlifLines.{blif_text}
 use Rattle.net_print.specs.Files.{aig_text}
 use Rattle.check_steps.specs.Held.{Netlist, HasNetlist}
-use Rattle.check_steps.specs.Words.{AsksConvert, AsksMake, AsksMatch, AsksRestore, AsksTrim}
-use Rattle.check_steps.specs.Words.{ConvertRequest, MatchRequest, MakeRequest, RestoreRequest, TrimRequest}
+use Rattle.check_steps.specs.Words.{AsksConvert, AsksFlatten, AsksMake, AsksMatch, AsksRestore, AsksSweep, AsksTrim}
+use Rattle.check_steps.specs.Words.{ConvertRequest, FlattenRequest, MatchRequest, MakeRequest, RestoreRequest, SweepRequest, TrimRequest}
 
 -- The pair of a number: two graphs of 64 inputs, 32 outputs and 2,000 gates, and a match of them.
 pub record IsPairOf (number : ℕ) (first second : Net) (matching : Matching) : Type 0 where
@@ -64,8 +64,8 @@ pub record HasPartOfPair (before after : List ℕ → Option (List ℕ)) (words 
       ⊎ ((after request.first ≡ Some (aig_text pair.first))
       × IsCutFrom (blif_text pair.second.graph) (before request.second) (after request.second))
 
--- the words ask for a match, for a pair, for a netlist to be restored, or for an account to be trimmed or converted: these
--- are written
+-- the words ask for a match, for a pair, for a netlist to be restored, flattened or swept, or for an account to be trimmed or
+-- converted: these are written
 abbrev pub WriteFiles : List (List ℕ) → Type 0
 WriteFiles words =
     ((sought : MatchRequest) × AsksMatch words sought)
@@ -73,6 +73,8 @@ WriteFiles words =
     ⊎ ((request : RestoreRequest) × AsksRestore words request)
     ⊎ ((request : TrimRequest) × AsksTrim words request)
     ⊎ ((request : ConvertRequest) × AsksConvert words request)
+    ⊎ ((request : FlattenRequest) × AsksFlatten words request)
+    ⊎ ((request : SweepRequest) × AsksSweep words request)
 
 -- the words ask for a pair, of which one file has this name
 abbrev pub NamesPair : List (List ℕ) → List ℕ → Type 0

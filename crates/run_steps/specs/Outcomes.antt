@@ -12,13 +12,15 @@ use Rattle.run_steps.specs.Make.{HasMadePair, HasPartOfPair}
 use Rattle.run_steps.specs.Restore.{AsChecked, HasPartOfRestored, HasRestored, IsRestorable}
 use Rattle.run_steps.specs.Trim.{AsRead, HasPartOfTrimmed, HasTrimmed, IsTrimmedTo}
 use Rattle.run_steps.specs.Convert.{HasConverted, HasPartOfConverted, IsConvertedTo, IsIllFormed, LacksOld}
+use Rattle.run_steps.specs.Flatten.{HasFlattened, HasPartOfFlattened, IsBadHierarchy, IsFlattenedTo, LacksModels}
+use Rattle.run_steps.specs.Sweep.{HasPartOfSwept, HasSwept, IsSweptTo}
 use Rattle.run_steps.specs.Trial.{IsSpentOnPair, IsSpentOnPairOf, IsTried}
 use Rattle.check_steps.specs.Words.{AskForPair, AsksInfo, AskNothing, AsksTrial, ReadFiles}
 use Rattle.check_steps.specs.declared.outcome.Which.TheVariants.{Account}
 use Rattle.check_steps.specs.declared.outcome.Outcome.{Outcome}
 use Rattle.check_steps.specs.declared.outcome.Outcome.TheVariants.{AcceptedMatch, AcceptedRefusal, Rejected, Matched, NoMatching, Spent, Usage, Absent}
 use Rattle.check_steps.specs.declared.outcome.Outcome.TheVariants.{TooLarge, Malformed, Informed, Made, Restored, Trimmed, Converted}
-use Rattle.check_steps.specs.declared.outcome.Outcome.TheVariants.{Tried, ReadFault, WriteFault, Memory}
+use Rattle.check_steps.specs.declared.outcome.Outcome.TheVariants.{BadHierarchy, Flattened, Swept, Tried, ReadFault, WriteFault, Memory}
 use Rattle.check_steps.specs.Ends.{EndsEarly, IsAbsent}
 
 -- The words ask for what is known of a file that is a netlist.
@@ -69,12 +71,18 @@ IsRight held words Made = AskForPair words
 IsRight held words (Restored gates) = IsRestorable held words gates
 IsRight held words (Trimmed before after) = IsTrimmedTo held words before after
 IsRight held words (Converted from to records) = IsConvertedTo held words from to records
+IsRight held words (Flattened models instances gates) = IsFlattenedTo held words models instances gates
+IsRight held words (Swept before after left) = IsSweptTo held words before after left
 IsRight held words (Tried number account) = IsTried words number account
 IsRight held words Usage = AskNothing words
 IsRight held words (Absent which) =
-    AsRead (λ checked. IsAbsent held checked which) words ⊎ ((which ≡ Account) × LacksOld held words)
-IsRight held words (TooLarge which) = AsRead (λ checked. EndsEarly held checked (TooLarge which)) words
+    AsRead (λ checked. IsAbsent held checked which) words
+    ⊎ ((which ≡ Account) × LacksOld held words)
+    ⊎ LacksModels held words (Absent which)
+IsRight held words (TooLarge which) =
+    AsRead (λ checked. EndsEarly held checked (TooLarge which)) words ⊎ LacksModels held words (TooLarge which)
 IsRight held words (Malformed which kind at) = AsRead (λ checked. EndsEarly held checked (Malformed which kind at)) words
+IsRight held words (BadHierarchy fault) = IsBadHierarchy held words fault
 IsRight held words other = Unit {0}
 
 -- Whoever wrote the account, a matching that is accepted is a match of the files' netlists, and where a refusal is
@@ -106,6 +114,8 @@ pub record LeavesFiles (outcome : Outcome) : Type 0 where
   pub no_netlist : (gates : ℕ) → outcome ≢ Restored gates
   pub untrimmed : (before after : ℕ) → outcome ≢ Trimmed before after
   pub unconverted : (from to records : ℕ) → outcome ≢ Converted from to records
+  pub unflattened : (models instances gates : ℕ) → outcome ≢ Flattened models instances gates
+  pub unswept : (before after : ℕ) (left : Option Ledgered) → outcome ≢ Swept before after left
   pub reported : IsReported outcome
 
 -- What the words alone say of an outcome, whatever the files have.
@@ -117,7 +127,7 @@ pub record FollowsWords (words : List (List ℕ)) (outcome : Outcome) : Type 0 w
   pub read : outcome ≡ ReadFault → ReadFiles words
 
 -- a fault came or memory ran out, which leaves no file changed, or a first part of the account, of a pair, of a
--- netlist that is restored, or of an account that is trimmed or converted
+-- netlist that is restored, flattened or swept, or of an account that is trimmed or converted
 abbrev pub MayBeCut : (List ℕ → Option (List ℕ)) → (List ℕ → Option (List ℕ)) → List (List ℕ) → Type 0
 MayBeCut before after words =
     ((name : List ℕ) → after name ≡ before name)
@@ -126,6 +136,8 @@ MayBeCut before after words =
     ⊎ HasPartOfRestored before after words
     ⊎ HasPartOfTrimmed before after words
     ⊎ HasPartOfConverted before after words
+    ⊎ HasPartOfFlattened before after words
+    ⊎ HasPartOfSwept before after words
 
 -- what an outcome says of the files before and afterwards
 abbrev pub Leaves : (List ℕ → Option (List ℕ)) → (List ℕ → Option (List ℕ)) → List (List ℕ) → Outcome → Type 0
@@ -135,6 +147,8 @@ Leaves before after words Made = HasMadePair after words
 Leaves before after words (Restored gates) = HasRestored before after words gates
 Leaves before after words (Trimmed count left) = HasTrimmed before after words count left
 Leaves before after words (Converted from to records) = HasConverted before after words from to records
+Leaves before after words (Flattened models instances gates) = HasFlattened before after words models instances gates
+Leaves before after words (Swept gates rest left) = HasSwept before after words gates rest left
 Leaves before after words WriteFault = MayBeCut before after words
 Leaves before after words Memory = MayBeCut before after words
 Leaves before after words other = (name : List ℕ) → after name ≡ before name

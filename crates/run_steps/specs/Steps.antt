@@ -157,8 +157,8 @@ pub record IsEnding (outcome : Outcome) : Type 0 where
 
 -- Deciding by the files that a command names.
 pub record Decides (tells : Bool) (command : Command) (old new : ShelfState) (result : Result Ending Outcome) : Type 0 where
-  -- no file changes but the account of a match, the two of a pair, a netlist that is restored, and an account that is
-  -- trimmed or converted
+  -- no file changes but the account of a match, the two of a pair, a netlist that is restored, flattened or swept, and
+  -- an account that is trimmed or converted
   pub files : IsTrue tells → (n : List ℕ) → IsNotWritten command n → new.held n ≡ old.held n
   pub left : IsTrue tells
       → (words : List (List ℕ))

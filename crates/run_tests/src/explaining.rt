@@ -3,7 +3,7 @@
 ghost use Rattle.std.specs.Prelude.{◌≡◌, ◌≤◌, IfOk};
 ghost use Rattle.shelf_core.specs.State.{Closed};
 
-use crate::files::{A, AND, AND_XOR, B, C17, C17_MOVED, EMPTY, TABLE, THREE, TWO, XOR};
+use crate::files::{A, AND, AND_XOR, B, C17, C17_MOVED, EMPTY, SAME_TWICE, TABLE, THREE, TWO, XOR};
 use crate::runs::{CHECK, MATCH, files_of, words_of};
 use explain::{
     EndedRun, FailedFile, FolderFault, Notice, Warning, explain, fault_of_words, folder_of,
@@ -110,12 +110,12 @@ static MALFORMED: [(&[u8], &str); 15] = [
     (
         b".inputs a\n.outputs y\n.subckt m x=a z=y\n",
         "A:3:1: a directive that is not known or out of place\n  .subckt m x=a z=y\n\
-         A: flatten it to one model: `yosys -p 'read_blif F; hierarchy -auto-top; flatten; write_blif G'`\n",
+         A: flatten it to one model: `npnp flatten F G`\n",
     ),
     (
         b".model m\n.inputs a\n.outputs a\n.end\n.model n\n",
         "A:5:1: a second model: one is read\n  .model n\n\
-         A: flatten it to one model: `yosys -p 'read_blif F; hierarchy -auto-top; flatten; write_blif G'`\n",
+         A: flatten it to one model: `npnp flatten F G`\n",
     ),
     (
         b".inputs a\n.outputs q\n.latch a q re c 0\n",
@@ -251,7 +251,7 @@ fn says_why_there_is_no_match(rt: HostRuntime) -> Result<(), Fail> {
 
 /// Words, netlists and an account, and what is told of the run: of a budget that is spent, of names that can be given
 /// back, and nothing where the report says it all.
-static TOLD: [(&[&str], [&[u8]; 2], Option<&[u8]>, &str); 5] = [
+static TOLD: [(&[&str], [&[u8]; 2], Option<&[u8]>, &str); 8] = [
     (
         &["info", "A", "0"],
         [AND, EMPTY],
@@ -286,6 +286,21 @@ static TOLD: [(&[&str], [&[u8]; 2], Option<&[u8]>, &str); 5] = [
         "npnp: `npnp restore A B t NEW` gives the names back: NEW is B with the ports of A\n",
     ),
     (CHECK, [A, B], Some(TABLE), ""),
+    (
+        &["flatten", "A", "n"],
+        [b".inputs a\n.outputs y\n.subckt m x=a y=y\n", EMPTY],
+        None,
+        "A:3:9: an instance of no BLIF model\n  .subckt m x=a y=y\n",
+    ),
+    (
+        &["sweep", "A", "n", "0"],
+        [SAME_TWICE, EMPTY],
+        None,
+        "npnp: the allowance of 0 learned clauses was spent: signals that weren't compared by then stay as they are\n\
+         npnp: lines by how many literals they have, with the refused one: 1 of 0, 0 of 1, 0 of 2, 0 of 3 or 4, 0 \
+         of 5 to 8, 0 of more\n",
+    ),
+    (&["sweep", "A", "n"], [SAME_TWICE, EMPTY], None, ""),
 ];
 
 #[test]
@@ -330,7 +345,7 @@ fn changes_no_file(rt: HostRuntime) -> Result<(), Fail> {
 }
 
 /// Words of no form, and what is told of them before the forms.
-static USAGE: [(&[&str], &str); 20] = [
+static USAGE: [(&[&str], &str); 26] = [
     (&[], "no command is given"),
     (&["mach", "A", "B", "t"], "`mach` is no command"),
     (&["ma\x1btch"], "`ma?tch` is no command"),
@@ -375,6 +390,18 @@ static USAGE: [(&[&str], &str); 20] = [
         &["convert", "t", "t"],
         "NEW is the same word as OLD, and would be written over it",
     ),
+    (&["flatten", "A"], "NEW is missing"),
+    (
+        &["flatten", "A", "A"],
+        "NEW is the same word as FILE, and would be written over it",
+    ),
+    (&["sweep", "A"], "NEW is missing"),
+    (
+        &["sweep", "A", "A", "7"],
+        "NEW is the same word as FILE, and would be written over it",
+    ),
+    (&["sweep", "A", "n", "x"], "ALLOWANCE is no number: `x`"),
+    (&["sweep", "A", "n", "7", "8"], "`8` is a word too many"),
 ];
 
 #[test]

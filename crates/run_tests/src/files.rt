@@ -38,6 +38,9 @@ pub(crate) const C17: &[u8] =
 pub(crate) const C17_MOVED: &[u8] =
     b"aig 11 5 0 2 6\n23\n21\n\x04\x03\x08\x01\x03\x03\x05\x0b\x03\x02\x03\x02";
 
+/// The AND of two inputs, and the AND of it and an input, which is the same.
+pub(crate) const SAME_TWICE: &[u8] = b"aag 4 2 0 2 2\n2\n4\n6\n8\n6 2 4\n8 6 2\n";
+
 /// The exclusive or of two inputs.
 pub(crate) const XOR: &[u8] = b"aag 5 2 0 1 3\n2\n4\n10\n6 2 4\n8 3 5\n10 7 9\n";
 

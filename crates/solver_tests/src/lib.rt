@@ -1,4 +1,5 @@
-//! Tests of clauses and their refutation, of queries, of the solver, and of the vectors that are simulated.
+//! Tests of clauses and their refutation, of queries, of the solver, of netlists that are reduced, and of the vectors
+//! that are simulated.
 #![tactic(auto)]
 
 #[cfg(test)]
@@ -19,6 +20,8 @@ mod refuters;
 mod sightings;
 #[cfg(test)]
 mod solvers;
+#[cfg(test)]
+mod swept;
 #[cfg(test)]
 mod trails;
 #[cfg(test)]

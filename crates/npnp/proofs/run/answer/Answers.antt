@@ -31,10 +31,10 @@ pub returns-in-Err-clause-no_form : goal.returns-in-Err-clause-no_form
 returns-in-Err-clause-no_form g c = λ nothing. absurd (known_form _ _ c.in-Some.ensures.asked nothing)
 
 pub returns-in-Ok-clause-files : goal.returns-in-Ok-clause-files
-returns-in-Ok-clause-files g c = λ tells name other apart unrestored untrimmed unconverted. c.in-Ok.ensures.decides.files tells name (not_written _ _ name c.in-Some.ensures.asked other apart unrestored untrimmed unconverted)
+returns-in-Ok-clause-files g c = λ tells name other apart unrestored untrimmed unconverted unflattened unswept. c.in-Ok.ensures.decides.files tells name (not_written _ _ name c.in-Some.ensures.asked other apart unrestored untrimmed unconverted unflattened unswept)
 
 pub returns-in-Err-clause-files : goal.returns-in-Err-clause-files
-returns-in-Err-clause-files g c = λ tells name other apart unrestored untrimmed unconverted. c.in-Err.ensures.decides.files tells name (not_written _ _ name c.in-Some.ensures.asked other apart unrestored untrimmed unconverted)
+returns-in-Err-clause-files g c = λ tells name other apart unrestored untrimmed unconverted unflattened unswept. c.in-Err.ensures.decides.files tells name (not_written _ _ name c.in-Some.ensures.asked other apart unrestored untrimmed unconverted unflattened unswept)
 
 pub returns-in-Ok-clause-left : goal.returns-in-Ok-clause-left
 returns-in-Ok-clause-left g c = λ tells. c.in-Ok.ensures.decides.left tells _ c.in-Some.ensures.asked

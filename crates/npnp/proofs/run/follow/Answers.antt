@@ -17,6 +17,12 @@ returns-in-Trim-clause-decides g c = subst (λ command. Decides g.S.Shelf.tells 
 pub returns-in-Convert-clause-decides : goal.returns-in-Convert-clause-decides
 returns-in-Convert-clause-decides g c = subst (λ command. Decides g.S.Shelf.tells command (g.S.Shelf.state c.args.shelf.now) (g.S.Shelf.state c.convert_files.new.shelf) c.convert_files.result) (sym c.in-Convert.is) c.convert_files.ensures
 
+pub returns-in-Flatten-clause-decides : goal.returns-in-Flatten-clause-decides
+returns-in-Flatten-clause-decides g c = subst (λ command. Decides g.S.Shelf.tells command (g.S.Shelf.state c.args.shelf.now) (g.S.Shelf.state c.flatten_files.new.shelf) c.flatten_files.result) (sym c.in-Flatten.is) c.flatten_files.ensures
+
+pub returns-in-Sweep-clause-decides : goal.returns-in-Sweep-clause-decides
+returns-in-Sweep-clause-decides g c = subst (λ command. Decides g.S.Shelf.tells command (g.S.Shelf.state c.args.shelf.now) (g.S.Shelf.state c.sweep_files.new.shelf) c.sweep_files.result) (sym c.in-Sweep.is) c.sweep_files.ensures
+
 pub returns-in-Match-clause-decides : goal.returns-in-Match-clause-decides
 returns-in-Match-clause-decides g c = subst (λ command. Decides g.S.Shelf.tells command (g.S.Shelf.state c.args.shelf.now) (g.S.Shelf.state c.match_files.new.shelf) c.match_files.result) (sym c.in-Match.is) c.match_files.ensures
 

@@ -2,9 +2,9 @@
 use Rattle.std.proofs.Common.{inl, inr, refl, sym, subst, ◌∙◌}
 use Rattle.run_steps.specs.Outcomes.{IsOfTrial, IsRight, IsReported, Leaves}
 use Rattle.check_steps.specs.Lines.{line_of}
-use Rattle.check_steps.specs.declared.outcome.Outcome.TheVariants.{AcceptedMatch, AcceptedRefusal, Rejected, Matched, NoMatching, Spent, Made, Restored, Trimmed, Converted, Tried, Absent, TooLarge, Malformed, Memory}
+use Rattle.check_steps.specs.declared.outcome.Outcome.TheVariants.{AcceptedMatch, AcceptedRefusal, Rejected, Matched, NoMatching, Spent, Made, Restored, Trimmed, Converted, Flattened, Swept, Tried, Absent, TooLarge, Malformed, BadHierarchy, Memory}
 use Rattle.run_steps.proofs.MatchLemmas.{kept, may_be_cut}
-use Rattle.run_steps.proofs.CheckLemmas.{exactly, exactly_informed, exactly_none, of_convert, of_match, of_trim, reached, reported_read, report_of_same}
+use Rattle.run_steps.proofs.CheckLemmas.{exactly, exactly_informed, exactly_none, of_convert, of_flatten, of_match, of_sweep, of_trim, reached, reported_read, report_of_same}
 use Rattle.npnp.proofs.TellingLemmas.{answered_as, sound_memory}
 use Rattle.npnp.proofs.run.run.Goals as goal
 
@@ -31,6 +31,9 @@ returns-clause-too_large g c = λ tells decided which. exactly _ _ _ _ (c.answer
 
 pub returns-clause-malformed : goal.returns-clause-malformed
 returns-clause-malformed g c = λ tells decided which kind at. exactly _ _ _ _ (c.answer-ending.ensures.right tells) c.put_report.ensures.same decided (Malformed which kind at) (reached (Malformed which kind at) tt) tt
+
+pub returns-clause-bad_hierarchy : goal.returns-clause-bad_hierarchy
+returns-clause-bad_hierarchy g c = λ tells decided fault. exactly _ _ _ _ (c.answer-ending.ensures.right tells) c.put_report.ensures.same decided (BadHierarchy fault) (reached (BadHierarchy fault) tt) tt
 
 pub returns-clause-informed : goal.returns-clause-informed
 returns-clause-informed g c = λ tells settled. exactly_informed _ _ _ _ (c.answer-ending.ensures.right tells) c.put_report.ensures.same settled.decided settled.unspent
@@ -82,6 +85,24 @@ returns-clause-converts g c = λ tells decided. of_convert _ _ _ _ (c.answer-end
 
 pub returns-clause-converted_file : goal.returns-clause-converted_file
 returns-clause-converted_file g c = λ tells from to records is. subst (Leaves _ _ _) (answered_as c.put_report.ensures.same (reached (Converted from to records) tt).reported is) (c.answer-ending.ensures.left tells)
+
+pub returns-clause-flattened : goal.returns-clause-flattened
+returns-clause-flattened g c = λ tells decided models instances gates. exactly _ _ _ _ (c.answer-ending.ensures.right tells) c.put_report.ensures.same decided (Flattened models instances gates) (reached (Flattened models instances gates) tt) tt
+
+pub returns-clause-flattens : goal.returns-clause-flattens
+returns-clause-flattens g c = λ tells decided. of_flatten _ _ _ _ (c.answer-ending.ensures.right tells) c.put_report.ensures.same decided
+
+pub returns-clause-flattened_file : goal.returns-clause-flattened_file
+returns-clause-flattened_file g c = λ tells models instances gates is. subst (Leaves _ _ _) (answered_as c.put_report.ensures.same (reached (Flattened models instances gates) tt).reported is) (c.answer-ending.ensures.left tells)
+
+pub returns-clause-swept : goal.returns-clause-swept
+returns-clause-swept g c = λ tells before after left is. subst (IsRight _ _) (answered_as c.put_report.ensures.same (reached (Swept before after left) tt).reported is) (c.answer-ending.ensures.right tells)
+
+pub returns-clause-sweeps : goal.returns-clause-sweeps
+returns-clause-sweeps g c = λ tells decided. of_sweep _ _ _ _ (c.answer-ending.ensures.right tells) c.put_report.ensures.same decided
+
+pub returns-clause-swept_file : goal.returns-clause-swept_file
+returns-clause-swept_file g c = λ tells before after left is. subst (Leaves _ _ _) (answered_as c.put_report.ensures.same (reached (Swept before after left) tt).reported is) (c.answer-ending.ensures.left tells)
 
 pub returns-clause-tried : goal.returns-clause-tried
 returns-clause-tried g c = λ number account is. c.answer-ending.ensures.by_words.tried number account (answered_as c.put_report.ensures.same (reached (Tried number account) tt).reported is)

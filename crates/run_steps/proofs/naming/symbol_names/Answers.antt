@@ -1,7 +1,7 @@
 use Rattle.std.proofs.Common.{[], ◌∷◌, ◌++◌, map, take, ap, sym, ◌∙◌}
 use Rattle.std.proofs.lemmas.List.{map_push, take_more}
 use Rattle.print_laws.specs.Printable.{symbol_name}
-use Rattle.restore_steps.proofs.naming.symbol_names.Goals as goal
+use Rattle.run_steps.proofs.naming.symbol_names.Goals as goal
 
 pub loop-name-preserved : goal.loop-name-preserved
 loop-name-preserved c =

@@ -8,7 +8,7 @@ use net_file::Name;
 use std::alloc::{AllocError, Global};
 
 /// The names as their symbols are printed.
-pub(crate) fn symbol_names(alloc: Global, names: &[Name]) -> Result<Items<Name>, AllocError>
+pub fn symbol_names(alloc: Global, names: &[Name]) -> Result<Items<Name>, AllocError>
     ensures { IfOk result (λ printed. printed ≡ map symbol_name names.now) }
 {
     let mut printed = Items::new(alloc);

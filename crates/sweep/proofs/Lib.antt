@@ -1,0 +1,15 @@
+pub mod AskingLemmas
+pub mod BoundLemmas
+pub mod ClassLemmas
+pub mod ExposedLemmas
+pub mod FrontLemmas
+pub mod LeaderLemmas
+pub mod MarkLemmas
+pub mod NumberingLemmas
+pub mod PairLemmas
+pub mod PrunedLemmas
+pub mod ReducingLemmas
+pub mod SignalLemmas
+pub mod SplitLemmas
+pub mod SweepingLemmas
+pub mod WorkLemmas
