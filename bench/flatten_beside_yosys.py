@@ -115,10 +115,12 @@ class Flattens:
         printed, status, _ = self.run(self.npnp, "flatten", file, new)
         if status != 0:
             return self.tell(f"{printed}, status {status}", name)
-        self.run("yosys", "-q", "-p", f"read_blif {file}; hierarchy -top {top}; flatten; opt_clean; write_blif {flat}")
+        self.run("yosys", "-q", "-p", f"read_blif {file}; hierarchy -top {top}; flatten; opt_clean; techmap; aigmap; write_blif {flat}")
         self.run("yosys", "-q", "-p", f"read_aiger {new}; write_blif {self.path('new.blif')}")
         said, _, _ = self.run("berkeley-abc", "-q", f"cec {flat} {self.path('new.blif')}")
-        if "are equivalent" not in said or "arning" in said:
+        # a net that is constant 0 has no driver in what yosys writes; of other differences, as in the ports, ABC warns too
+        told = said.replace("Warning: Constant-0 drivers added", "")
+        if "are equivalent" not in said or "arning" in told:
             return self.tell(f"cec: {said[:200]}", name)
         return self.match(name, flat, new) if matched else None
 
